@@ -1,0 +1,4 @@
+pub mod Equal
+pub mod GateLemmas
+pub mod Rising
+pub mod Waves

@@ -1,0 +1,13 @@
+use Rattle.logic3.specs.Wave.{value_before, changes_between}
+use Rattle.logic3.proofs.Waves.{Contains-wave_of_iff, AllPairs-Alternates, IsWave-wave_of}
+use Rattle.logic3.proofs.laws.changes_of_a_signal.Goals as goal
+
+pub returns-clause-changes : goal.returns-clause-changes
+returns-clause-changes c = Contains-wave_of_iff
+
+pub returns-clause-rise : goal.returns-clause-rise
+returns-clause-rise c signal from to =
+    AllPairs-Alternates (value_before signal from) 0 (changes_between signal from to) (IsWave-wave_of signal from to)
+
+pub returns-clause-is_wave : goal.returns-clause-is_wave
+returns-clause-is_wave c = IsWave-wave_of

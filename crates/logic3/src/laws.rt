@@ -1,0 +1,55 @@
+//! Facts about the definitions alone.
+ghost use Rattle.std.specs.Prelude.{◌≡◌, ◌≢◌, ◌↔◌, ℕ, ◌+◌, ◌<◌, ◌≤◌, List, length, All, AllPairs, Contains, Some, slice_get, slice_set};
+ghost use Rattle.logic3.specs.declared.value.Value.{Value};
+ghost use Rattle.logic3.specs.declared.value.Value.TheVariants.{Unknown};
+ghost use Rattle.logic3.specs.declared.gates.GateKind.{GateKind};
+ghost use Rattle.logic3.specs.declared.change.Change.{Change};
+ghost use Rattle.logic3.specs.Gate.{HasArity, Refines, value_of_gate};
+ghost use Rattle.logic3.specs.Wave.{IsWave, joined, value_at, value_before, wave_of};
+
+/// With all pins X every gate gives X.
+pub fn unknown_pins()
+    ensures { (kind : GateKind) (pins : List Value) → HasArity kind (length pins) →
+        All (λ pin. pin ≡ Unknown) pins → value_of_gate kind pins ≡ Unknown }
+{}
+
+/// Where a gate gives 0 or 1, giving X pins the value 0 or 1 keeps the answer: one pin, or any
+/// number of them at once.
+pub fn known_answer_stays()
+    ensures one_pin { (kind : GateKind) (pins : List Value) (place : ℕ) (value : Value) →
+        slice_get pins place ≡ Some Unknown → value_of_gate kind pins ≢ Unknown →
+        value_of_gate kind (slice_set pins place value) ≡ value_of_gate kind pins }
+    ensures any_pins { (kind : GateKind) (pins refined : List Value) →
+        Refines pins refined → value_of_gate kind pins ≢ Unknown →
+        value_of_gate kind refined ≡ value_of_gate kind pins }
+{}
+
+/// The waveform of a signal has a change at just the ticks of its span where the signal isn't what
+/// it was one tick earlier, and its ticks rise strictly.
+pub fn changes_of_a_signal()
+    ensures changes { (signal : ℕ → Value) (from to tick : ℕ) (value : Value) →
+        Contains (wave_of signal from to).changes (record { tick = tick; value = value })
+        ↔ ((from ≤ tick) × (tick < to) × (signal tick ≡ value) × (value_before signal tick ≢ value)) }
+    ensures rise { (signal : ℕ → Value) (from to : ℕ) →
+        AllPairs (λ (earlier later : Change). earlier.tick < later.tick) (wave_of signal from to).changes }
+    ensures is_wave { (signal : ℕ → Value) (from to : ℕ) → IsWave (wave_of signal from to) }
+{}
+
+/// The waveform of a signal from one tick up to another gives the signal back at each tick of that
+/// span and at the one before it.
+pub fn signal_back()
+    ensures { (signal : ℕ → Value) (from to tick : ℕ) → from ≤ tick + 1 → tick < to →
+        value_at (wave_of signal from to) tick ≡ signal tick }
+{}
+
+/// Two waveforms from tick 0 to one end are equal exactly where their signals agree below that end.
+pub fn equal_waves()
+    ensures { (first second : ℕ → Value) (to : ℕ) →
+        (wave_of first 0 to ≡ wave_of second 0 to) ↔ ((tick : ℕ) → tick < to → first tick ≡ second tick) }
+{}
+
+/// The waveform up to one tick, and then on to another, is the waveform to the second.
+pub fn waves_join()
+    ensures { (signal : ℕ → Value) (from mid to : ℕ) → from ≤ mid → mid ≤ to →
+        joined (wave_of signal from mid) (wave_of signal mid to).changes ≡ wave_of signal from to }
+{}

@@ -1,0 +1,16 @@
+//! Three-valued logic: values, gate tables and waveforms.
+#![tactic(auto)]
+
+mod change;
+mod gates;
+pub mod laws;
+mod value;
+mod waveform;
+
+pub use change::Change;
+pub use gates::{GateKind, gate};
+pub use value::Value;
+pub use waveform::Waveform;
+
+#[cfg(test)]
+mod tests;

@@ -1,0 +1,24 @@
+/// A value of Kleene's strong three-valued logic.
+#[derive(Clone, Copy, Debug, PartialEq, Eq)]
+pub enum Value {
+    Zero,
+    One,
+    /// Not known to be 0, nor to be 1: X in tables and dumps.
+    Unknown,
+}
+
+impl Value {
+    ghost use Rattle.std.specs.Prelude.{◌≡◌};
+    ghost use Rattle.logic3.specs.Value.{opposite};
+
+    /// 0 and 1 exchanged, X kept.
+    pub(crate) fn opposite(self) -> Value
+        ensures { result ≡ opposite self }
+    {
+        match self {
+            Value::Zero => Value::One,
+            Value::One => Value::Zero,
+            Value::Unknown => Value::Unknown,
+        }
+    }
+}

@@ -1,0 +1,112 @@
+ghost use Rattle.std.specs.Prelude.{◌≡◌, ◌≢◌, ℕ, ◌+◌, ◌<◌, ◌≤◌, ◌↔◌, List, [], ◌∷◌, ◌++◌, All, IsTrue, IfOk, OnOk, OnErr};
+ghost use Rattle.logic3.specs.declared.value.Value.TheVariants.{Unknown};
+
+use crate::change::Change;
+use crate::value::Value;
+use std::alloc::{AllocError, Global};
+use std::marker::Model;
+
+/// What a net shows at each tick: a value before the first change, and the changes.
+#[derive(Debug, Drop)]
+pub struct Waveform {
+    before: Value,
+    changes: Vec<Change>,
+}
+
+impl Model for Waveform {
+    ghost use Rattle.logic3.specs.Wave.{Wave, IsWave};
+
+    ghost Value = { Wave };
+
+    ghost view = { λ w. record { before = w.before; changes = w.changes.items } };
+
+    ghost invariant = { λ w. IsWave (record { before = w.before; changes = w.changes.items }) };
+}
+
+impl Waveform {
+    ghost use Rattle.logic3.specs.Wave.{value_at, last_value, joined, IsWave};
+
+    /// X at every tick.
+    pub fn new(alloc: Global) -> Self
+        ensures { result ≡ record { before = Unknown; changes = [] } }
+    {
+        Waveform {
+            before: Value::Unknown,
+            changes: Vec::new(alloc),
+        }
+    }
+
+    /// The value before the first change.
+    pub fn before(&self) -> Value
+        ensures { result ≡ self.now.before }
+    {
+        self.before
+    }
+
+    /// The changes in order: their ticks rise strictly, and the value of each differs from the one
+    /// before it, that of the first from [`before`](Self::before).
+    pub fn changes(&self) -> &[Change]
+        ensures changes { result.now ≡ self.now.changes }
+        ensures alternates { IsWave self.now }
+    {
+        self.changes.as_slice()
+    }
+
+    /// The value at a tick: that of the last change that is not after it, else the value before.
+    ///
+    /// Takes logarithmic time.
+    pub fn value_at(&self, tick: u64) -> Value
+        ensures { result ≡ value_at self.now tick }
+    {
+        let changes = self.changes.as_slice();
+        let due = changes.partition_point(|change| change.tick <= tick);
+        changes[..due]
+            .last()
+            .map_or(self.before, |change| change.value)
+    }
+
+    /// Adds a change at the end.
+    ///
+    /// An `AllocError` leaves the waveform as it was.
+    pub fn push(&mut self, change: Change) -> Result<(), AllocError>
+        requires later { All (λ earlier. earlier.tick < change.tick) self.old.changes }
+        requires differs { change.value ≢ last_value self.old }
+        ensures ok { OnOk result (self.new ≡ joined self.old (change ∷ [])) }
+        ensures err { OnErr result (self.new ≡ self.old) }
+    {
+        self.changes.push(change)?;
+        Ok(())
+    }
+
+    /// An equal waveform, on the same allocator.
+    pub fn copy(&self) -> Result<Waveform, AllocError>
+        ensures { IfOk result (λ copy. copy ≡ self.now) }
+    {
+        Ok(Waveform {
+            before: self.before,
+            changes: self.changes.clone()?,
+        })
+    }
+}
+
+impl PartialEq for Waveform {
+    ghost use Rattle.std.specs.Cmp.{partial_equiv_from_equiv};
+    ghost use Rattle.logic3.specs.Wave.{is_same_wave, is_same_wave_equiv};
+
+    ghost eq = { is_same_wave };
+
+    ghost laws = { partial_equiv_from_equiv is_same_wave_equiv };
+
+    fn eq(&self, other: &Self) -> bool
+        ensures value { result ≡ is_same_wave self.now other.now }
+        ensures same { IsTrue result ↔ (self.now ≡ other.now) }
+    {
+        self.before == other.before && self.changes == other.changes
+    }
+}
+
+impl Eq for Waveform {
+    ghost use Rattle.logic3.specs.Wave.{is_same_wave_equiv};
+
+    ghost laws = { is_same_wave_equiv };
+}
