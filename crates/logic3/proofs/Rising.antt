@@ -1,6 +1,6 @@
 -- The changes of a waveform rise: what `push` keeps, and what `value_at` finds by halving.
 use Rattle.std.proofs.Common.{◌≡◌, ◌≢◌, ℕ, zero, suc, ◌+◌, ◌-◌, ◌<◌, ◌≤◌, nat_le, true, false, List, [], ◌∷◌, ◌++◌, length, take, refl, sym, ◌∙◌, arith, ◌⊎◌, inl, inr, Option}
-use Rattle.std.specs.Prelude.{All, slice_index_or, slice_get}
+use Rattle.std.specs.Prelude.{All, AllPairs, slice_index_or, slice_get}
 use Rattle.std.specs.Option.{option_map_or}
 use Rattle.std.specs.List.Sorted.{IsPartitionPoint, IsNonDecreasingBy}
 use Rattle.std.proofs.lemmas.Bool.{cases_lt}
@@ -8,7 +8,6 @@ use Rattle.std.proofs.lemmas.List.Elements.{All-head, All-tail}
 use Rattle.logic3.specs.declared.value.Value.{Value}
 use Rattle.logic3.specs.declared.change.Change.{Change}
 use Rattle.logic3.specs.Wave.{value_after, value_in_the_end, Alternates}
-use Rattle.logic3.proofs.Waves.{AllPairs-Alternates}
 
 -- a later change with another value may stand behind the others
 pub Alternates-push : (before : Value) (low : ℕ) (changes : List Change) (change : Change) → low ≤ change.tick →
@@ -48,13 +47,13 @@ value_in_the_end-last before (first ∷ changes) =
     rw last (value_in_the_end-cons before first changes before)
 
 -- so halving finds the due changes
-pub Alternates-ascends : (before : Value) (low : ℕ) (changes : List Change) → Alternates before low changes →
+pub rising-ascends : (changes : List Change) → AllPairs (λ (earlier later : Change). earlier.tick < later.tick) changes →
     IsNonDecreasingBy (λ (change : Change). change.tick) changes
-Alternates-ascends before low changes rise i j d le inside = go (cases_lt i j)
+rising-ascends changes rise i j d le inside = go (cases_lt i j)
   where
     go : (i < j) ⊎ (j ≤ i) → (slice_index_or changes i d).tick ≤ (slice_index_or changes j d).tick
     go (inl less) =
-        let below : (slice_index_or changes i d).tick < (slice_index_or changes j d).tick = AllPairs-Alternates before low changes rise i j d less inside in
+        let below : (slice_index_or changes i d).tick < (slice_index_or changes j d).tick = rise i j d less inside in
         omega arith
     go (inr same) = let e : i ≡ j = omega arith in rw e (omega arith)
 

@@ -1,5 +1,5 @@
 -- A waveform of a signal shows the signal.
-use Rattle.std.proofs.Common.{◌≡◌, ◌≢◌, ◌↔◌, ℕ, zero, suc, ◌+◌, ◌-◌, ◌<◌, ◌≤◌, nat_le, Bool, true, false, cond, List, [], ◌∷◌, ◌++◌, All, AllPairs, Contains, flat_map, refl, ap, sym, ◌∙◌, arith, suc-add, zero-add, add-zero, add-one, ◌⊎◌, inl, inr}
+use Rattle.std.proofs.Common.{◌≡◌, ◌≢◌, ◌↔◌, ℕ, zero, suc, ◌+◌, ◌-◌, ◌<◌, ◌≤◌, nat_le, Bool, true, false, cond, List, [], ◌∷◌, ◌++◌, All, AllPairs, Contains, flat_map, refl, ap, sym, ◌∙◌, arith, suc-add, zero-add, add-zero, add-one, append-nil, ◌⊎◌, inl, inr}
 use Rattle.std.specs.List.{range_with_len}
 use Rattle.std.proofs.lemmas.Grind.{flat_map-append}
 use Rattle.std.proofs.lemmas.List.Elements.{All-nil, All-cons, All-append, All-contains, Contains-append_left, Contains-append_right}
@@ -11,7 +11,7 @@ use Rattle.logic3.specs.declared.value.Value.TheVariants.{Unknown}
 use Rattle.logic3.specs.declared.change.Change.{Change}
 use Rattle.logic3.specs.Value.{is_same, is_same_equiv}
 use Rattle.logic3.proofs.Equal.{is_same-true}
-use Rattle.logic3.specs.Wave.{value_after, value_at, value_before, change_at, changes_between, wave_of, joined, Alternates, IsWave}
+use Rattle.logic3.specs.Wave.{value_after, value_at, value_before, change_at, changes_between, wave_of, value_in_the_end, last_value, joined, Alternates, IsWave}
 
 pub value_after-append : (v : Value) (xs ys : List Change) (tick : ℕ) →
     value_after v (xs ++ ys) tick ≡ value_after (value_after v xs tick) ys tick
@@ -220,3 +220,46 @@ AllPairs-Alternates before low (first ∷ changes) (a, differs, rest) =
     let later = ticks_from first.value (first.tick + 1) changes rest in
     AllPairs-cons (λ (earlier later : Change). earlier.tick < later.tick) first changes (λ k d l. omega (arith, later k d l))
     (AllPairs-Alternates first.value (first.tick + 1) changes rest)
+
+-- the changes of a span are before its end
+pub All-wave_of : (signal : ℕ → Value) (from to : ℕ) → All (λ (change : Change). change.tick < to) (wave_of signal from to).changes
+All-wave_of signal from to = all_from (λ (change : Change). change.tick < to) signal from (to - from) (λ tick a b differs. omega arith)
+
+-- ---- one tick more
+
+value_in_the_end-append : (v : Value) (xs ys : List Change) → value_in_the_end v (xs ++ ys) ≡ value_in_the_end (value_in_the_end v xs) ys
+value_in_the_end-append v [] ys = refl
+value_in_the_end-append v (x ∷ xs) ys = value_in_the_end-append x.value xs ys
+
+-- the change at a tick brings the signal's value
+value_in_the_end-change_at : (signal : ℕ → Value) (at : ℕ) → value_in_the_end (value_before signal at) (change_at signal at) ≡ signal at
+value_in_the_end-change_at signal at = go (is_same (signal at) (value_before signal at)) refl
+  where
+    go : (same : Bool) → is_same (signal at) (value_before signal at) ≡ same →
+        value_in_the_end (value_before signal at) (cond same [] (record { tick = at; value = signal at } ∷ [])) ≡ signal at
+    go true e = sym (is_same-true _ _ e)
+    go false e = refl
+
+end_from : (signal : ℕ → Value) (from ticks : ℕ) →
+    value_in_the_end (value_before signal from) (flat_map (change_at signal) (range_with_len from ticks)) ≡ value_before signal (from + ticks)
+end_from signal from zero = rw add-zero refl
+end_from signal from (suc ticks) =
+    let end : from + 1 + ticks ≡ from + suc ticks = omega arith in
+    let next : value_before signal (from + 1) ≡ signal from = rw add-one refl in
+    value_in_the_end-append (value_before signal from) (change_at signal from) _
+    ∙ rw (value_in_the_end-change_at signal from, ← next, ← end) (end_from signal (from + 1) ticks)
+
+-- in the end a waveform shows what the signal was one tick before the end
+pub last_value-wave_of : (signal : ℕ → Value) (from to : ℕ) → from ≤ to → last_value (wave_of signal from to) ≡ value_before signal to
+last_value-wave_of signal from to a =
+    let end : from + (to - from) ≡ to = omega arith in
+    end_from signal from (to - from) ∙ ap (value_before signal) end
+
+-- so one tick more is a change where the value isn't the last one
+pub wave_of-more : (signal : ℕ → Value) (from to : ℕ) → from ≤ to →
+    joined (wave_of signal from to) (cond (is_same (signal to) (last_value (wave_of signal from to))) [] (record { tick = to; value = signal to } ∷ []))
+    ≡ wave_of signal from (to + 1)
+wave_of-more signal from to a =
+    let one : to + 1 - to ≡ 1 = omega arith in
+    let now : (wave_of signal to (to + 1)).changes ≡ change_at signal to = rw (one, append-nil) refl in
+    rw (last_value-wave_of signal from to a) (rw now at (joined-wave_of signal from to (to + 1) a (omega arith)))

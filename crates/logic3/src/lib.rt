@@ -7,7 +7,7 @@ pub mod laws;
 mod value;
 mod waveform;
 
-pub use change::Change;
+pub use change::{Change, value_after};
 pub use gates::{GateKind, gate};
 pub use value::Value;
 pub use waveform::Waveform;

@@ -1,7 +1,7 @@
 ghost use Rattle.std.specs.Prelude.{◌≡◌, ◌≢◌, ℕ, ◌+◌, ◌<◌, ◌≤◌, ◌↔◌, List, [], ◌∷◌, ◌++◌, All, IsTrue, IfOk, OnOk, OnErr};
 ghost use Rattle.logic3.specs.declared.value.Value.TheVariants.{Unknown};
 
-use crate::change::Change;
+use crate::change::{Change, value_after};
 use crate::value::Value;
 use std::alloc::{AllocError, Global};
 use std::marker::Model;
@@ -58,9 +58,14 @@ impl Waveform {
     pub fn value_at(&self, tick: u64) -> Value
         ensures { result ≡ value_at self.now tick }
     {
-        let changes = self.changes.as_slice();
-        let due = changes.partition_point(|change| change.tick <= tick);
-        changes[..due]
+        value_after(self.before, self.changes.as_slice(), tick)
+    }
+
+    /// The value of the last change, or the value before where there is none.
+    pub fn last_value(&self) -> Value
+        ensures { result ≡ last_value self.now }
+    {
+        self.changes
             .last()
             .map_or(self.before, |change| change.value)
     }

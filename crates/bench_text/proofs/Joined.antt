@@ -1,0 +1,39 @@
+-- The nets of a netlist by the stored names and nets.
+use Rattle.std.proofs.Common.{◌≡◌, ℕ, ◌<◌, List, [], length, map, get_or, position, bytes_eq, sym, ap, ◌∙◌, arith}
+use Rattle.std.specs.Cmp.Lexicographic.{nat_list_eq_equiv}
+use Rattle.std.specs.List.{zip}
+use Rattle.std.proofs.lemmas.List.{length-map, get_or-map}
+use Rattle.std.proofs.lemmas.Simd.{map-map}
+use Rattle.std.proofs.lemmas.Slice.Zip.{length-zip, get_or-zip, firsts-zip}
+use Rattle.bench_text.specs.declared.netlist.Net.{Net}
+use Rattle.bench_text.specs.Netlist.{NetView, net_at, net_named}
+use Rattle.bench_text.specs.Joined.{named_net, named_nets, netlist_view}
+use Rattle.bench_text.proofs.Places.{position-map}
+
+module _ (names : List (List ℕ)) (nets : List Net) (same : length names ≡ length nets) where
+  pub length-named_nets : length (named_nets names nets) ≡ length nets
+  length-named_nets = simp (length-map, length-zip) (omega arith)
+
+  pub names-named_nets : map (λ (net : NetView). net.name) (named_nets names nets) ≡ names
+  names-named_nets = map-map (λ (net : NetView). net.name) named_net (zip names nets) ∙ firsts-zip names nets (sym same)
+
+  -- a name stands at the number of its net
+  pub net_named-netlist_view : (outputs name : List ℕ) →
+      net_named (netlist_view names nets outputs) name ≡ position (bytes_eq name) names
+  net_named-netlist_view outputs name =
+      sym (position-map (λ (net : NetView). net.name) (λ other. bytes_eq other name) (named_nets names nets))
+      ∙ ap (position (λ other. bytes_eq other name)) names-named_nets
+      ∙ (λ i. position (λ other. nat_list_eq_equiv.symm other name i) names)
+
+  -- the name of a net, and what is stored of it
+  module _ (outputs : List ℕ) (number : ℕ) (within : number < length (named_nets names nets)) where
+    pub name-net_at : (net_at (netlist_view names nets outputs) number).name ≡ get_or names number []
+    name-net_at =
+        sym (get_or-map (λ (net : NetView). net.name) (named_nets names nets) number _ [] within)
+        ∙ ap (λ names. get_or names number []) names-named_nets
+
+    pub net_at-netlist_view : (net : Net) →
+        net_at (netlist_view names nets outputs) number ≡ named_net (get_or names number [], get_or nets number net)
+    net_at-netlist_view net =
+        get_or-map named_net (zip names nets) number ([], net) _ (omega (arith, length-zip names nets, length-named_nets))
+        ∙ ap named_net (get_or-zip names nets number ([], net) (omega (arith, length-named_nets)) (omega (arith, length-named_nets)))

@@ -1,0 +1,16 @@
+pub mod Among
+pub mod Distinct
+pub mod Joined
+pub mod Lines
+pub mod LinesLeft
+pub mod Named
+pub mod NewName
+pub mod Numbers
+pub mod Places
+pub mod ProperNames
+pub mod Scan
+pub mod SeenNames
+pub mod WellFormed
+pub mod Whole
+pub mod Wired
+pub mod Words

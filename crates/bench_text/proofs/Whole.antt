@@ -1,0 +1,110 @@
+-- The netlist of names, nets and outputs that were read from lines.
+use Rattle.std.proofs.Common.{◌≡◌, [], ℕ, ◌<◌, ◌≤◌, true, false, List, ◌∷◌, map, length, All, None, Ok, Err, refl, sym, ap, ◌∙◌, arith}
+use Rattle.std.specs.List.{filter_map, flat_map, sum_by}
+use Rattle.std.proofs.lemmas.Bool.Decides.{nat_tests}
+use Rattle.std.proofs.lemmas.List.{length-map}
+use Rattle.std.proofs.lemmas.List.Elements.{All-map}
+use Rattle.bench_text.specs.declared.netlist.Net.{Net}
+use Rattle.bench_text.specs.declared.part.Part.{Part}
+use Rattle.bench_text.specs.declared.fault.BenchFault.TheVariants.{TooMany}
+use Rattle.bench_text.specs.Text.{is_empty}
+use Rattle.bench_text.specs.Line.{Statement}
+use Rattle.bench_text.specs.Netlist.{NetView, Definition, definition_in, uses_in, output_in, defined_names, repeated_fault, undefined_fault, is_over_limit, size_fault, fault_of, unless, place_of, distinct, netlist_with, netlist_of_statements, IsNetlist}
+use Rattle.bench_text.specs.Name.{IsStatement}
+use Rattle.bench_text.specs.Names.{IsNames}
+use Rattle.bench_text.specs.Joined.{named_nets, netlist_view}
+use Rattle.bench_text.specs.Stages.{seen_net, net_of, WiringView, wiring}
+use Rattle.bench_text.proofs.Wired.{unless-Ok}
+use Rattle.bench_text.proofs.WellFormed.{HasPlace-outputs, IsNetlist-with, sum_by-map}
+
+named_nets-connected : (all : List (List ℕ)) (definitions : List Definition) (nets : List Net) → map seen_net nets ≡ map (net_of all) definitions →
+    named_nets (defined_names definitions) nets
+    ≡ map (λ (d : Definition). record { name = d.name; part = d.part; pins = map (place_of all) d.pins }) definitions
+named_nets-connected all [] [] e = refl
+named_nets-connected all [] (net ∷ nets) e = cc
+named_nets-connected all (d ∷ definitions) [] e = cc
+named_nets-connected all (d ∷ definitions) (net ∷ nets) e =
+    let first : seen_net net ≡ net_of all d = cc in
+    let rest : map seen_net nets ≡ map (net_of all) definitions = cc in
+    let joined : Part × List ℕ → NetView = λ connected. record { name = d.name; part = connected.0; pins = connected.1 } in
+    ap (λ connected. joined connected ∷ named_nets (defined_names definitions) nets) first
+    ∙ ap (λ more. joined (net_of all d) ∷ more) (named_nets-connected all definitions nets rest)
+
+is_empty-some : {A : Type 0} (xs : List A) → 0 < length xs → is_empty xs ≡ false
+is_empty-some [] some = absurd (omega arith)
+is_empty-some (x ∷ xs) some = refl
+
+module _ (lines : List (ℕ × Statement)) (names : List (List ℕ)) (nets : List Net) (outputs : List ℕ)
+    (named : Ok names ≡ unless (repeated_fault (filter_map definition_in lines)) (defined_names (filter_map definition_in lines)))
+    (wired : Ok (record { nets = map seen_net nets; outputs = outputs }) ≡ unless (undefined_fault names (flat_map uses_in lines)) (wiring names lines)) where
+  abbrev definitions : List Definition
+  definitions = filter_map definition_in lines
+
+  names-is : names ≡ defined_names definitions
+  names-is = (unless-Ok _ _ _ named).1
+
+  nets-is : map seen_net nets ≡ map (net_of names) definitions
+  nets-is = ap (λ (found : WiringView). found.nets) (unless-Ok _ _ _ wired).1
+
+  outputs-is : outputs ≡ map (place_of names) (filter_map output_in lines)
+  outputs-is = ap (λ (found : WiringView). found.outputs) (unless-Ok _ _ _ wired).1
+
+  undefined-none : undefined_fault names (flat_map uses_in lines) ≡ None
+  undefined-none = (unless-Ok _ _ _ wired).0
+
+  length-nets : length nets ≡ length definitions
+  length-nets = sym (length-map nets seen_net) ∙ ap length nets-is ∙ length-map definitions (net_of names)
+
+  pins-nets : sum_by (λ (net : Net). length net.pins.items) nets ≡ sum_by (λ (d : Definition). length d.pins) definitions
+  pins-nets =
+      sym (sum_by-map (λ (connected : Part × List ℕ). length connected.1) seen_net nets)
+      ∙ ap (sum_by (λ (connected : Part × List ℕ). length connected.1)) nets-is
+      ∙ sum_by-map (λ (connected : Part × List ℕ). length connected.1) (net_of names) definitions
+      ∙ simp length-map
+
+  -- only the limits are left to be a fault
+  fault-is : fault_of definitions (flat_map uses_in lines) ≡ size_fault definitions
+  fault-is =
+      let undefined : undefined_fault (defined_names definitions) (flat_map uses_in lines) ≡ None =
+      ap (λ names. undefined_fault names (flat_map uses_in lines)) (sym names-is) ∙ undefined-none in
+      rw ((unless-Ok _ _ _ named).0, undefined) refl
+
+  pub netlist-too_many : 0 < length nets → is_over_limit (length nets) (sum_by (λ (net : Net). length net.pins.items) nets) ≡ true →
+      Err TooMany ≡ netlist_of_statements lines
+  netlist-too_many some over = rw (fault-is, is_empty-some definitions (omega (arith, length-nets)), ← length-nets, ← pins-nets, over) refl
+
+  pub length-names : length names ≡ length nets
+  length-names = ap length names-is ∙ length-map definitions (λ (d : Definition). d.name) ∙ sym length-nets
+
+  pub outputs-within : All (λ output. output < length names) outputs
+  outputs-within =
+      rw outputs-is (All-map (λ output. output < length names) (place_of names) (filter_map output_in lines) (HasPlace-outputs names lines undefined-none))
+
+  view-is : netlist_view names nets (distinct outputs) ≡ netlist_with definitions (filter_map output_in lines)
+  view-is =
+      let outs = filter_map output_in lines in
+      ap (λ kept. netlist_view names nets (distinct kept)) outputs-is
+      ∙ ap (λ (all : List NetView). record { nets = all; outputs = distinct (map (place_of names) outs) })
+      (ap (λ names. named_nets names nets) names-is ∙ named_nets-connected names definitions nets nets-is)
+      ∙ ap
+      (λ names. record {
+        nets = map (λ (d : Definition). record { name = d.name; part = d.part; pins = map (place_of names) d.pins }) definitions;
+        outputs = distinct (map (place_of names) outs);
+      })
+      names-is
+
+  -- within the limits
+  module _ (some : 0 < length nets) (within : is_over_limit (length nets) (sum_by (λ (net : Net). length net.pins.items) nets) ≡ false) where
+    pub netlist-whole : Ok (netlist_view names nets (distinct outputs)) ≡ netlist_of_statements lines
+    netlist-whole =
+        ap Ok view-is
+        ∙ rw (fault-is, is_empty-some definitions (omega (arith, length-nets)), ← length-nets, ← pins-nets, within) refl
+
+    few : (length nets ≤ 100_000) × (sum_by (λ (net : Net). length net.pins.items) nets ≤ 1_000_000)
+    few = (grind (arith, nat_tests), grind (arith, nat_tests))
+
+    pub IsNetlist-whole : All (λ (line : ℕ × Statement). IsStatement line.1) lines → IsNames names → IsNetlist (netlist_view names nets (distinct outputs))
+    IsNetlist-whole proper known =
+        rw view-is
+        (IsNetlist-with lines proper (rw names-is at known) (rw names-is at undefined-none) (omega (arith, length-nets)) (omega (arith, length-nets, few.0))
+        (omega (arith, pins-nets, few.1)))

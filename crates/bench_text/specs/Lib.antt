@@ -1,0 +1,10 @@
+pub use Rattle.logic3.specs.Value
+pub use Rattle.logic3.specs.Gate
+pub mod Text
+pub mod Line
+pub mod Name
+pub mod Seen
+pub mod Netlist
+pub mod Names
+pub mod Joined
+pub mod Stages

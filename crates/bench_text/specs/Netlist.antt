@@ -1,0 +1,145 @@
+-- The netlist of a .bench text.
+use Rattle.std.specs.Prelude.{◌≢◌, ℕ, ◌<◌, ◌≤◌, ◌==◌, ◌||◌, ◌&&◌, not, nat_lt, Bool, IsTrue, if◌then◌else◌, List, [], ◌∷◌, length, take, map, filter, flat_map, filter_map, find, position, sum_by, option_map, Option, None, Some, Result, Ok, Err, All, AllPairs, codes, bytes_eq, slice_index, slice_index_or}
+use Rattle.std.specs.List.{list_any, position_or_len, enumerate_from}
+use Rattle.std.specs.Char.{is_ascii_graphic}
+use Rattle.std.specs.Option.{option_or}
+use Rattle.bench_text.specs.declared.part.Part.{Part}
+use Rattle.bench_text.specs.declared.part.Part.TheVariants.{Input}
+use Rattle.bench_text.specs.declared.fault.BenchFault.{BenchFault}
+use Rattle.bench_text.specs.declared.fault.BenchFault.TheVariants.{TooLong, DefinedTwice, Undefined, NoNets, TooMany}
+use Rattle.bench_text.specs.Text.{◌>>=◌, all_or_fault, code_lines, longest_text, is_empty}
+use Rattle.bench_text.specs.Name.{IsName}
+use Rattle.bench_text.specs.Line.{Statement, defines, names_output, statement_of, takes_pins}
+
+-- a net: its name, what drives it, and the numbers of the nets at its pins
+pub record NetView : Type 0 where
+  pub name : List ℕ
+  pub part : Part
+  pub pins : List ℕ
+
+-- the nets in order of definition, and the numbers of the outputs
+pub record NetlistView : Type 0 where
+  pub nets : List NetView
+  pub outputs : List ℕ
+
+-- a net as its line defines it, with the names of its pins
+pub record Definition : Type 0 where
+  pub line : ℕ
+  pub name : List ℕ
+  pub part : Part
+  pub pins : List (List ℕ)
+
+-- what the lines of a text say, by number, or the first fault of a line
+abbrev pub statements_of : List ℕ → Result (List (ℕ × Statement)) BenchFault
+statements_of text =
+    all_or_fault (map (λ (line, code). statement_of line code >>= λ said. Ok (line, said)) (code_lines text))
+
+abbrev pub definition_in : ℕ × Statement → Option Definition
+definition_in (line, defines name part pins) = Some (record { line = line; name = name; part = part; pins = pins })
+definition_in (line, names_output name) = None
+
+-- the names that a line uses, each with the line
+abbrev pub uses_in : ℕ × Statement → List (ℕ × List ℕ)
+uses_in (line, defines name part pins) = map (λ pin. (line, pin)) pins
+uses_in (line, names_output name) = (line, name) ∷ []
+
+abbrev pub output_in : ℕ × Statement → Option (List ℕ)
+output_in (line, defines name part pins) = None
+output_in (line, names_output name) = Some name
+
+-- the names of definitions, in order
+abbrev pub defined_names : List Definition → List (List ℕ)
+defined_names definitions = map (λ (d : Definition). d.name) definitions
+
+abbrev pub is_among : List (List ℕ) → List ℕ → Bool
+is_among names name = list_any (bytes_eq name) names
+
+-- the first definition, with its place in the list, of a name that an earlier one defines
+abbrev pub first_repeated : List Definition → Option (ℕ × Definition)
+first_repeated definitions =
+    find (λ (place, later). is_among (defined_names (take place definitions)) later.name) (enumerate_from 0 definitions)
+
+abbrev pub repeated_fault : List Definition → Option BenchFault
+repeated_fault definitions = option_map (λ (entry : ℕ × Definition). DefinedTwice entry.1.line) (first_repeated definitions)
+
+-- the first use of a name that isn't among these
+abbrev pub first_undefined : List (List ℕ) → List (ℕ × List ℕ) → Option (ℕ × List ℕ)
+first_undefined names uses = find (λ (line, name). not (is_among names name)) uses
+
+abbrev pub undefined_fault : List (List ℕ) → List (ℕ × List ℕ) → Option BenchFault
+undefined_fault names uses = option_map (λ (used : ℕ × List ℕ). Undefined used.0) (first_undefined names uses)
+
+-- more than 100,000 nets, or more than 1,000,000 pins in all
+abbrev pub is_over_limit : ℕ → ℕ → Bool
+is_over_limit nets pins = nat_lt 100_000 nets || nat_lt 1_000_000 pins
+
+abbrev pub is_too_many : List Definition → Bool
+is_too_many definitions = is_over_limit (length definitions) (sum_by (λ (d : Definition). length d.pins) definitions)
+
+abbrev pub size_fault : List Definition → Option BenchFault
+size_fault definitions = if is_empty definitions then Some NoNets else if is_too_many definitions then Some TooMany else None
+
+-- what is wrong with the lines as a whole
+abbrev pub fault_of : List Definition → List (ℕ × List ℕ) → Option BenchFault
+fault_of definitions uses =
+    option_or (repeated_fault definitions)
+    (option_or (undefined_fault (defined_names definitions) uses)
+    (size_fault definitions))
+
+-- the value, unless there is a fault
+abbrev pub unless : {A : Type 0} → Option BenchFault → A → Result A BenchFault
+unless (Some fault) value = Err fault
+unless None value = Ok value
+
+-- the place of a name in a list of names
+abbrev pub place_of : List (List ℕ) → List ℕ → ℕ
+place_of names name = position_or_len (bytes_eq name) names
+
+-- each number where it stands first
+abbrev pub distinct : List ℕ → List ℕ
+distinct [] = []
+distinct (n ∷ numbers) = n ∷ filter (λ m. not (m == n)) (distinct numbers)
+
+-- the nets that are defined, with the places of the names of their pins
+abbrev pub netlist_with : List Definition → List (List ℕ) → NetlistView
+netlist_with definitions outputs =
+    let names = defined_names definitions in
+    record {
+      nets = map (λ (d : Definition). record { name = d.name; part = d.part; pins = map (place_of names) d.pins }) definitions;
+      outputs = distinct (map (place_of names) outputs);
+    }
+
+abbrev pub netlist_of_statements : List (ℕ × Statement) → Result NetlistView BenchFault
+netlist_of_statements statements =
+    let definitions = filter_map definition_in statements in
+    unless (fault_of definitions (flat_map uses_in statements)) (netlist_with definitions (filter_map output_in statements))
+
+-- the netlist of a text, or its first fault
+abbrev pub netlist_of : List ℕ → Result NetlistView BenchFault
+netlist_of text =
+    if nat_lt longest_text (length text) then Err TooLong else statements_of text >>= netlist_of_statements
+
+-- ---- what every netlist keeps
+
+abbrev pub pin_count : NetlistView → ℕ
+pin_count netlist = sum_by (λ (net : NetView). length net.pins) netlist.nets
+
+-- what `read` demands of a netlist, whatever text it came from
+pub record IsNetlist (netlist : NetlistView) : Type 0 where
+  pub names : All (λ (net : NetView). IsName net.name) netlist.nets
+  pub distinct : AllPairs (λ (earlier later : NetView). earlier.name ≢ later.name) netlist.nets
+  pub arities : All (λ (net : NetView). IsTrue (takes_pins net.part (length net.pins))) netlist.nets
+  pub pins : All (λ (net : NetView). All (λ pin. pin < length netlist.nets) net.pins) netlist.nets
+  pub outputs : All (λ output. output < length netlist.nets) netlist.outputs
+  pub outputs_once : AllPairs (λ (earlier later : ℕ). earlier ≢ later) netlist.outputs
+  pub some_net : 0 < length netlist.nets
+  pub net_limit : length netlist.nets ≤ 100_000
+  pub pin_limit : pin_count netlist ≤ 1_000_000
+
+-- the number of the net of this name
+abbrev pub net_named : NetlistView → List ℕ → Option ℕ
+net_named netlist name = position (λ (net : NetView). bytes_eq net.name name) netlist.nets
+
+-- the net of a number; what stands for it past the last net is of no concern
+abbrev pub net_at : NetlistView → ℕ → NetView
+net_at netlist number = slice_index_or netlist.nets number (record { name = []; part = Input; pins = [] })

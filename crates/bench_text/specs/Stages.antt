@@ -1,0 +1,38 @@
+-- What the stages of the reader make of the lines of a text.
+use Rattle.std.specs.Prelude.{ℕ, List, map, filter_map}
+use Rattle.bench_text.specs.Line as line
+use Rattle.bench_text.specs.Netlist.{Definition, definition_in, output_in, place_of}
+use Rattle.bench_text.specs.Seen.{seen_statement}
+use Rattle.bench_text.specs.declared.netlist.Net.{Net}
+use Rattle.bench_text.specs.declared.part.Part.{Part}
+use Rattle.bench_text.specs.declared.reader.Wiring.{Wiring}
+use Rattle.bench_text.specs.declared.statement.Statement.{Statement}
+
+-- what a line says, with its number
+abbrev pub seen_line : ℕ × Statement → ℕ × line.Statement
+seen_line (number, said) = (number, seen_statement said)
+
+abbrev pub seen_lines : List (ℕ × Statement) → List (ℕ × line.Statement)
+seen_lines lines = map seen_line lines
+
+-- what drives a net, and the numbers at its pins
+abbrev pub seen_net : Net → Part × List ℕ
+seen_net net = (net.part, net.pins.items)
+
+abbrev pub net_of : List (List ℕ) → Definition → Part × List ℕ
+net_of names definition = (definition.part, map (place_of names) definition.pins)
+
+-- the nets, and the outputs with repeats, by number
+pub record WiringView : Type 0 where
+  pub nets : List (Part × List ℕ)
+  pub outputs : List ℕ
+
+abbrev pub seen_wiring : Wiring → WiringView
+seen_wiring found = record { nets = map seen_net found.nets.items; outputs = found.outputs.items }
+
+-- the nets in order of definition, and the outputs in order, by the places of names
+abbrev pub wiring : List (List ℕ) → List (ℕ × line.Statement) → WiringView
+wiring names lines = record {
+  nets = map (net_of names) (filter_map definition_in lines);
+  outputs = map (place_of names) (filter_map output_in lines);
+}

@@ -1,0 +1,293 @@
+//! What one line of a .bench text says.
+ghost use Rattle.std.specs.Prelude.{◌≡◌, ◌≢◌, ◌∷◌, List, map, length, option_map, IfOk, IfErr, ◌++◌};
+ghost use Rattle.std.specs.List.{list_any};
+ghost use Rattle.std.specs.Result.{result_map_both};
+ghost use Rattle.std.specs.Str.{str_eq_ignore_ascii_case};
+ghost use Rattle.bench_text.specs.declared.fault.BenchFault.TheVariants.{Memory};
+ghost use Rattle.bench_text.specs.Line.{port, assignment, left, equals, word, is_dollar_name, is_long_name, form_of, names_of, more_names, part_in, part_of, takes_pins, with_names, definition_of, statement_of, statement_of_form};
+ghost use Rattle.bench_text.specs.Seen.{seen_names, seen_form, seen_statement};
+
+use crate::fault::BenchFault;
+use crate::part::Part;
+use crate::text::is_plain;
+use crate::token::{Token, Tokens, tokens_of};
+use logic3::GateKind;
+use std::alloc::{AllocError, Global};
+
+/// What a line says.
+#[derive(Debug, Drop)]
+pub(crate) enum Statement<'a> {
+    /// It defines a net, with the names of the nets at its pins.
+    Defines {
+        name: &'a [u8],
+        part: Part,
+        pins: Vec<&'a [u8]>,
+    },
+    NamesOutput {
+        name: &'a [u8],
+    },
+}
+
+/// How a line is written: `K ( W )`, or `W = K ( list )`.
+#[derive(Debug, Drop)]
+enum Form<'a> {
+    Port {
+        keyword: &'a [u8],
+        name: &'a [u8],
+    },
+    Assignment {
+        name: &'a [u8],
+        keyword: &'a [u8],
+        pins: Vec<&'a [u8]>,
+    },
+}
+
+/// What the line of this number says, or its first fault. `code` is the line without its comment.
+pub(crate) fn statement_of(
+    alloc: Global,
+    line: u64,
+    code: &[u8],
+) -> Result<Statement<'_>, BenchFault>
+    ensures exact { result ≢ Err Memory →
+        result_map_both seen_statement (λ fault. fault) result ≡ statement_of line code.now }
+    ensures ok { IfOk result (λ said. statement_of line code.now ≡ Ok (seen_statement said)) }
+    ensures err { IfErr result (λ fault. fault ≢ Memory → statement_of line code.now ≡ Err fault) }
+{
+    if !is_plain(code) {
+        return Err(BenchFault::BadByte { line });
+    }
+    match form_of(alloc, tokens_of(code))? {
+        Some(Form::Port { keyword, name }) => port(alloc, line, keyword, name),
+        Some(
+            Form::Assignment {
+                name,
+                keyword,
+                pins,
+            },
+        ) => assignment(line, name, keyword, pins),
+        None => Err(BenchFault::BadLine { line }),
+    }
+}
+
+/// What `keyword ( name )` says.
+fn port<'a>(
+    alloc: Global,
+    line: u64,
+    keyword: &'a [u8],
+    name: &'a [u8],
+) -> Result<Statement<'a>, BenchFault>
+    ensures { result_map_both seen_statement (λ fault. fault) result
+        ≡ statement_of_form line (Some (port keyword.now name.now)) }
+{
+    if is_keyword(b"INPUT", keyword) {
+        check_names(line, name, &[])?;
+        Ok(Statement::Defines {
+            name,
+            part: Part::Input,
+            pins: Vec::new(alloc),
+        })
+    } else if is_keyword(b"OUTPUT", keyword) {
+        check_names(line, name, &[])?;
+        Ok(Statement::NamesOutput { name })
+    } else {
+        Err(BenchFault::BadLine { line })
+    }
+}
+
+/// What `name = keyword ( pins )` says.
+fn assignment<'a>(
+    line: u64,
+    name: &'a [u8],
+    keyword: &'a [u8],
+    pins: Vec<&'a [u8]>,
+) -> Result<Statement<'a>, BenchFault>
+    ensures { result_map_both seen_statement (λ fault. fault) result
+        ≡ statement_of_form line (Some (assignment name.now keyword.now (seen_names pins.entry.items))) }
+{
+    check_names(line, name, pins.as_slice())?;
+    definition_of(line, name, pins, part_of(keyword))
+}
+
+/// What a gate or a flip-flop with these pins is, or why it is none.
+fn definition_of<'a>(
+    line: u64,
+    name: &'a [u8],
+    pins: Vec<&'a [u8]>,
+    part: Option<Part>,
+) -> Result<Statement<'a>, BenchFault>
+    ensures { result_map_both seen_statement (λ fault. fault) result
+        ≡ definition_of line name.now (seen_names pins.entry.items) part }
+{
+    match part {
+        None => Err(BenchFault::UnknownGate { line }),
+        Some(part) if takes_pins(part, pins.len()) => Ok(Statement::Defines { name, part, pins }),
+        Some(_) => Err(BenchFault::BadArity { line }),
+    }
+}
+
+/// The first fault of a line's names: one that begins with `$`, then one that is too long.
+#[tactic(auto, using(crate::proofs::SeenNames::list_any_seen))]
+fn check_names(line: u64, name: &[u8], pins: &[&[u8]]) -> Result<(), BenchFault>
+    ensures { result ≡ with_names line (name.now ∷ seen_names pins.now) (Ok tt) }
+{
+    if is_dollar_name(name) || has_dollar_name(pins) {
+        Err(BenchFault::BadLine { line })
+    } else if is_long_name(name) || has_long_name(pins) {
+        Err(BenchFault::NameTooLong { line })
+    } else {
+        Ok(())
+    }
+}
+
+fn has_dollar_name(names: &[&[u8]]) -> bool
+    ensures { result ≡ list_any (λ name. is_dollar_name name.now) names.now }
+{
+    names.iter().any(|name| is_dollar_name(name))
+}
+
+fn has_long_name(names: &[&[u8]]) -> bool
+    ensures { result ≡ list_any (λ name. is_long_name name.now) names.now }
+{
+    names.iter().any(|name| is_long_name(name))
+}
+
+/// Whether a name begins with `$`.
+fn is_dollar_name(name: &[u8]) -> bool
+    ensures { result ≡ is_dollar_name name.now }
+{
+    name.first() == Some(&b'$')
+}
+
+/// Whether a name has more than 255 bytes.
+fn is_long_name(name: &[u8]) -> bool
+    ensures { result ≡ is_long_name name.now }
+{
+    name.len() > 255
+}
+
+/// Whether a part may have so many pins.
+fn takes_pins(part: Part, pins: usize) -> bool
+    ensures { result ≡ takes_pins part pins }
+{
+    match part {
+        Part::Input => pins == 0,
+        Part::Gate(GateKind::Not | GateKind::Buf) | Part::Flop => pins == 1,
+        Part::Gate(_) => 1 <= pins && pins <= 1024,
+    }
+}
+
+/// The words for a gate or a flip-flop.
+static KEYWORDS: [(&[u8], Part); 11] = [
+    (b"AND", Part::Gate(GateKind::And)),
+    (b"NAND", Part::Gate(GateKind::Nand)),
+    (b"OR", Part::Gate(GateKind::Or)),
+    (b"NOR", Part::Gate(GateKind::Nor)),
+    (b"XOR", Part::Gate(GateKind::Xor)),
+    (b"XNOR", Part::Gate(GateKind::Xnor)),
+    (b"NOT", Part::Gate(GateKind::Not)),
+    (b"BUF", Part::Gate(GateKind::Buf)),
+    (b"DFF", Part::Flop),
+    (b"INV", Part::Gate(GateKind::Not)),
+    (b"BUFF", Part::Gate(GateKind::Buf)),
+];
+
+/// The gate or flip-flop that a word means, in any case of its letters.
+fn part_of(word: &[u8]) -> Option<Part>
+    ensures { result ≡ part_of word.now }
+{
+    part_in(&KEYWORDS, word)
+}
+
+/// The part beside the first word of a table that this word is, in any case of its letters.
+fn part_in(table: &[(&[u8], Part)], word: &[u8]) -> Option<Part>
+    ensures { result ≡ part_in (map (λ entry. (entry.0.now, entry.1)) table.now) word.now }
+{
+    for (keyword, part) in table {
+        if is_keyword(keyword, word) {
+            return Some(*part);
+        }
+    }
+    None
+}
+
+/// Whether a word is this keyword, in any case of its letters.
+fn is_keyword(keyword: &[u8], word: &[u8]) -> bool
+    ensures { result ≡ str_eq_ignore_ascii_case keyword.now word.now }
+{
+    keyword.eq_ignore_ascii_case(word)
+}
+
+/// The form of a line's tokens, if they have one.
+fn form_of<'a>(alloc: Global, mut tokens: Tokens<'a>) -> Result<Option<Form<'a>>, AllocError>
+    ensures { IfOk result (λ form. option_map seen_form form ≡ form_of tokens.entry) }
+{
+    let Some(Token::Word(first)) = tokens.next() else {
+        return Ok(None);
+    };
+    match tokens.next() {
+        Some(Token::Left) => Ok(port_after(first, tokens)),
+        Some(Token::Equals) => assignment_after(alloc, first, tokens),
+        _ => Ok(None),
+    }
+}
+
+/// The form `K ( W )`, where `K (` is read.
+fn port_after<'a>(keyword: &'a [u8], mut tokens: Tokens<'a>) -> Option<Form<'a>>
+    ensures { option_map seen_form result ≡ form_of (word keyword.now ∷ left ∷ tokens.entry) }
+{
+    match (tokens.next(), tokens.next(), tokens.next()) {
+        (Some(Token::Word(name)), Some(Token::Right), None) => Some(Form::Port { keyword, name }),
+        _ => None,
+    }
+}
+
+/// The form `W = K ( list )`, where `W =` is read.
+fn assignment_after<'a>(
+    alloc: Global,
+    name: &'a [u8],
+    mut tokens: Tokens<'a>,
+) -> Result<Option<Form<'a>>, AllocError>
+    ensures { IfOk result (λ form. option_map seen_form form ≡ form_of (word name.now ∷ equals ∷ tokens.entry)) }
+{
+    let (Some(Token::Word(keyword)), Some(Token::Left)) = (tokens.next(), tokens.next()) else {
+        return Ok(None);
+    };
+    let pins = names_of(alloc, tokens)?;
+    Ok(pins.map(|pins| Form::Assignment {
+        name,
+        keyword,
+        pins,
+    }))
+}
+
+/// The names up to the closing mark: none, or with a comma between each two.
+fn names_of<'a>(alloc: Global, mut tokens: Tokens<'a>) -> Result<Option<Vec<&'a [u8]>>, AllocError>
+    ensures { IfOk result (λ names. option_map (λ names. seen_names names.items) names ≡ names_of tokens.entry) }
+{
+    let mut names = Vec::new(alloc);
+    match tokens.next() {
+        Some(Token::Right) => Ok(tokens.next().is_none().then_some(names)),
+        Some(Token::Word(name)) => {
+            names.push(name)?;
+            more_names(names, tokens)
+        }
+        _ => Ok(None),
+    }
+}
+
+/// These names and those that follow them, each after a comma, up to the closing mark.
+fn more_names<'a>(
+    mut names: Vec<&'a [u8]>,
+    mut tokens: Tokens<'a>,
+) -> Result<Option<Vec<&'a [u8]>>, AllocError>
+    ensures { IfOk result (λ all. option_map (λ names. seen_names names.items) all
+        ≡ option_map (λ more. seen_names names.entry.items ++ more) (more_names tokens.entry)) }
+{
+    loop {
+        match (tokens.next(), tokens.next()) {
+            (Some(Token::Right), None) => return Ok(Some(names)),
+            (Some(Token::Comma), Some(Token::Word(name))) => names.push(name)?,
+            _ => return Ok(None),
+        }
+    }
+}
