@@ -2,6 +2,10 @@
 #![tactic(auto)]
 
 #[cfg(test)]
+mod plain_engine;
+#[cfg(test)]
 mod reading;
 #[cfg(test)]
 mod texts;
+#[cfg(test)]
+mod timing;

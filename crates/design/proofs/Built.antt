@@ -1,0 +1,187 @@
+-- The design that a netlist makes with its texts and settings.
+use Rattle.std.proofs.Common.{◌≡◌, ◌≢◌, ℕ, ◌≤◌, Bool, true, false, cond, not, List, [], ◌∷◌, length, map, Option, None, Some, Result, Ok, Err, All, refl, ap, sym, ◌∙◌}
+use Rattle.std.specs.Result.{result_map_both}
+use Rattle.std.specs.Option.{option_map_or}
+use Rattle.std.proofs.lemmas.Bool.{and_parts, leb-true}
+use Rattle.std.proofs.lemmas.List.{length-map}
+use Rattle.std.proofs.lemmas.List.Elements.{All-map}
+use Rattle.logic3.specs.declared.change.Change.{Change}
+use Rattle.bench_text.specs.Text.{◌>>=◌}
+use Rattle.bench_text.specs.Netlist.{NetView, NetlistView, IsNetlist}
+use Rattle.design.specs.declared.fault.OptionFault.{OptionFault}
+use Rattle.design.specs.declared.fault.OptionFault.TheVariants.{BadDelay, BadPeriod}
+use Rattle.design.specs.declared.fault.DelayFault.{DelayFault}
+use Rattle.design.specs.declared.fault.DelayFault.TheVariants as delay
+use Rattle.design.specs.declared.fault.StimulusFault.{StimulusFault}
+use Rattle.design.specs.declared.fault.StimulusFault.TheVariants as stimulus
+use Rattle.design.specs.declared.fault.BuildFault.TheVariants.{Setting, Timing, Stimulus, Memory}
+use Rattle.design.specs.Circuit.{Net, Circuit, IsTimed, most_delay, most_ticks}
+use Rattle.design.specs.Design.{IsDesign, untimed}
+use Rattle.design.specs.Joined.{timed_nets, design_view, first_pins_of, IsJoined}
+use Rattle.design.specs.Options.{is_in_limits, option_fault, options_of}
+use Rattle.design.specs.Delays.{DelayLine, delays_of, net_delays, delay_of_net}
+use Rattle.design.specs.Stimuli.{NamedChange, stimuli_of, net_stimuli, stimuli_named}
+use Rattle.design.specs.Faults.{timing_fault, stimulus_fault}
+use Rattle.design.specs.Build.{circuit_with, circuit_of, design_of}
+use Rattle.design.proofs.Ranges.{HasDelay-delays_of, HasStimuli-stimuli_of}
+
+-- nets without what timed them
+untimed-timed : (delay : NetView → ℕ) (stimuli : NetView → List Change) (period : ℕ) (nets : List NetView) →
+    map untimed (map (λ (net : NetView). record { name = net.name; part = net.part; pins = net.pins; delay = delay net; period = period; stimuli = stimuli net }) nets)
+    ≡ nets
+untimed-timed delay stimuli period [] = refl
+untimed-timed delay stimuli period (net ∷ nets) = ap (λ rest. net ∷ rest) (untimed-timed delay stimuli period nets)
+
+-- delays and stimuli that were made net by net
+timed_nets-by_net : (delay : NetView → ℕ) (stimuli : NetView → List Change) (period : ℕ) (nets : List NetView) →
+    timed_nets nets (map delay nets) period (map stimuli nets)
+    ≡ map (λ (net : NetView). record { name = net.name; part = net.part; pins = net.pins; delay = delay net; period = period; stimuli = stimuli net }) nets
+timed_nets-by_net delay stimuli period [] = refl
+timed_nets-by_net delay stimuli period (net ∷ nets) =
+    ap (λ rest. record { name = net.name; part = net.part; pins = net.pins; delay = delay net; period = period; stimuli = stimuli net } ∷ rest)
+    (timed_nets-by_net delay stimuli period nets)
+
+-- ---- what the steps of a build gave
+
+no_fault : (fault : Option OptionFault) (done : Unit {0}) → Ok done ≡ option_map_or Err fault (Ok tt) → fault ≡ None
+no_fault None done e = refl
+no_fault (Some fault) done e = absurd (cc)
+
+given_by : {A B E : Type 0} (f : A → B) (r : Result A E) (y : B) → Ok y ≡ result_map_both f (λ fault. fault) r → (x : A) × (r ≡ Ok x) × (y ≡ f x)
+given_by f (Ok x) y e = (x, refl, cc)
+given_by f (Err fault) y e = absurd (cc)
+
+in_limits : (number most : ℕ) → is_in_limits number most ≡ true → (1 ≤ number) × (number ≤ most)
+in_limits number most e = let both = and_parts _ _ e in (leb-true _ _ both.0, leb-true _ _ both.1)
+
+-- settings in their ranges
+pub record InRange (default period : ℕ) : Type 0 where
+  pub delay_in_range : (1 ≤ default) × (default ≤ most_delay)
+  pub period_in_range : (1 ≤ period) × (period ≤ most_ticks)
+
+pub InRange-option_fault : (default period : ℕ) → option_fault default period ≡ None → InRange default period
+InRange-option_fault default period = go (is_in_limits default most_delay) (is_in_limits period most_ticks) refl refl
+  where
+    go : (delay_in period_in : Bool) → is_in_limits default most_delay ≡ delay_in → is_in_limits period most_ticks ≡ period_in →
+        cond (not delay_in) (Some BadDelay) (cond (not period_in) (Some BadPeriod) None) ≡ None → InRange default period
+    go true true d p e = record { delay_in_range = in_limits default most_delay d; period_in_range = in_limits period most_ticks p }
+    go true false d p e = absurd (cc)
+    go false period_in d p e = absurd (cc)
+
+-- delays and stimuli of the nets, as the texts say
+pub record IsGiven (netlist : NetlistView) (delay_text stimulus_text : List ℕ) (default period : ℕ) (delays : List ℕ) (stimuli : List (List Change)) : Type 0 where
+  pub lines : List DelayLine
+  pub changes : List NamedChange
+  pub no_fault : option_fault default period ≡ None
+  pub lines_are : delays_of netlist delay_text ≡ Ok lines
+  pub changes_are : stimuli_of netlist stimulus_text ≡ Ok changes
+  pub delays_are : delays ≡ net_delays netlist default lines
+  pub stimuli_are : stimuli ≡ net_stimuli netlist changes
+
+pub is_given : (netlist : NetlistView) (delay_text stimulus_text : List ℕ) (default period : ℕ) (delays : List ℕ) (stimuli : List (List Change)) (done : Unit {0}) →
+    Ok done ≡ options_of default period →
+    Ok delays ≡ result_map_both (net_delays netlist default) (λ fault. fault) (delays_of netlist delay_text) →
+    Ok stimuli ≡ result_map_both (net_stimuli netlist) (λ fault. fault) (stimuli_of netlist stimulus_text) →
+    IsGiven netlist delay_text stimulus_text default period delays stimuli
+is_given netlist delay_text stimulus_text default period delays stimuli done options lines changes =
+    let by_lines = given_by (net_delays netlist default) (delays_of netlist delay_text) delays lines in
+    let by_changes = given_by (net_stimuli netlist) (stimuli_of netlist stimulus_text) stimuli changes in
+    record {
+      lines = by_lines.0;
+      changes = by_changes.0;
+      no_fault = no_fault (option_fault default period) done options;
+      lines_are = by_lines.1;
+      changes_are = by_changes.1;
+      delays_are = by_lines.2;
+      stimuli_are = by_changes.2;
+    }
+
+-- ---- the design that they make
+
+module _ {netlist : NetlistView} {delay_text stimulus_text : List ℕ} {default period : ℕ} {delays : List ℕ} {stimuli : List (List Change)}
+    (given : IsGiven netlist delay_text stimulus_text default period delays stimuli) where
+  circuit_is : timed_nets netlist.nets delays period stimuli ≡ circuit_with netlist given.lines given.changes default period
+  circuit_is =
+      (λ i. timed_nets netlist.nets (given.delays_are i) period (given.stimuli_are i))
+      ∙ timed_nets-by_net (delay_of_net default given.lines) (λ (net : NetView). stimuli_named given.changes net.name) period netlist.nets
+
+  -- it is the one that the definition gives
+  pub design_of-given : design_of netlist delay_text stimulus_text default period ≡ Ok (design_view netlist delays period stimuli)
+  design_of-given = rw (given.no_fault, given.lines_are, given.changes_are) (ap (λ nets. Ok (record { netlist = netlist; circuit = nets })) (sym circuit_is))
+
+  all_timed : IsNetlist netlist → All IsTimed (circuit_with netlist given.lines given.changes default period)
+  all_timed ok =
+      let range = InRange-option_fault default period given.no_fault in
+      let delayed = HasDelay-delays_of netlist delay_text default given.lines range.delay_in_range.0 range.delay_in_range.1 given.lines_are in
+      let stimulated = HasStimuli-stimuli_of netlist stimulus_text given.changes ok given.changes_are in
+      All-map IsTimed _ netlist.nets
+      (λ k d below. record { delay = delayed k d below; period = range.period_in_range; stimuli = stimulated k d below })
+
+  -- and its parts fit together
+  pub IsJoined-given : (first_pins : List ℕ) → IsNetlist netlist → first_pins ≡ first_pins_of netlist → IsJoined netlist first_pins delays period stimuli
+  IsJoined-given first_pins ok starts = record {
+    starts = starts;
+    some_delay = ap length given.delays_are ∙ length-map netlist.nets _;
+    some_stimuli = ap length given.stimuli_are ∙ length-map netlist.nets _;
+    well_formed = record {
+      netlist = ok;
+      same_nets = ap (map untimed) circuit_is ∙ untimed-timed (delay_of_net default given.lines) (λ (net : NetView). stimuli_named given.changes net.name) period netlist.nets;
+      timed = rw circuit_is (all_timed ok);
+    };
+  }
+
+-- ---- the faults of the texts
+
+refused_by : {A B E : Type 0} (f : A → B) (r : Result A E) (fault : E) → Err fault ≡ result_map_both f (λ fault. fault) r → r ≡ Err fault
+refused_by f (Ok x) fault e = absurd (cc)
+refused_by f (Err other) fault e = cc
+
+-- a fault that isn't want of memory is passed on
+timing_fault-other : (fault : DelayFault) → timing_fault fault ≢ Memory → (fault ≢ delay.Memory) × (timing_fault fault ≡ Timing fault)
+timing_fault-other delay.Memory differs = absurd (differs refl)
+timing_fault-other _ differs = ((λ e. (cc)), refl)
+
+stimulus_fault-other : (fault : StimulusFault) → stimulus_fault fault ≢ Memory → (fault ≢ stimulus.Memory) × (stimulus_fault fault ≡ Stimulus fault)
+stimulus_fault-other stimulus.Memory differs = absurd (differs refl)
+stimulus_fault-other _ differs = ((λ e. (cc)), refl)
+
+module _ (netlist : NetlistView) (delay_text stimulus_text : List ℕ) (default period : ℕ) (done : Unit {0}) (options : Ok done ≡ options_of default period) where
+  pub design_of-timing_fault : (fault : DelayFault) →
+      (fault ≢ delay.Memory → Err fault ≡ result_map_both (net_delays netlist default) (λ fault. fault) (delays_of netlist delay_text)) →
+      timing_fault fault ≢ Memory → Err (timing_fault fault) ≡ design_of netlist delay_text stimulus_text default period
+  design_of-timing_fault fault refused differs =
+      let other = timing_fault-other fault differs in
+      let none = no_fault (option_fault default period) done options in
+      let lines = refused_by (net_delays netlist default) (delays_of netlist delay_text) fault (refused other.0) in
+      rw (none, lines) (ap Err other.1)
+
+  pub design_of-stimulus_fault : (delays : List ℕ) (fault : StimulusFault) →
+      Ok delays ≡ result_map_both (net_delays netlist default) (λ fault. fault) (delays_of netlist delay_text) →
+      (fault ≢ stimulus.Memory → Err fault ≡ result_map_both (net_stimuli netlist) (λ fault. fault) (stimuli_of netlist stimulus_text)) →
+      stimulus_fault fault ≢ Memory → Err (stimulus_fault fault) ≡ design_of netlist delay_text stimulus_text default period
+  design_of-stimulus_fault delays fault given refused differs =
+      let other = stimulus_fault-other fault differs in
+      let none = no_fault (option_fault default period) done options in
+      let lines = given_by (net_delays netlist default) (delays_of netlist delay_text) delays given in
+      let changes = refused_by (net_stimuli netlist) (stimuli_of netlist stimulus_text) fault (refused other.0) in
+      rw (none, lines.1, changes) (ap Err other.1)
+
+-- ---- a law of the definition
+
+-- a circuit has the names, the parts and the pins of its netlist's nets
+pub untimed-circuit_of : (netlist : NetlistView) (delay_text stimulus_text : List ℕ) (default period : ℕ) (circuit : Circuit) →
+    circuit_of netlist delay_text stimulus_text default period ≡ Ok circuit → map untimed circuit ≡ netlist.nets
+untimed-circuit_of netlist delay_text stimulus_text default period circuit =
+    go (option_fault default period) (delays_of netlist delay_text) (stimuli_of netlist stimulus_text)
+  where
+    go : (fault : Option OptionFault) (lines : Result (List DelayLine) DelayFault) (changes : Result (List NamedChange) StimulusFault) →
+        option_map_or (λ f. Err (Setting f)) fault (result_map_both (λ x. x) Timing lines
+        >>= λ ls. result_map_both (λ x. x) Stimulus changes >>= λ cs. Ok (circuit_with netlist ls cs default period)) ≡ Ok circuit →
+        map untimed circuit ≡ netlist.nets
+    go (Some f) lines changes e = absurd (cc)
+    go None (Err f) changes e = absurd (cc)
+    go None (Ok lines) (Err f) e = absurd (cc)
+    go None (Ok lines) (Ok changes) e =
+        let same : circuit ≡ circuit_with netlist lines changes default period = cc in
+        ap (map untimed) same
+        ∙ untimed-timed (delay_of_net default lines) (λ (net : NetView). stimuli_named changes net.name) period netlist.nets

@@ -1,0 +1,97 @@
+-- The delays of a text lie in their range.
+use Rattle.std.proofs.Common.{◌≡◌, ℕ, ◌≤◌, Bool, true, false, cond, not, leb, List, [], ◌∷◌, ◌++◌, Ok, Err, Option, None, Some, All, option_map, length, ltb, refl, subst}
+use Rattle.std.specs.List.{find}
+use Rattle.std.specs.Option.{is_some, option_map_or, unwrap_or}
+use Rattle.std.specs.Str.{bytes_eq}
+use Rattle.std.proofs.lemmas.Bool.{and_parts, leb-true}
+use Rattle.std.proofs.lemmas.List.Elements.{All-nil, All-head, All-tail, All-push}
+use Rattle.bench_text.specs.declared.part.Part.{Part}
+use Rattle.bench_text.specs.declared.part.Part.TheVariants.{Input, Gate, Flop}
+use Rattle.bench_text.specs.Text.{code_lines, longest_text}
+use Rattle.bench_text.specs.Netlist.{NetView, NetlistView}
+use Rattle.design.specs.declared.fault.DelayFault.TheVariants.{TooLong, BadLine, IsInput, BadTicks, Twice}
+use Rattle.design.specs.Circuit.{most_delay, HasDelay}
+use Rattle.design.specs.Options.{is_in_limits}
+use Rattle.design.specs.Delays.{DelayLine, delay_in, delay_at, delay_or_fault, with_delay, delays_after, delays_of, delay_named, delay_of_net, delay_of_part, find_net, is_input, ticks_named}
+use Rattle.design.proofs.Steps.{bind-Ok}
+
+abbrev InLimits : ℕ → Type 0
+InLimits ticks = (1 ≤ ticks) × (ticks ≤ most_delay)
+
+abbrev IsDelay : DelayLine → Type 0
+IsDelay delay = InLimits delay.ticks
+
+is_in_limits-InLimits : (ticks : ℕ) → is_in_limits ticks most_delay ≡ true → InLimits ticks
+is_in_limits-InLimits ticks inside =
+    let parts = and_parts (leb 1 ticks) (leb ticks most_delay) inside in
+    (leb-true 1 ticks parts.0, leb-true ticks most_delay parts.1)
+
+delay_at-IsDelay : (line : ℕ) (delay given : DelayLine) (net : Option NetView) → delay_at line delay net ≡ Ok given → IsDelay given
+delay_at-IsDelay line delay given None same = (cc)
+delay_at-IsDelay line delay given (Some net) same = go (is_input net.part) (is_in_limits delay.ticks most_delay) refl same
+  where
+    go : (input inside : Bool) → is_in_limits delay.ticks most_delay ≡ inside →
+        cond input (Err (IsInput line)) (cond (not inside) (Err (BadTicks line)) (Ok delay)) ≡ Ok given → IsDelay given
+    go true inside limits same = (cc)
+    go false false limits same = (cc)
+    go false true limits same = let equal : delay ≡ given = (cc) in subst IsDelay equal (is_in_limits-InLimits delay.ticks limits)
+
+delay_or_fault-IsDelay : (netlist : NetlistView) (line : ℕ × List ℕ) (delay : DelayLine) → delay_or_fault netlist line ≡ Ok delay → IsDelay delay
+delay_or_fault-IsDelay netlist (line, code) delay same = go (delay_in code) same
+  where
+    go : (given : Option DelayLine) →
+        option_map_or (λ (given : DelayLine). delay_at line given (find_net netlist given.name)) given (Err (BadLine line)) ≡ Ok delay →
+        IsDelay delay
+    go None same = (cc)
+    go (Some given) same = delay_at-IsDelay line given delay (find_net netlist given.name) same
+
+with_delay-more : (earlier more : List DelayLine) (line : ℕ) (delay : DelayLine) → with_delay earlier line delay ≡ Ok more → earlier ++ delay ∷ [] ≡ more
+with_delay-more earlier more line delay same = go (is_some (ticks_named earlier delay.name)) same
+  where
+    go : (second : Bool) → cond second (Err (Twice line)) (Ok (earlier ++ delay ∷ [])) ≡ Ok more → earlier ++ delay ∷ [] ≡ more
+    go true same = (cc)
+    go false same = (cc)
+
+-- each line's delay is in its limits
+delays_after-IsDelay : (netlist : NetlistView) (lines : List (ℕ × List ℕ)) (earlier delays : List DelayLine) → All IsDelay earlier →
+    delays_after netlist earlier lines ≡ Ok delays → All IsDelay delays
+delays_after-IsDelay netlist [] earlier delays fit same =
+    let equal : earlier ≡ delays = (cc) in subst (λ delays. All IsDelay delays) equal fit
+delays_after-IsDelay netlist (line ∷ lines) earlier delays fit same =
+    let given = bind-Ok (delay_or_fault netlist line) _ delays same in
+    let more = bind-Ok (with_delay earlier line.0 given.0) _ delays given.2 in
+    delays_after-IsDelay netlist lines more.0 delays
+    (subst (λ delays. All IsDelay delays) (with_delay-more earlier more.0 line.0 given.0 more.1)
+    (All-push IsDelay earlier given.0 fit (delay_or_fault-IsDelay netlist line given.0 given.1)))
+    more.2
+
+delays_of-IsDelay : (netlist : NetlistView) (text : List ℕ) (delays : List DelayLine) → delays_of netlist text ≡ Ok delays → All IsDelay delays
+delays_of-IsDelay netlist text delays same = go (ltb longest_text (length text)) same
+  where
+    go : (long : Bool) → cond long (Err TooLong) (delays_after netlist [] (code_lines text)) ≡ Ok delays → All IsDelay delays
+    go true same = (cc)
+    go false same = delays_after-IsDelay netlist (code_lines text) [] delays (All-nil IsDelay) same
+
+delay_named-InLimits : (delays : List DelayLine) (default : ℕ) (name : List ℕ) → All IsDelay delays → InLimits default →
+    InLimits (delay_named delays default name)
+delay_named-InLimits [] default name fit inside = inside
+delay_named-InLimits (delay ∷ delays) default name fit inside =
+    go (bytes_eq delay.name name) (delay_named-InLimits delays default name (All-tail IsDelay delay delays fit) inside)
+  where
+    go : (same : Bool) → InLimits (delay_named delays default name) →
+        InLimits (unwrap_or (option_map (λ (d : DelayLine). d.ticks) (cond same (Some delay) (find (λ (d : DelayLine). bytes_eq d.name name) delays))) default)
+    go true others = All-head IsDelay delay delays fit
+    go false others = others
+
+-- so each net has a delay that its part may have
+pub HasDelay-delays_of : (netlist : NetlistView) (text : List ℕ) (default : ℕ) (delays : List DelayLine) → delays_of netlist text ≡ Ok delays →
+    1 ≤ default → default ≤ most_delay → (net : NetView) → HasDelay net.part (delay_of_net default delays net)
+HasDelay-delays_of netlist text default delays given low high net = go net.part
+  where
+    inside : InLimits (delay_named delays default net.name)
+    inside = delay_named-InLimits delays default net.name (delays_of-IsDelay netlist text delays given) (low, high)
+
+    go : (part : Part) → HasDelay part (delay_of_part part (delay_named delays default net.name))
+    go Input = refl
+    go (Gate kind) = inside
+    go Flop = inside

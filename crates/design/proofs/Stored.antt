@@ -1,0 +1,80 @@
+-- What a design's stored parts say of it.
+use Rattle.std.proofs.Common.{◌≡◌, ℕ, ◌+◌, ◌<◌, ◌≤◌, List, [], ◌∷◌, length, map, get_or, option_map, Some, slice_get, All, refl, ap, sym, ◌∙◌, subst, arith}
+use Rattle.std.specs.List.{sum_by}
+use Rattle.std.proofs.lemmas.List.{length-map}
+use Rattle.std.proofs.lemmas.List.Sums.{sum_by-cons}
+use Rattle.std.proofs.lemmas.Simd.{map-map}
+use Rattle.logic3.specs.declared.change.Change.{Change}
+use Rattle.bench_text.specs.Netlist.{NetView, NetlistView}
+use Rattle.design.specs.Circuit.{Net, Circuit, pin_count}
+use Rattle.design.specs.Design.{DesignView, IsDesign, untimed}
+use Rattle.design.specs.Joined.{design_view, starts_from, IsJoined}
+use Rattle.design.specs.Pins.{first_pin}
+use Rattle.design.proofs.Joined.{get_part, delays-timed_nets, stimuli-timed_nets, periods-timed_nets}
+use Rattle.design.proofs.Starts.{length-starts_from, get_or-starts_from}
+
+-- ---- of any design
+
+pub length-circuit : (design : DesignView) → IsDesign design → length design.circuit ≡ length design.netlist.nets
+length-circuit design ok = sym (length-map design.circuit untimed) ∙ ap length ok.same_nets
+
+pin_count-untimed : (circuit : Circuit) → sum_by (λ (net : NetView). length net.pins) (map untimed circuit) ≡ pin_count circuit
+pin_count-untimed [] = refl
+pin_count-untimed (net ∷ circuit) =
+    sum_by-cons (λ (n : NetView). length n.pins) (untimed net) (map untimed circuit)
+    ∙ ap (λ n. length net.pins + n) (pin_count-untimed circuit)
+    ∙ sym (sum_by-cons (λ (n : Net). length n.pins) net circuit)
+
+pub net_limit : (design : DesignView) → IsDesign design → length design.circuit ≤ 100_000
+net_limit design ok = let limit = ok.netlist.net_limit in omega (arith, length-circuit design ok)
+
+pub pin_limit : (design : DesignView) → IsDesign design → pin_count design.circuit ≤ 1_000_000
+pin_limit design ok =
+    let same = sym (pin_count-untimed design.circuit) ∙ ap (sum_by (λ (net : NetView). length net.pins)) ok.same_nets in
+    let limit = ok.netlist.pin_limit in
+    omega arith
+
+pins_by_net : (design : DesignView) → IsDesign design →
+    map (λ (net : NetView). net.pins) design.netlist.nets ≡ map (λ (net : Net). net.pins) design.circuit
+pins_by_net design ok =
+    ap (map (λ (net : NetView). net.pins)) (sym ok.same_nets) ∙ map-map (λ (net : NetView). net.pins) untimed design.circuit
+
+-- ---- of the design that parts make
+
+module _ {netlist : NetlistView} {first_pins delays : List ℕ} {period : ℕ} {stimuli : List (List Change)} {design : DesignView}
+    (joined : IsJoined netlist first_pins delays period stimuli) (view : design_view netlist delays period stimuli ≡ design) where
+  pub well_formed : IsDesign design
+  well_formed = subst IsDesign view joined.well_formed
+
+  pub starts_are : first_pins ≡ starts_from 0 (map (λ (net : Net). net.pins) design.circuit)
+  starts_are =
+      joined.starts ∙ ap (λ (d : DesignView). starts_from 0 (map (λ (net : NetView). net.pins) d.netlist.nets)) view
+      ∙ ap (starts_from 0) (pins_by_net design well_formed)
+
+  pub length-first_pins : length first_pins ≡ length design.circuit + 1
+  length-first_pins =
+      ap length starts_are ∙ length-starts_from 0 (map (λ (net : Net). net.pins) design.circuit)
+      ∙ ap (λ n. n + 1) (length-map design.circuit (λ (net : Net). net.pins))
+
+  pub first_pin_at : (net d : ℕ) → net ≤ length design.circuit → get_or first_pins net d ≡ first_pin design.circuit net
+  first_pin_at net d within = ap (λ pins. get_or pins net d) starts_are ∙ get_or-starts_from design.circuit 0 net d within ∙ omega arith
+
+  pub length-stimuli : length stimuli ≡ length design.circuit
+  length-stimuli =
+      joined.some_stimuli ∙ ap (λ (d : DesignView). length d.netlist.nets) view ∙ sym (length-circuit design well_formed)
+
+  pub delay_at : (net d : ℕ) → net < length design.circuit →
+      option_map (λ (n : Net). n.delay) (slice_get design.circuit net) ≡ Some (get_or delays net d)
+  delay_at net d = get_part (λ (n : Net). n.delay) design.circuit delays net d
+      (subst (λ (d : DesignView). map (λ (n : Net). n.delay) d.circuit ≡ delays) view
+      (delays-timed_nets netlist.nets delays period stimuli joined.some_delay joined.some_stimuli))
+
+  pub stimuli_at : (net : ℕ) (d : List Change) → net < length design.circuit →
+      option_map (λ (n : Net). n.stimuli) (slice_get design.circuit net) ≡ Some (get_or stimuli net d)
+  stimuli_at net d = get_part (λ (n : Net). n.stimuli) design.circuit stimuli net d
+      (subst (λ (d : DesignView). map (λ (n : Net). n.stimuli) d.circuit ≡ stimuli) view
+      (stimuli-timed_nets netlist.nets delays period stimuli joined.some_delay joined.some_stimuli))
+
+  pub period_is : All (λ (n : Net). n.period ≡ period) design.circuit
+  period_is = subst (λ (d : DesignView). All (λ (n : Net). n.period ≡ period) d.circuit) view
+      (periods-timed_nets netlist.nets delays period stimuli)

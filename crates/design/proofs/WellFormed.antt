@@ -1,0 +1,99 @@
+-- What a design's nets keep, one by one.
+use Rattle.std.proofs.Common.{◌≡◌, ℕ, ◌<◌, List, map, length, Option, None, Some, option_map, true, leb, refl, ap, sym, ◌∙◌, subst, slice_get, All}
+use Rattle.std.proofs.lemmas.List.{length-map, get_or-map}
+use Rattle.std.proofs.lemmas.Bool.{eqb-true, leb-true, and_parts}
+use Rattle.std.proofs.lemmas.Option.{slice_get_within, get_or_from_slice_get, none-some, same_Some}
+use Rattle.logic3.specs.Gate.{HasArity}
+use Rattle.logic3.specs.declared.gates.GateKind.{GateKind}
+use Rattle.logic3.specs.declared.gates.GateKind.TheVariants.{Not, Buf}
+use Rattle.bench_text.specs.declared.part.Part.{Part}
+use Rattle.bench_text.specs.declared.part.Part.TheVariants.{Gate, Flop}
+use Rattle.bench_text.specs.Line.{takes_pins}
+use Rattle.bench_text.specs.Netlist.{NetView}
+use Rattle.design.specs.Circuit.{Net, Circuit, IsCircuit, IsTimed}
+use Rattle.design.specs.Design.{DesignView, IsDesign, untimed}
+
+-- what holds of each element holds of the one at a place
+pub All-slice_get : {A : Type 0} (P : A → Type 0) (xs : List A) (place : ℕ) (x : A) → All P xs → slice_get xs place ≡ Some x → P x
+All-slice_get P xs place x all at =
+    subst P (get_or_from_slice_get xs place x x at) (all place x (slice_get_within xs place x at))
+
+-- what holds of each image holds of what it is the image of
+All-unmap : {A B : Type 0} (P : B → Type 0) (f : A → B) (xs : List A) → All P (map f xs) → All (λ x. P (f x)) xs
+All-unmap P f xs all place d below =
+    subst P (get_or-map f xs place d (f d) below) (all place (f d) (rw length-map below))
+
+-- what holds of each net of a design's netlist holds of each net of its circuit
+timed_nets : (P : NetView → Type 0) (design : DesignView) → IsDesign design → All P design.netlist.nets →
+    All (λ net. P (untimed net)) design.circuit
+timed_nets P design ok all = All-unmap P untimed design.circuit (subst (All P) (sym ok.same_nets) all)
+
+-- a design's circuit is a circuit
+pub IsCircuit-from_IsDesign : (design : DesignView) → IsDesign design → IsCircuit design.circuit
+IsCircuit-from_IsDesign design ok =
+    let same : length design.netlist.nets ≡ length design.circuit = ap length (sym ok.same_nets) ∙ length-map design.circuit untimed in
+    record {
+      pins = subst (λ nets. All (λ (net : Net). All (λ pin. pin < nets) net.pins) design.circuit) same
+          (timed_nets (λ (net : NetView). All (λ pin. pin < length design.netlist.nets) net.pins) design ok ok.netlist.pins);
+      timed = ok.timed;
+    }
+
+-- ---- one net, by what the design tells of it
+
+-- where a field of the net at a place is known, there is a net
+net_there : {A : Type 0} (field : Net → A) (place : Option Net) (x : A) → option_map field place ≡ Some x →
+    (net : Net) × (place ≡ Some net) × (field net ≡ x)
+net_there field None x e = absurd (none-some x e)
+net_there field (Some net) x e = (net, refl, same_Some (field net) x e)
+
+-- each net has as many pins as its part takes
+pub takes_its_pins : (design : DesignView) → IsDesign design → (number : ℕ) (part : Part) (pins : List ℕ) →
+    option_map (λ (net : Net). net.part) (slice_get design.circuit number) ≡ Some part →
+    option_map (λ (net : Net). net.pins) (slice_get design.circuit number) ≡ Some pins →
+    takes_pins part (length pins) ≡ true
+takes_its_pins design ok number part pins part_is pins_are =
+    let found = net_there (λ (net : Net). net.part) (slice_get design.circuit number) part part_is in
+    let same : found.0.pins ≡ pins = let e = rw found.1 at pins_are in same_Some found.0.pins pins e in
+    let takes = timed_nets (λ (net : NetView). takes_pins net.part (length net.pins) ≡ true) design ok ok.netlist.arities in
+    let here = All-slice_get (λ (net : Net). takes_pins net.part (length net.pins) ≡ true) design.circuit number found.0 takes found.1 in
+    rw (← found.2, ← same) here
+
+-- pins name nets
+pub pins_below : (design : DesignView) → IsDesign design → (number : ℕ) (pins : List ℕ) →
+    option_map (λ (net : Net). net.pins) (slice_get design.circuit number) ≡ Some pins →
+    All (λ pin. pin < length design.circuit) pins
+pins_below design ok number pins pins_are =
+    let found = net_there (λ (net : Net). net.pins) (slice_get design.circuit number) pins pins_are in
+    let circuit = IsCircuit-from_IsDesign design ok in
+    rw (← found.2) (All-slice_get (λ (net : Net). All (λ pin. pin < length design.circuit) net.pins) design.circuit number found.0 circuit.pins found.1)
+
+-- a period is at least one tick
+pub period_some : (circuit : Circuit) → IsCircuit circuit → (number period : ℕ) (pins : List ℕ) →
+    option_map (λ (net : Net). net.pins) (slice_get circuit number) ≡ Some pins →
+    All (λ (net : Net). net.period ≡ period) circuit → 0 < period
+period_some circuit ok number period pins pins_are same =
+    let found = net_there (λ (net : Net). net.pins) (slice_get circuit number) pins pins_are in
+    let timed = All-slice_get IsTimed circuit number found.0 ok.timed found.1 in
+    let here : found.0.period ≡ period = All-slice_get (λ (net : Net). net.period ≡ period) circuit number found.0 same found.1 in
+    rw (← here) timed.period.0
+
+arity_of : (kind : GateKind) (pins : ℕ) → takes_pins (Gate kind) pins ≡ true → HasArity kind pins
+arity_of Not pins e = eqb-true pins 1 e
+arity_of Buf pins e = eqb-true pins 1 e
+arity_of _ pins e = leb-true 1 pins (and_parts (leb 1 pins) (leb pins 1024) e).0
+
+-- a gate has as many pins as it takes
+pub gate_arity : (design : DesignView) → IsDesign design → (number : ℕ) (kind : GateKind) (pins : List ℕ) →
+    option_map (λ (net : Net). net.part) (slice_get design.circuit number) ≡ Some (Gate kind) →
+    option_map (λ (net : Net). net.pins) (slice_get design.circuit number) ≡ Some pins →
+    HasArity kind (length pins)
+gate_arity design ok number kind pins part_is pins_are =
+    arity_of kind (length pins) (takes_its_pins design ok number (Gate kind) pins part_is pins_are)
+
+-- a flip-flop has one pin
+pub flop_arity : (design : DesignView) → IsDesign design → (number : ℕ) (pins : List ℕ) →
+    option_map (λ (net : Net). net.part) (slice_get design.circuit number) ≡ Some Flop →
+    option_map (λ (net : Net). net.pins) (slice_get design.circuit number) ≡ Some pins →
+    length pins ≡ 1
+flop_arity design ok number pins part_is pins_are =
+    eqb-true (length pins) 1 (takes_its_pins design ok number Flop pins part_is pins_are)

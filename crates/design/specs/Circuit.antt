@@ -1,0 +1,50 @@
+-- A circuit: nets with their timing and stimuli.
+use Rattle.std.specs.Prelude.{◌≡◌, ℕ, ◌<◌, ◌≤◌, List, [], length, sum_by, All, AllPairs}
+use Rattle.logic3.specs.declared.change.Change.{Change}
+use Rattle.bench_text.specs.declared.part.Part.{Part}
+use Rattle.bench_text.specs.declared.part.Part.TheVariants.{Input}
+
+-- a net of a circuit: what drives it, and when
+pub record Net : Type 0 where
+  pub name : List ℕ
+  pub part : Part
+  pub pins : List ℕ
+  pub delay : ℕ
+  pub period : ℕ
+  pub stimuli : List Change
+
+abbrev pub Circuit : Type 0
+Circuit = List Net
+
+-- the most ticks that a gate or a flip-flop may take
+abbrev pub most_delay : ℕ
+most_delay = 1_000_000
+
+-- the last tick that a horizon, a period or a stimulus may name
+abbrev pub most_ticks : ℕ
+most_ticks = 10_000_000
+
+abbrev pub HasDelay : Part → ℕ → Type 0
+HasDelay Input delay = delay ≡ 0
+HasDelay _ delay = (1 ≤ delay) × (delay ≤ most_delay)
+
+abbrev pub HasStimuli : Part → List Change → Type 0
+HasStimuli Input stimuli =
+    All (λ (change : Change). change.tick ≤ most_ticks) stimuli
+    × AllPairs (λ (earlier later : Change). earlier.tick < later.tick) stimuli
+HasStimuli _ stimuli = stimuli ≡ []
+
+-- a gate or a flip-flop takes at least one tick, an input none; stimuli stand at inputs alone, and their ticks rise strictly
+pub record IsTimed (net : Net) : Type 0 where
+  pub delay : HasDelay net.part net.delay
+  pub period : (1 ≤ net.period) × (net.period ≤ most_ticks)
+  pub stimuli : HasStimuli net.part net.stimuli
+
+-- each pin names a net of the circuit, and nothing but an input answers at once
+pub record IsCircuit (circuit : Circuit) : Type 0 where
+  pub pins : All (λ (net : Net). All (λ pin. pin < length circuit) net.pins) circuit
+  pub timed : All IsTimed circuit
+
+-- the pins of all nets
+abbrev pub pin_count : Circuit → ℕ
+pin_count circuit = sum_by (λ (net : Net). length net.pins) circuit

@@ -1,0 +1,51 @@
+-- What the nets of a circuit show: the defining equations.
+use Rattle.std.specs.Prelude.{◌≡◌, ℕ, zero, suc, ◌+◌, ◌-◌, ◌*◌, ◌/◌, nat_lt, if◌then◌else◌, List, length, map, slice_get, Option, None, Some}
+use Rattle.std.specs.List.{range_with_len}
+use Rattle.std.specs.Option.{option_map_or}
+use Rattle.logic3.specs.declared.value.Value.{Value}
+use Rattle.logic3.specs.declared.value.Value.TheVariants.{Unknown}
+use Rattle.logic3.specs.Gate.{value_of_gate, only_pin}
+use Rattle.logic3.specs.Wave.{Wave, value_after, value_at, wave_of}
+use Rattle.bench_text.specs.declared.part.Part.{Part}
+use Rattle.bench_text.specs.declared.part.Part.TheVariants.{Input, Gate, Flop}
+use Rattle.design.specs.Circuit.{Net, Circuit}
+
+-- the value of a net at a tick, from the signals at its pins
+abbrev pub equation_of_part : Part → Net → List (ℕ → Value) → ℕ → Value
+equation_of_part Input net signals tick = value_after Unknown net.stimuli tick
+equation_of_part (Gate kind) net signals tick =
+    if nat_lt tick net.delay
+    then Unknown
+    else value_of_gate kind (map (λ (signal : ℕ → Value). signal (tick - net.delay)) signals)
+equation_of_part Flop net signals tick =
+    if nat_lt tick (net.delay + net.period)
+    then Unknown
+    else only_pin (map (λ (signal : ℕ → Value). signal (net.period * ((tick - net.delay) / net.period))) signals)
+
+abbrev pub equation : Net → List (ℕ → Value) → ℕ → Value
+equation net signals tick = equation_of_part net.part net signals tick
+
+abbrev pub equation_at : Option Net → (ℕ → ℕ → Value) → ℕ → Value
+equation_at None signals tick = Unknown
+equation_at (Some net) signals tick = equation net (map signals net.pins) tick
+
+-- a family of signals that meets the equation of each net
+abbrev pub IsSolution : Circuit → (ℕ → ℕ → Value) → Type 0
+IsSolution circuit signals = (net tick : ℕ) → signals net tick ≡ equation_at (slice_get circuit net) signals tick
+
+-- what the equations give within so many ticks, each one asking for earlier ticks alone
+abbrev pub value_within : Circuit → ℕ → ℕ → ℕ → Value
+value_within circuit zero net tick = Unknown
+value_within circuit (suc ticks) net tick = equation_at (slice_get circuit net) (value_within circuit ticks) tick
+
+-- what a net shows at a tick
+unfoldable pub value_of : Circuit → ℕ → ℕ → Value
+value_of circuit net tick = value_within circuit (tick + 1) net tick
+
+-- the waveforms of all nets, in order, up to but not including a tick
+unfoldable pub waves_of : Circuit → ℕ → List Wave
+waves_of circuit to = map (λ net. wave_of (value_of circuit net) 0 to) (range_with_len 0 (length circuit))
+
+-- what waveforms show, by net
+abbrev pub signals_in : List Wave → ℕ → ℕ → Value
+signals_in waves net tick = option_map_or (λ (wave : Wave). value_at wave tick) (slice_get waves net) Unknown

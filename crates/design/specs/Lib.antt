@@ -1,0 +1,15 @@
+pub use Rattle.logic3.specs.Value
+pub use Rattle.logic3.specs.Gate
+pub use Rattle.logic3.specs.Wave
+pub use Rattle.bench_text.specs.Text
+pub use Rattle.bench_text.specs.Netlist
+pub mod Circuit
+pub mod Design
+pub mod Joined
+pub mod Equations
+pub mod Pins
+pub mod Options
+pub mod Delays
+pub mod Stimuli
+pub mod Build
+pub mod Faults

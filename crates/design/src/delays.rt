@@ -1,0 +1,127 @@
+//! The delay of each net, from a delay text.
+ghost use Rattle.std.specs.Prelude.{◌≡◌, ◌≢◌, ◌<◌, ◌-◌, ◌^◌, length, map, min, option_map, IfOk};
+ghost use Rattle.std.specs.Result.{result_map_both};
+ghost use Rattle.bench_text.specs.Netlist.{net_at};
+ghost use Rattle.design.specs.Delays.{DelayLine, delay_in, delay_of_part, delay_or_fault, delays_of, is_input, net_delays, net_ticks};
+
+use crate::fault::DelayFault;
+use bench_text::text::{LONGEST_TEXT, code_lines, is_plain, number, words};
+use bench_text::{Netlist, Part};
+use std::alloc::{AllocError, Global};
+
+/// The most ticks that a gate or a flip-flop may take.
+const MOST_DELAY: u64 = 1_000_000;
+
+/// The delay that a line gives a net.
+#[derive(Clone, Copy)]
+struct NetDelay {
+    net: u32,
+    ticks: u64,
+}
+
+/// The delay of each net in ticks, by net number: that of its line, or the default; 0 for an input.
+pub(crate) fn delays(
+    alloc: Global,
+    netlist: &Netlist,
+    text: &[u8],
+    default: u64,
+) -> Result<Vec<u64>, DelayFault>
+    ensures { result ≢ Err DelayFault.Memory →
+        result_map_both (λ delays. delays.items) (λ fault. fault) result
+        ≡ result_map_both (net_delays netlist.now default) (λ fault. fault) (delays_of netlist.now text.now) }
+{
+    let given = delays_given(alloc, netlist, text)?;
+    let mut delays = Vec::new(alloc);
+    for net in 0..netlist.nets() {
+        let ticks = given[net as usize].unwrap_or(default);
+        delays.push(delay_of_part(netlist.part(net), ticks))?;
+    }
+    Ok(delays)
+}
+
+/// The ticks that a part takes where its net has this delay: 0 for an input.
+fn delay_of_part(part: Part, ticks: u64) -> u64
+    ensures { result ≡ delay_of_part part ticks }
+{
+    match part {
+        Part::Input => 0,
+        Part::Gate(_) | Part::Flop => ticks,
+    }
+}
+
+/// The delay that a text gives each net, by net number.
+fn delays_given(
+    alloc: Global,
+    netlist: &Netlist,
+    text: &[u8],
+) -> Result<Vec<Option<u64>>, DelayFault>
+    ensures { result ≢ Err DelayFault.Memory →
+        result_map_both (λ given. given.items) (λ fault. fault) result
+        ≡ result_map_both (net_ticks netlist.now) (λ fault. fault) (delays_of netlist.now text.now) }
+{
+    if text.len() > LONGEST_TEXT {
+        return Err(DelayFault::TooLong);
+    }
+    let mut given = vec![in alloc; None; netlist.nets() as usize]?;
+    for (line, code) in code_lines(text) {
+        let delay = net_delay(alloc, netlist, line, code)?;
+        let net = delay.net as usize;
+        if given[net].is_some() {
+            return Err(DelayFault::Twice { line });
+        }
+        given[net] = Some(delay.ticks);
+    }
+    Ok(given)
+}
+
+/// What the line of this number gives, or its first fault; `code` is the line without its comment.
+fn net_delay(
+    alloc: Global,
+    netlist: &Netlist,
+    line: u64,
+    code: &[u8],
+) -> Result<NetDelay, DelayFault>
+    ensures net { IfOk result (λ delay. delay.net < length netlist.now.nets) }
+    ensures delay { result ≢ Err DelayFault.Memory →
+        result_map_both (λ delay. record { name = (net_at netlist.now delay.net).name; ticks = delay.ticks })
+        (λ fault. fault) result
+        ≡ delay_or_fault netlist.now (line, code.now) }
+{
+    let Some((name, ticks)) = name_and_number(alloc, code)? else {
+        return Err(DelayFault::BadLine { line });
+    };
+    let Some(net) = netlist.find(name) else {
+        return Err(DelayFault::UnknownNet { line });
+    };
+    if is_input(netlist.part(net)) {
+        return Err(DelayFault::IsInput { line });
+    }
+    if ticks == 0 || ticks > MOST_DELAY {
+        return Err(DelayFault::BadTicks { line });
+    }
+    Ok(NetDelay { net, ticks })
+}
+
+/// Whether the part is an input.
+pub(crate) fn is_input(part: Part) -> bool
+    ensures { result ≡ is_input part }
+{
+    matches!(part, Part::Input)
+}
+
+/// The name and the number on a line, if it has just these.
+fn name_and_number(alloc: Global, code: &[u8]) -> Result<Option<(&[u8], u64)>, AllocError>
+    ensures { IfOk result (λ found.
+        option_map (λ found. record { name = found.0.now; ticks = found.1 }) found
+        ≡ option_map (λ (delay : DelayLine). record delay { ticks = min (2 ^ 64 - 1) delay.ticks })
+        (delay_in code.now)) }
+{
+    if !is_plain(code) {
+        return Ok(None);
+    }
+    let words = words(alloc, code)?;
+    let [name, ticks] = words.as_slice() else {
+        return Ok(None);
+    };
+    Ok(number(ticks).map(|ticks| (*name, ticks)))
+}

@@ -1,0 +1,154 @@
+ghost use Rattle.std.specs.Prelude.{◌≡◌, ℕ, ◌+◌, ◌<◌, length, option_map, position, bytes_eq, slice_get, Some, All};
+ghost use Rattle.std.specs.Option.{ForSome};
+ghost use Rattle.bench_text.specs.Netlist.{net_named};
+ghost use Rattle.design.specs.Circuit.{Net, pin_count};
+ghost use Rattle.design.specs.Pins.{sources_of, first_pin, net_of_pin};
+
+mod build;
+
+use bench_text::{Netlist, Part};
+use logic3::Change;
+use std::marker::Model;
+
+/// A netlist with its timing and stimuli.
+///
+/// Nets are numbered as in the netlist, and the pins of all nets are numbered from 0, net by net. A
+/// method that takes the number of a net asks for one below [`nets`](Self::nets), and one that takes
+/// the number of a pin for one below [`pins`](Self::pins). None of the readers takes memory.
+#[derive(Debug, Drop)]
+pub struct Design {
+    netlist: Netlist,
+    // The first pin of each net, and at the end how many pins there are.
+    first_pins: Vec<u32>,
+    // The delay and the stimuli of each net.
+    delays: Vec<u64>,
+    stimuli: Vec<Vec<Change>>,
+    period: u64,
+}
+
+impl Model for Design {
+    ghost use Rattle.std.specs.Prelude.{map};
+    ghost use Rattle.design.specs.Design.{DesignView};
+
+    ghost Value = { DesignView };
+
+    ghost use Rattle.design.specs.Joined.{design_view, IsJoined};
+
+    ghost view = { λ d. design_view d.netlist d.delays.items d.period (map (λ v. v.items) d.stimuli.items) };
+
+    ghost invariant = { λ d.
+        IsJoined d.netlist d.first_pins.items d.delays.items d.period (map (λ v. v.items) d.stimuli.items) };
+}
+
+impl Design {
+    ghost use Rattle.design.specs.Design.{IsDesign};
+
+    /// How many nets there are: 1 to 100,000.
+    pub fn nets(&self) -> u32
+        ensures count { result ≡ length self.now.circuit }
+        ensures well_formed { IsDesign self.now }
+    {
+        self.netlist.nets()
+    }
+
+    /// How many pins all nets have: at most 1,000,000.
+    pub fn pins(&self) -> u32
+        ensures { result ≡ pin_count self.now.circuit }
+    {
+        self.first_pins[self.netlist.nets() as usize]
+    }
+
+    /// The netlist, without timing and stimuli.
+    pub fn netlist(&self) -> &Netlist
+        ensures { result.now ≡ self.now.netlist }
+    {
+        &self.netlist
+    }
+
+    /// The name of a net.
+    pub fn name(&self, net: u32) -> &[u8]
+        requires { net < length self.now.circuit }
+        ensures { option_map (λ (n : Net). n.name) (slice_get self.now.circuit net) ≡ Some result.now }
+    {
+        self.netlist.name(net)
+    }
+
+    /// What drives a net.
+    pub fn part(&self, net: u32) -> Part
+        requires { net < length self.now.circuit }
+        ensures { option_map (λ (n : Net). n.part) (slice_get self.now.circuit net) ≡ Some result }
+    {
+        self.netlist.part(net)
+    }
+
+    /// The numbers of the nets at a net's pins, in order.
+    pub fn pins_of(&self, net: u32) -> &[u32]
+        requires { net < length self.now.circuit }
+        ensures { option_map (λ (n : Net). n.pins) (slice_get self.now.circuit net) ≡ Some result.now }
+    {
+        self.netlist.pins_of(net)
+    }
+
+    /// The number of the net that has this name.
+    pub fn find(&self, name: &[u8]) -> Option<u32>
+        ensures named { result ≡ net_named self.now.netlist name.now }
+        ensures net { result ≡ position (λ (n : Net). bytes_eq n.name name.now) self.now.circuit }
+    {
+        self.netlist.find(name)
+    }
+
+    /// The number of a net's pin, by its place among the pins of the net.
+    pub fn pin(&self, net: u32, place: usize) -> u32
+        requires net { net < length self.now.circuit }
+        requires place { ForSome (slice_get self.now.circuit net) (λ (n : Net). place < length n.pins) }
+        ensures pin { result ≡ first_pin self.now.circuit net + place }
+        ensures within { result < pin_count self.now.circuit }
+    {
+        self.first_pins[net as usize] + place as u32
+    }
+
+    /// The number of the net that a pin belongs to. Takes logarithmic time.
+    pub fn pin_net(&self, pin: u32) -> u32
+        requires { pin < pin_count self.now.circuit }
+        ensures net { result ≡ net_of_pin self.now.circuit pin }
+        ensures within { result < length self.now.circuit }
+    {
+        let first_pins = self.first_pins.as_slice();
+        let after = first_pins.partition_point(|first| *first <= pin);
+        (after - 1) as u32
+    }
+
+    /// The number of the net that feeds a pin. Takes logarithmic time.
+    pub fn pin_source(&self, pin: u32) -> u32
+        requires { pin < pin_count self.now.circuit }
+        ensures source { slice_get (sources_of self.now.circuit) pin ≡ Some result }
+        ensures within { result < length self.now.circuit }
+    {
+        let net = self.pin_net(pin);
+        let place = pin - self.first_pins[net as usize];
+        self.pins_of(net)[place as usize]
+    }
+
+    /// The delay of a net in ticks: 0 for an input, else 1 to 1,000,000.
+    pub fn delay(&self, net: u32) -> u64
+        requires { net < length self.now.circuit }
+        ensures { option_map (λ (n : Net). n.delay) (slice_get self.now.circuit net) ≡ Some result }
+    {
+        self.delays[net as usize]
+    }
+
+    /// The period of all flip-flops in ticks: 1 to 10,000,000.
+    pub fn period(&self) -> u64
+        ensures { All (λ (n : Net). n.period ≡ result) self.now.circuit }
+    {
+        self.period
+    }
+
+    /// The stimuli of a net, at ticks that rise strictly, up to 10,000,000; none but for an input.
+    pub fn stimuli(&self, net: u32) -> &[Change]
+        requires { net < length self.now.circuit }
+        ensures { option_map (λ (n : Net). n.stimuli) (slice_get self.now.circuit net) ≡ Some result.now }
+    {
+        self.stimuli[net as usize].as_slice()
+    }
+}

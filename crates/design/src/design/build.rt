@@ -1,0 +1,61 @@
+ghost use Rattle.std.specs.Prelude.{◌≡◌, ◌≢◌, IfOk};
+ghost use Rattle.bench_text.specs.Netlist.{IsNetlist};
+ghost use Rattle.design.specs.Build.{design_of};
+ghost use Rattle.design.specs.Joined.{first_pins_of};
+
+use crate::design::Design;
+use crate::fault::BuildFault;
+use crate::settings::options;
+use crate::{delays, stimuli};
+use bench_text::Netlist;
+use std::alloc::{AllocError, Global};
+
+impl Design {
+    /// A netlist with the timing of a delay text and the stimuli of a stimulus text.
+    ///
+    /// A gate or a flip-flop that the delay text doesn't name takes the default delay, and the period
+    /// is that of all flip-flops, both in ticks. The netlist is given up on a refusal.
+    ///
+    /// # Errors
+    /// The first fault, in the order default delay, period, delay text, stimulus text, or
+    /// [`BuildFault::Memory`] where a growth was refused in any step.
+    pub fn build(
+        alloc: Global,
+        netlist: Netlist,
+        delays: &[u8],
+        stimuli: &[u8],
+        default_delay: u64,
+        period: u64,
+    ) -> Result<Design, BuildFault>
+        ensures { result ≢ Err BuildFault.Memory →
+            result ≡ design_of netlist delays.now stimuli.now default_delay period }
+    {
+        options(default_delay, period)?;
+        let delays = delays::delays(alloc, &netlist, delays, default_delay)?;
+        let stimuli = stimuli::stimuli(alloc, &netlist, stimuli)?;
+        let first_pins = first_pins(alloc, &netlist)?;
+        Ok(Design {
+            netlist,
+            first_pins,
+            delays,
+            stimuli,
+            period,
+        })
+    }
+}
+
+/// The first pin of each net, and at the end how many pins there are.
+fn first_pins(alloc: Global, netlist: &Netlist) -> Result<Vec<u32>, AllocError>
+    ensures starts { IfOk result (λ starts. starts.items ≡ first_pins_of netlist.now) }
+    ensures well_formed { IsNetlist netlist.now }
+{
+    let nets = netlist.nets();
+    let mut starts = Vec::with_capacity(alloc, nets as usize + 1)?;
+    let mut pin: u32 = 0;
+    for net in 0..nets {
+        starts.push(pin)?;
+        pin += netlist.pins_of(net).len() as u32;
+    }
+    starts.push(pin)?;
+    Ok(starts)
+}

@@ -1,0 +1,173 @@
+//! The plain engine: tick by tick and net by net it reckons the defining equations.
+//!
+//! It is the second opinion on any other engine, so it does nothing clever: an earlier value is
+//! looked up in the waveforms so far, and nothing else is kept.
+ghost use Rattle.std.specs.Prelude.{◌≡◌, ℕ, ◌+◌, ◌-◌, ◌*◌, ◌/◌, ◌<◌, nat_lt, if◌then◌else◌, List, [], ◌∷◌, length, map, slice_get, All, IfOk, OnOk};
+ghost use Rattle.logic3.specs.declared.value.Value.TheVariants.{Unknown};
+ghost use Rattle.logic3.specs.Value.{is_same};
+ghost use Rattle.logic3.specs.Gate.{HasArity, value_of_gate};
+ghost use Rattle.logic3.specs.Wave.{last_value, joined};
+ghost use Rattle.design.specs.Design.{IsDesign};
+ghost use Rattle.design.specs.Equations.{equation_at, signals_in, waves_of};
+
+use crate::design::Design;
+use crate::horizon::Horizon;
+use bench_text::Part;
+use logic3::{Change, GateKind, Value, Waveform, gate, value_after};
+use std::alloc::{AllocError, Global};
+
+/// The waveforms of all nets, in their order, from tick 0 to the horizon.
+///
+/// # Errors
+/// An `AllocError` where a growth was refused.
+pub fn plain_waves(
+    alloc: Global,
+    design: &Design,
+    horizon: Horizon,
+) -> Result<Vec<Waveform>, AllocError>
+    ensures { IfOk result (λ waves. waves.items ≡ waves_of design.now.circuit (horizon + 1)) }
+{
+    let mut waves = unknown_waves(alloc, design)?;
+    let mut values = Vec::new(alloc);
+    for tick in 0..horizon.ticks() + 1 {
+        advance(design, tick, &mut waves, &mut values)?;
+    }
+    Ok(waves)
+}
+
+/// A waveform for each net, before any tick.
+fn unknown_waves(alloc: Global, design: &Design) -> Result<Vec<Waveform>, AllocError>
+    ensures { IfOk result (λ waves. waves.items ≡ waves_of design.now.circuit 0) }
+{
+    let mut waves = Vec::new(alloc);
+    for _net in 0..design.nets() {
+        waves.push(Waveform::new(alloc))?;
+    }
+    Ok(waves)
+}
+
+/// Carries the waveforms of all nets one tick on.
+fn advance(
+    design: &Design,
+    tick: u64,
+    waves: &mut [Waveform],
+    values: &mut Vec<Value>,
+) -> Result<(), AllocError>
+    requires { waves.old ≡ waves_of design.now.circuit tick }
+    ensures { OnOk result (waves.new ≡ waves_of design.now.circuit (tick + 1)) }
+{
+    for net in 0..design.nets() {
+        let value = net_value(design, net, tick, waves, values)?;
+        extend(&mut waves[net as usize], tick, value)?;
+    }
+    Ok(())
+}
+
+/// Carries a waveform one tick on: with a change where the value isn't the last one.
+fn extend(wave: &mut Waveform, tick: u64, value: Value) -> Result<(), AllocError>
+    requires { All (λ (earlier : Change). earlier.tick < tick) wave.old.changes }
+    ensures { OnOk result (wave.new ≡ joined wave.old
+        (if is_same value (last_value wave.old) then [] else record { tick = tick; value = value } ∷ [])) }
+{
+    if value != wave.last_value() {
+        wave.push(Change { tick, value })?;
+    }
+    Ok(())
+}
+
+/// The value that a net's equation gives at a tick, from what the waveforms show earlier.
+fn net_value(
+    design: &Design,
+    net: u32,
+    tick: u64,
+    waves: &[Waveform],
+    values: &mut Vec<Value>,
+) -> Result<Value, AllocError>
+    requires formed { IsDesign design.now }
+    requires is_net { net < length design.now.circuit }
+    requires all_nets { length waves.now ≡ length design.now.circuit }
+    ensures { IfOk result
+        (λ value. value ≡ equation_at (slice_get design.now.circuit net) (signals_in waves.now) tick) }
+{
+    let pins = design.pins_of(net);
+    let delay = design.delay(net);
+    match design.part(net) {
+        Part::Input => Ok(value_after(Value::Unknown, design.stimuli(net), tick)),
+        Part::Gate(kind) => gate_value(kind, pins, delay, tick, waves, values),
+        Part::Flop => Ok(sampled_value(pins[0], delay, design.period(), tick, waves)),
+    }
+}
+
+/// What a gate shows: X before its delay, then what it gives for its pins a delay earlier.
+fn gate_value(
+    kind: GateKind,
+    pins: &[u32],
+    delay: u64,
+    tick: u64,
+    waves: &[Waveform],
+    values: &mut Vec<Value>,
+) -> Result<Value, AllocError>
+    requires arity { HasArity kind (length pins.now) }
+    requires pins { All (λ pin. pin < length waves.now) pins.now }
+    ensures { IfOk result (λ value. value ≡
+        (if nat_lt tick delay then Unknown
+        else value_of_gate kind (map (λ pin. signals_in waves.now pin (tick - delay)) pins.now))) }
+{
+    if tick < delay {
+        return Ok(Value::Unknown);
+    }
+    read_pins(pins, waves, tick - delay, values)?;
+    Ok(gate(kind, values))
+}
+
+/// Fills the buffer with what the pins show at a tick.
+fn read_pins(
+    pins: &[u32],
+    waves: &[Waveform],
+    tick: u64,
+    values: &mut Vec<Value>,
+) -> Result<(), AllocError>
+    requires { All (λ pin. pin < length waves.now) pins.now }
+    ensures { OnOk result (values.new.items ≡ map (λ pin. signals_in waves.now pin tick) pins.now) }
+{
+    values.clear();
+    for pin in pins {
+        values.push(shown(waves, *pin, tick))?;
+    }
+    Ok(())
+}
+
+/// What a flip-flop shows: its pin at the last sample that is a delay ago, and X before the first.
+///
+/// It samples at the multiples of its period, but not at tick 0.
+#[tactic(auto, using(crate::proofs::Parts::sample_tells))]
+fn sampled_value(pin: u32, delay: u64, period: u64, tick: u64, waves: &[Waveform]) -> Value
+    requires pin { pin < length waves.now }
+    requires period { 0 < period }
+    ensures { result ≡
+        (if nat_lt tick (delay + period) then Unknown
+        else signals_in waves.now pin (period * ((tick - delay) / period))) }
+{
+    let sample = last_sample(delay, period, tick);
+    if sample < period {
+        return Value::Unknown;
+    }
+    shown(waves, pin, sample)
+}
+
+/// The last multiple of the period that is at least a delay ago, and 0 before the delay is over.
+fn last_sample(delay: u64, period: u64, tick: u64) -> u64
+    requires { 0 < period }
+    ensures { result ≡ period * ((tick - delay) / period) }
+{
+    tick.saturating_sub(delay) / period * period
+}
+
+/// What the waveform of a net shows at a tick.
+#[tactic(auto, using(crate::proofs::Ticks::signals_in_at))]
+fn shown(waves: &[Waveform], net: u32, tick: u64) -> Value
+    requires { net < length waves.now }
+    ensures { result ≡ signals_in waves.now net tick }
+{
+    waves[net as usize].value_at(tick)
+}

@@ -1,0 +1,21 @@
+ghost use Rattle.std.specs.Prelude.{◌≡◌};
+ghost use Rattle.design.specs.Options.{options_of};
+
+use crate::fault::OptionFault;
+
+/// Whether the settings of a run, in ticks, are in their ranges; takes no memory.
+///
+/// # Errors
+/// [`OptionFault::BadDelay`] where the default delay is 0 or above 1,000,000, and else
+/// [`OptionFault::BadPeriod`] where the period is 0 or above 10,000,000.
+pub fn options(default_delay: u64, period: u64) -> Result<(), OptionFault>
+    ensures { result ≡ options_of default_delay period }
+{
+    if default_delay < 1 || default_delay > 1_000_000 {
+        return Err(OptionFault::BadDelay);
+    }
+    if period < 1 || period > 10_000_000 {
+        return Err(OptionFault::BadPeriod);
+    }
+    Ok(())
+}
