@@ -1,5 +1,6 @@
 pub mod Among
 pub mod Distinct
+pub mod FirstWord
 pub mod Joined
 pub mod Lines
 pub mod LinesLeft

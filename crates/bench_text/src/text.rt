@@ -1,7 +1,7 @@
 //! The words of every text format: lines, the part before a comment, words and numbers.
-ghost use Rattle.std.specs.Prelude.{◌≡◌, ◌==◌, ◌^◌, ◌+◌, ◌-◌, ◌<◌, not, [], ◌∷◌, length, map, min, option_map, IfOk, IfSome};
+ghost use Rattle.std.specs.Prelude.{◌≡◌, ◌==◌, ◌^◌, ◌+◌, ◌-◌, ◌<◌, ◌≤◌, not, [], ◌∷◌, length, map, min, option_map, IfOk, IfSome, MatchOption};
 ghost use Rattle.std.specs.Option.{option_map_or};
-ghost use Rattle.std.specs.List.{position_or_len};
+ghost use Rattle.std.specs.List.{position_or_len, prefix_len};
 ghost use Rattle.bench_text.specs.Text.{code_lines, code_of, is_empty, is_plain, is_white, lines_of, number_of, words_of};
 
 use std::alloc::{AllocError, Global};
@@ -90,7 +90,7 @@ fn code_of(line: &[u8]) -> &[u8]
 }
 
 /// Where the byte first stands in a text, or the length of the text.
-fn first_place(text: &[u8], byte: u8) -> usize
+pub fn first_place(text: &[u8], byte: u8) -> usize
     ensures { result ≡ position_or_len (λ other. other == byte) text.now }
 {
     text.iter()
@@ -99,7 +99,7 @@ fn first_place(text: &[u8], byte: u8) -> usize
 }
 
 /// Whether a line has a word.
-fn has_words(line: &[u8]) -> bool
+pub fn has_words(line: &[u8]) -> bool
     ensures { result ≡ not (is_empty (words_of line.now)) }
 {
     line.iter().any(|byte| !is_white(*byte))
@@ -119,6 +119,35 @@ pub fn words(alloc: Global, line: &[u8]) -> Result<Vec<&[u8]>, AllocError>
     line.split(|byte| is_white(*byte))
         .filter(|word| !word.is_empty())
         .collect(alloc)
+}
+
+/// The first word of a line, and what follows it.
+pub fn split_word(line: &[u8]) -> Option<(&[u8], &[u8])>
+    ensures { MatchOption result (words_of line.now ≡ [])
+        (λ split. words_of line.now ≡ split.0.now ∷ words_of split.1.now) }
+{
+    let line = &line[white_len(line)..];
+    if line.is_empty() {
+        None
+    } else {
+        Some(line.split_at(word_len(line)))
+    }
+}
+
+/// How many bytes of white space come first.
+pub(crate) fn white_len(line: &[u8]) -> usize
+    ensures value { result ≡ prefix_len is_white line.now }
+    ensures within { result ≤ length line.now }
+{
+    line.iter().take_while(|byte| is_white(**byte)).count()
+}
+
+/// How many bytes come before the first white space.
+fn word_len(line: &[u8]) -> usize
+    ensures value { result ≡ position_or_len is_white line.now }
+    ensures within { result ≤ length line.now }
+{
+    line.iter().take_while(|byte| !is_white(**byte)).count()
 }
 
 /// Whether each byte is white space or 0x21 to 0x7E.

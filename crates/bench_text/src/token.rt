@@ -6,7 +6,7 @@ ghost use Rattle.bench_text.specs.Text.{is_white};
 ghost use Rattle.bench_text.specs.Line.{is_mark, token_of, tokens_of};
 ghost use Rattle.bench_text.specs.Seen.{seen_token, is_word_byte, mark_of};
 
-use crate::text::is_white;
+use crate::text::{is_white, white_len};
 use std::marker::Model;
 
 /// A word, or one of the four marks.
@@ -77,14 +77,6 @@ fn past_white(code: &[u8]) -> &[u8]
     ensures begins { 0 < length result.now → is_white (slice_index result.now 0) ≡ false }
 {
     &code[white_len(code)..]
-}
-
-/// How many bytes of white space come first.
-fn white_len(code: &[u8]) -> usize
-    ensures value { result ≡ prefix_len is_white code.now }
-    ensures within { result ≤ length code.now }
-{
-    code.iter().take_while(|byte| is_white(**byte)).count()
 }
 
 /// How many bytes come before the first white space or mark.

@@ -6,6 +6,8 @@ mod plain_engine;
 #[cfg(test)]
 mod reading;
 #[cfg(test)]
+mod telling;
+#[cfg(test)]
 mod texts;
 #[cfg(test)]
 mod timing;

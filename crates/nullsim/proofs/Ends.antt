@@ -1,0 +1,13 @@
+-- How a run ends, from how its parts do.
+use Rattle.std.proofs.Common.{ℕ, List, Option}
+use Rattle.vcd_dump.specs.declared.fault.DumpFault.{DumpFault}
+use Rattle.vcd_dump.specs.declared.fault.DumpFault.TheVariants as dump
+use Rattle.vcd_dump.specs.Bytes.{AppendsPrefix}
+use Rattle.nullsim.specs.Faults.{sim_of_dump}
+use Rattle.nullsim.specs.Ends.{BreaksOff}
+
+-- a fault of the dump breaks the answer off
+pub BreaksOff-dump : (old new : Option (List ℕ)) (text : List ℕ) (fault : DumpFault) → AppendsPrefix old new text →
+    BreaksOff old new text (sim_of_dump fault)
+BreaksOff-dump old new text dump.Memory part = part
+BreaksOff-dump old new text _ part = part

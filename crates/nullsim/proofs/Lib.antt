@@ -1,0 +1,14 @@
+pub mod Answer
+pub mod DeckText
+pub mod Decks
+pub mod Ends
+pub mod First
+pub mod Found
+pub mod Lines
+pub mod Nets
+pub mod Readers
+pub mod Rows
+pub mod Rules
+pub mod Signals
+pub mod Told
+pub mod Words

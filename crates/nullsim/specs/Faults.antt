@@ -1,0 +1,35 @@
+-- How a layer's fault comes out of a run: want of memory in any layer is the run's own.
+use Rattle.bench_text.specs.declared.fault.BenchFault.{BenchFault}
+use Rattle.bench_text.specs.declared.fault.BenchFault.TheVariants as bench
+use Rattle.design.specs.declared.fault.BuildFault.{BuildFault}
+use Rattle.design.specs.declared.fault.BuildFault.TheVariants as build
+use Rattle.design.specs.declared.fault.DelayFault.TheVariants as delay
+use Rattle.design.specs.declared.fault.StimulusFault.TheVariants as stimulus
+use Rattle.vcd_dump.specs.declared.fault.DumpFault.{DumpFault}
+use Rattle.vcd_dump.specs.declared.fault.DumpFault.TheVariants as dump
+use Rattle.nullsim.specs.declared.fault.SimFault.{SimFault}
+use Rattle.nullsim.specs.declared.fault.SimFault.TheVariants.{Setting, Bench, Timing, Stimulus, Dump, Memory}
+use Rattle.nullsim.specs.declared.sections.DeckTextFault.{DeckTextFault}
+use Rattle.nullsim.specs.declared.sections.DeckTextFault.TheVariants as text
+use Rattle.nullsim.specs.declared.deck_run.DeckFault.{DeckFault}
+use Rattle.nullsim.specs.declared.deck_run.DeckFault.TheVariants.{TooLong, BadDeck}
+
+abbrev pub sim_of_bench : BenchFault → SimFault
+sim_of_bench bench.Memory = Memory
+sim_of_bench fault = Bench fault
+
+abbrev pub sim_of_build : BuildFault → SimFault
+sim_of_build (build.Setting fault) = Setting fault
+sim_of_build (build.Timing delay.Memory) = Memory
+sim_of_build (build.Timing fault) = Timing fault
+sim_of_build (build.Stimulus stimulus.Memory) = Memory
+sim_of_build (build.Stimulus fault) = Stimulus fault
+sim_of_build build.Memory = Memory
+
+abbrev pub sim_of_dump : DumpFault → SimFault
+sim_of_dump dump.Memory = Memory
+sim_of_dump fault = Dump fault
+
+abbrev pub deck_of_text : DeckTextFault → DeckFault
+deck_of_text text.TooLong = TooLong
+deck_of_text (text.BadDeck line) = BadDeck line

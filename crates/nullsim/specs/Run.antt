@@ -1,0 +1,80 @@
+-- Whole runs: the answer to texts and settings, and to a deck, composed of the definitions below.
+use Rattle.std.specs.Prelude.{ℕ, List, map, length, Result, Ok}
+use Rattle.std.specs.List.{range_with_len}
+use Rattle.std.specs.Result.{result_map_both}
+use Rattle.logic3.specs.declared.value.Value.{Value}
+use Rattle.bench_text.specs.Text.{◌>>=◌}
+use Rattle.bench_text.specs.Netlist.{NetlistView, netlist_of}
+use Rattle.design.specs.Options.{options_of, horizon_of}
+use Rattle.design.specs.Circuit.{Circuit}
+use Rattle.design.specs.Build.{circuit_of}
+use Rattle.design.specs.Equations.{value_of}
+use Rattle.vcd_dump.specs.declared.unit.TimeUnit.TheVariants.{Ns}
+use Rattle.vcd_dump.specs.Dump.{dump_text}
+use Rattle.vcd_dump.specs.Traces.{name_of}
+use Rattle.nullsim.specs.declared.source.Source.{Source}
+use Rattle.nullsim.specs.declared.view.View.{View}
+use Rattle.nullsim.specs.declared.view.Show.{Show}
+use Rattle.nullsim.specs.declared.view.Show.TheVariants.{All, Outputs}
+use Rattle.nullsim.specs.declared.fault.SimFault.{SimFault}
+use Rattle.nullsim.specs.declared.fault.SimFault.TheVariants.{Setting}
+use Rattle.nullsim.specs.declared.deck_run.DeckFault.{DeckFault}
+use Rattle.nullsim.specs.declared.deck_run.DeckFault.TheVariants.{Sim}
+use Rattle.nullsim.specs.Faults.{sim_of_bench, sim_of_build, deck_of_text}
+use Rattle.nullsim.specs.Deck.{Sections, sections_of}
+
+-- the texts and settings of a run
+pub record SourceView : Type 0 where
+  pub bench : List ℕ
+  pub delays : List ℕ
+  pub stimuli : List ℕ
+  pub default_delay : ℕ
+  pub period : ℕ
+
+abbrev pub seen_source : Source → SourceView
+seen_source s = record {
+  bench = s.bench.now;
+  delays = s.delays.now;
+  stimuli = s.stimuli.now;
+  default_delay = s.default_delay;
+  period = s.period;
+}
+
+-- the numbers of the nets that a dump shows, in its order
+abbrev pub shown_nets : Show → NetlistView → List ℕ
+shown_nets All netlist = range_with_len 0 (length netlist.nets)
+shown_nets Outputs netlist = netlist.outputs
+
+-- the names of nets, each with what the net shows at each tick
+abbrev pub signals_of : Circuit → List ℕ → List (List ℕ × (ℕ → Value))
+signals_of circuit nets = map (λ net. (name_of circuit net, value_of circuit net)) nets
+
+-- the dump of a circuit up to a horizon
+unfoldable pub text_of : View → ℕ → NetlistView → Circuit → List ℕ
+text_of view horizon netlist circuit = dump_text view.unit horizon (signals_of circuit (shown_nets view.show netlist))
+
+-- the same value, or the fault as another
+abbrev pub or_fault : {A F G : Type 0} → (F → G) → Result A F → Result A G
+or_fault lifted result = result_map_both (λ value. value) lifted result
+
+-- the answer to texts and settings: the dump, or the first fault
+unfoldable pub dump_of_source : SourceView → View → Result (List ℕ) SimFault
+dump_of_source source view = do
+  settings ← or_fault Setting (options_of source.default_delay source.period)
+  horizon ← or_fault Setting (horizon_of view.horizon)
+  netlist ← or_fault sim_of_bench (netlist_of source.bench)
+  circuit ← or_fault sim_of_build (circuit_of netlist source.delays source.stimuli source.default_delay source.period)
+  Ok (text_of view horizon netlist circuit)
+
+-- a deck's run has the default delay 1 and the period 10, and shows all nets in nanoseconds
+abbrev pub source_of_deck : Sections → SourceView
+source_of_deck s = record { bench = s.bench; delays = s.delays; stimuli = s.stimuli; default_delay = 1; period = 10 }
+
+abbrev pub view_of_deck : Sections → View
+view_of_deck s = record { horizon = s.horizon; show = All; unit = Ns }
+
+-- the answer to a deck: the dump, or the first fault
+unfoldable pub dump_of_deck : List ℕ → Result (List ℕ) DeckFault
+dump_of_deck text = do
+  sections ← or_fault deck_of_text (sections_of text)
+  or_fault Sim (dump_of_source (source_of_deck sections) (view_of_deck sections))

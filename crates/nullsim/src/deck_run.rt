@@ -1,0 +1,78 @@
+//! A run from one text.
+ghost use Rattle.std.specs.Prelude.{◌≡◌, IfErr, OnOk, IsOkAnd};
+ghost use Rattle.std.specs.Io.KnownBytes.{Appends};
+ghost use Rattle.nullsim.specs.declared.deck_run.DeckFault.TheVariants.{Sim};
+ghost use Rattle.nullsim.specs.Faults.{deck_of_text};
+ghost use Rattle.nullsim.specs.Run.{dump_of_deck};
+ghost use Rattle.nullsim.specs.Ends.{DeckEndsBy};
+
+use crate::fault::SimFault;
+use crate::plain_run::plain;
+use crate::sections::{DeckTextFault, read_sections};
+use crate::source::{Picks, Source};
+use crate::view::{Show, View};
+use std::alloc::Global;
+use std::io::Write;
+use thiserror::Error;
+use vcd_dump::TimeUnit;
+
+/// Why the run of a deck ended early. Lines count from 1.
+#[derive(Clone, Copy, Debug, PartialEq, Eq, Error)]
+pub enum DeckFault {
+    /// The text has more than 16,777,216 bytes.
+    #[error("TooLong")]
+    TooLong,
+    /// The first line that breaks a rule of decks.
+    #[error("BadDeck")]
+    BadDeck { line: u64 },
+    #[error("{0}")]
+    Sim(SimFault),
+}
+
+impl From<DeckTextFault> for DeckFault {
+    ghost from_gives = { λ fault e. e ≡ deck_of_text fault };
+
+    fn from(fault: DeckTextFault) -> DeckFault {
+        match fault {
+            DeckTextFault::TooLong => DeckFault::TooLong,
+            DeckTextFault::BadDeck { line } => DeckFault::BadDeck { line },
+        }
+    }
+}
+
+impl From<SimFault> for DeckFault {
+    ghost from_gives = { λ fault e. e ≡ Sim fault };
+
+    fn from(fault: SimFault) -> DeckFault {
+        DeckFault::Sim(fault)
+    }
+}
+
+/// Writes the dump of a deck's run: all nets, in nanoseconds. The default delay is 1, the period 10.
+///
+/// # Errors
+/// A refusal of the deck or of a section comes before the first byte is written. After a failed
+/// write or a want of memory a first part of the dump went out, which may be nothing.
+pub fn deck<W: Write>(alloc: Global, text: &[u8], out: &mut W) -> Result<(), DeckFault>
+    ensures ok { OnOk result (IsOkAnd (dump_of_deck text.now)
+        (Appends (W.contents out.old) (W.contents out.new))) }
+    ensures err { IfErr result (DeckEndsBy (dump_of_deck text.now)
+        (W.contents out.old) (W.contents out.new)) }
+{
+    let sections = read_sections(text)?;
+    let source = Source {
+        bench: sections.bench,
+        delays: sections.delays,
+        stimuli: sections.stimuli,
+        default_delay: 1,
+        period: 10,
+        picks: Picks::Nothing,
+    };
+    let view = View {
+        horizon: sections.horizon,
+        show: Show::All,
+        unit: TimeUnit::Ns,
+    };
+    plain(alloc, &source, &view, out)?;
+    Ok(())
+}

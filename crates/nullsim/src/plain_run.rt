@@ -1,0 +1,120 @@
+//! A run by the plain engine.
+ghost use Rattle.std.specs.Prelude.{◌≡◌, ◌<◌, map, length, All, IfOk, IfErr, OnOk, IsOkAnd};
+ghost use Rattle.std.specs.Io.KnownBytes.{Appends};
+ghost use Rattle.design.specs.Design.{IsDesign};
+ghost use Rattle.nullsim.specs.Run.{dump_of_source, seen_source, shown_nets, text_of};
+ghost use Rattle.nullsim.specs.Ends.{BreaksOff, EndsBy, IsRefusal};
+ghost use Rattle.nullsim.specs.Shown.{wave_at, waves_up_to};
+
+use crate::fault::SimFault;
+use crate::source::Source;
+use crate::view::{Show, View};
+use bench_text::read;
+use design::{Design, Horizon, options, plain_waves};
+use logic3::Waveform;
+use std::alloc::{AllocError, Global};
+use std::io::Write;
+use vcd_dump::dump;
+
+/// Writes the dump of a run.
+///
+/// # Errors
+/// A refusal of the settings or of a text comes before the first byte is written. After a failed
+/// write or a want of memory a first part of the dump went out, which may be nothing.
+pub fn plain<W: Write>(
+    alloc: Global,
+    source: &Source<'_>,
+    view: &View,
+    out: &mut W,
+) -> Result<(), SimFault>
+    ensures ok { OnOk result (IsOkAnd (dump_of_source (seen_source source.now) view.now)
+        (Appends (W.contents out.old) (W.contents out.new))) }
+    ensures err { IfErr result (EndsBy (dump_of_source (seen_source source.now) view.now)
+        (W.contents out.old) (W.contents out.new)) }
+{
+    let (design, horizon) = prepare(alloc, source, view)?;
+    write_dump(alloc, &design, horizon, view, out)
+}
+
+/// The design and the horizon of a run.
+fn prepare(alloc: Global, source: &Source<'_>, view: &View) -> Result<(Design, Horizon), SimFault>
+    ensures ok { IfOk result (λ ready. dump_of_source (seen_source source.now) view.now
+        ≡ Ok (text_of view.now ready.1 ready.0.netlist ready.0.circuit)) }
+    ensures err { IfErr result (IsRefusal (dump_of_source (seen_source source.now) view.now)) }
+{
+    options(source.default_delay, source.period)?;
+    let horizon = Horizon::new(view.horizon)?;
+    let netlist = read(alloc, source.bench)?;
+    let design = Design::build(
+        alloc,
+        netlist,
+        source.delays,
+        source.stimuli,
+        source.default_delay,
+        source.period,
+    )?;
+    Ok((design, horizon))
+}
+
+/// Writes the dump of a design up to a horizon.
+fn write_dump<W: Write>(
+    alloc: Global,
+    design: &Design,
+    horizon: Horizon,
+    view: &View,
+    out: &mut W,
+) -> Result<(), SimFault>
+    ensures ok { OnOk result (Appends (W.contents out.old) (W.contents out.new)
+        (text_of view.now horizon design.now.netlist design.now.circuit)) }
+    ensures err { IfErr result (BreaksOff (W.contents out.old) (W.contents out.new)
+        (text_of view.now horizon design.now.netlist design.now.circuit)) }
+{
+    let nets = shown_nets(alloc, design, view.show)?;
+    let waves = shown_waves(alloc, design, horizon, view.show, nets.as_slice())?;
+    let (nets, waves) = (nets.as_slice(), waves.as_slice());
+    dump(alloc, out, design, nets, waves, horizon, view.unit)?;
+    Ok(())
+}
+
+/// The numbers of the nets that are shown, in their order.
+fn shown_nets(alloc: Global, design: &Design, show: Show) -> Result<Vec<u32>, AllocError>
+    ensures nets { IfOk result (λ nets. nets.items ≡ shown_nets show design.now.netlist) }
+    ensures well_formed { IsDesign design.now }
+{
+    let nets = design.nets();
+    match show {
+        Show::All => (0..nets).collect(alloc),
+        Show::Outputs => Vec::from_slice(alloc, design.netlist().outputs()),
+    }
+}
+
+/// The waveforms of the nets that are shown.
+fn shown_waves(
+    alloc: Global,
+    design: &Design,
+    horizon: Horizon,
+    show: Show,
+    nets: &[u32],
+) -> Result<Vec<Waveform>, AllocError>
+    requires nets { nets.now ≡ shown_nets show design.now.netlist }
+    requires well_formed { IsDesign design.now }
+    ensures { IfOk result (λ waves. waves.items ≡ waves_up_to design.now.circuit horizon nets.now) }
+{
+    let waves = plain_waves(alloc, design, horizon)?;
+    match show {
+        Show::All => Ok(waves),
+        Show::Outputs => copies(alloc, waves.as_slice(), nets),
+    }
+}
+
+/// Copies of the waveforms of these nets.
+fn copies(alloc: Global, waves: &[Waveform], nets: &[u32]) -> Result<Vec<Waveform>, AllocError>
+    requires { All (λ net. net < length waves.now) nets.now }
+    ensures { IfOk result (λ copies. copies.items ≡ map (wave_at waves.now) nets.now) }
+{
+    let mut copies = Vec::with_capacity(alloc, nets.len())?;
+    for net in nets {
+        copies.push(waves[*net as usize].copy()?)?;
+    }
+    Ok(copies)
+}

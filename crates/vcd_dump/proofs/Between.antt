@@ -1,0 +1,67 @@
+-- Texts of numbers in a row, end to end.
+use Rattle.std.proofs.Common.{◌≡◌, ℕ, zero, suc, ◌+◌, ◌-◌, ◌<◌, ◌≤◌, List, [], ◌++◌, flat_map, refl, ap, sym, ◌∙◌, arith, append_assoc, append-nil}
+use Rattle.std.specs.List.{range_with_len}
+
+-- the texts of the numbers from one up to but not including another
+abbrev pub between : (ℕ → List ℕ) → ℕ → ℕ → List ℕ
+between text from to = flat_map text (range_with_len from (to - from))
+
+pub between-none : (text : ℕ → List ℕ) (from : ℕ) → between text from from ≡ []
+between-none text from = let none : from - from ≡ 0 = omega arith in rw none refl
+
+-- the first text
+pub between-first : (text : ℕ → List ℕ) (from to : ℕ) → from < to → between text from to ≡ text from ++ between text (from + 1) to
+between-first text from to h = let one : to - from ≡ suc (to - (from + 1)) = omega arith in rw one refl
+
+quiet : (text : ℕ → List ℕ) (from to gap : ℕ) → from + gap ≤ to → ((k : ℕ) → from ≤ k → k < from + gap → text k ≡ []) →
+    between text from to ≡ between text (from + gap) to
+quiet text from to zero h none = let same : from + zero ≡ from = omega arith in ap (λ k. between text k to) (sym same)
+quiet text from to (suc gap) h none =
+    let here : text from ≡ [] = none from (omega arith) (omega arith) in
+    let along : from + 1 + gap ≡ from + suc gap = omega arith in
+    between-first text from to (omega arith)
+    ∙ ap (λ xs. xs ++ between text (from + 1) to) here
+    ∙ quiet text (from + 1) to gap (omega arith) (λ k a b. none k (omega arith) (omega arith))
+    ∙ ap (λ k. between text k to) along
+
+-- where the first texts are empty the others are the whole
+pub between-quiet : (text : ℕ → List ℕ) (from mid to : ℕ) → from ≤ mid → mid ≤ to → ((k : ℕ) → from ≤ k → k < mid → text k ≡ []) →
+    between text from to ≡ between text mid to
+between-quiet text from mid to a b none =
+    let at : from + (mid - from) ≡ mid = omega arith in
+    quiet text from to (mid - from) (omega arith) (λ k c d. none k c (omega arith)) ∙ ap (λ k. between text k to) at
+
+split : (text : ℕ → List ℕ) (from to gap : ℕ) → from + gap ≤ to →
+    between text from to ≡ between text from (from + gap) ++ between text (from + gap) to
+split text from to zero h =
+    let same : from + zero ≡ from = omega arith in
+    rw same (sym (ap (λ xs. xs ++ between text from to) (between-none text from)))
+split text from to (suc gap) h =
+    let along : from + 1 + gap ≡ from + suc gap = omega arith in
+    between-first text from to (omega arith)
+    ∙ ap (λ xs. text from ++ xs) (split text (from + 1) to gap (omega arith))
+    ∙ sym (append_assoc (text from) (between text (from + 1) (from + 1 + gap)) (between text (from + 1 + gap) to))
+    ∙ ap (λ xs. xs ++ between text (from + 1 + gap) to) (sym (between-first text from (from + 1 + gap) (omega arith)))
+    ∙ ap (λ k. between text from k ++ between text k to) along
+
+-- two spans in a row
+pub between-split : (text : ℕ → List ℕ) (from mid to : ℕ) → from ≤ mid → mid ≤ to →
+    between text from to ≡ between text from mid ++ between text mid to
+between-split text from mid to a b =
+    let at : from + (mid - from) ≡ mid = omega arith in
+    split text from to (mid - from) (omega arith) ∙ ap (λ k. between text from k ++ between text k to) at
+
+-- one more text
+pub between-last : (text : ℕ → List ℕ) (from to : ℕ) → from ≤ to → between text from (to + 1) ≡ between text from to ++ text to
+between-last text from to h =
+    between-split text from to (to + 1) h (omega arith)
+    ∙ ap (λ xs. between text from to ++ xs)
+    (between-first text to (to + 1) (omega arith) ∙ ap (λ xs. text to ++ xs) (between-none text (to + 1)) ∙ append-nil (text to))
+
+-- the texts before and after one
+pub between-around : (text : ℕ → List ℕ) (from at to : ℕ) → from ≤ at → at < to →
+    between text from to ≡ between text from at ++ text at ++ between text (at + 1) to
+between-around text from at to a b =
+    between-split text from at to a (omega arith)
+    ∙ ap (λ xs. between text from at ++ xs) (between-first text at to b)
+    ∙ sym (append_assoc (between text from at) (text at) (between text (at + 1) to))

@@ -1,0 +1,9 @@
+pub use Rattle.bench_text.specs.Name
+pub use Rattle.bench_text.specs.Text
+pub use Rattle.logic3.specs.Wave
+pub use Rattle.design.specs.Circuit
+pub mod Bytes
+pub mod Dump
+pub mod Pending
+pub mod Traces
+pub mod Shown

@@ -1,0 +1,30 @@
+-- The shown nets of a circuit, with their names and waveforms.
+use Rattle.std.specs.Prelude.{ℕ, ◌≤◌, List, [], ◌∷◌, map, slice_get, All}
+use Rattle.std.specs.Option.{option_map_or}
+use Rattle.logic3.specs.declared.value.Value.{Value}
+use Rattle.logic3.specs.declared.value.Value.TheVariants.{Unknown}
+use Rattle.logic3.specs.declared.change.Change.{Change}
+use Rattle.logic3.specs.Wave.{Wave, value_at}
+use Rattle.design.specs.Circuit.{Net, Circuit}
+use Rattle.vcd_dump.specs.Dump.{Variable, variables_of}
+
+-- a waveform without changes after a tick
+abbrev pub EndsBy : ℕ → Wave → Type 0
+EndsBy tick wave = All (λ (change : Change). change.tick ≤ tick) wave.changes
+
+-- the name of a net, by its number
+abbrev pub name_of : Circuit → ℕ → List ℕ
+name_of circuit net = option_map_or (λ (n : Net). n.name) (slice_get circuit net) []
+
+-- the names of shown nets, each with what its waveform shows
+abbrev pub traces : Circuit → List ℕ → List Wave → List (List ℕ × (ℕ → Value))
+traces circuit (net ∷ shown) (wave ∷ waves) = (name_of circuit net, value_at wave) ∷ traces circuit shown waves
+traces circuit shown waves = []
+
+-- the shown nets as their declarations show them: what they show at a tick stands nowhere there
+abbrev pub named : Circuit → List ℕ → List Variable
+named circuit shown = variables_of (map (λ net. (name_of circuit net, λ tick. Unknown)) shown)
+
+-- the shown nets as the lines of times and changes show them: their names stand nowhere there
+abbrev pub unnamed : List Wave → List Variable
+unnamed waves = variables_of (map (λ wave. ([], value_at wave)) waves)

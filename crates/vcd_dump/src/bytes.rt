@@ -1,0 +1,25 @@
+ghost use Rattle.std.specs.Prelude.{◌≢◌, ◌<◌, length, OnOk, OnErr, IfErr};
+ghost use Rattle.std.specs.Io.KnownBytes.{Appends};
+ghost use Rattle.vcd_dump.specs.Bytes.{AppendsPrefix};
+
+use crate::fault::DumpFault;
+use std::io::Write;
+
+/// Writes the whole text, by as many calls of `write` as it takes. A fault ends the writing, also an
+/// interruption.
+pub fn write_all_bytes<W: Write>(out: &mut W, text: &[u8]) -> Result<(), DumpFault>
+    ensures ok { OnOk result (Appends (W.contents out.old) (W.contents out.new) text.now) }
+    ensures err { OnErr result (AppendsPrefix (W.contents out.old) (W.contents out.new) text.now) }
+    ensures some { OnErr result (0 < length text.now) }
+    ensures no_memory { IfErr result (λ fault. fault ≢ DumpFault.Memory) }
+{
+    let mut at = 0;
+    while at < text.len() {
+        match out.write(&text[at..]) {
+            Ok(0) => return Err(DumpFault::WroteNothing),
+            Ok(n) => at += n,
+            Err(_) => return Err(DumpFault::Write),
+        }
+    }
+    Ok(())
+}

@@ -1,0 +1,37 @@
+//! Facts about the definitions alone.
+ghost use Rattle.std.specs.Prelude.{◌≡◌, ◌≢◌, ℕ, ◌<◌, ◌≤◌, ◌^◌, List, ◌∷◌, ◌++◌, length, flat_map, All, AllPairs, Contains, Some, slice_get};
+ghost use Rattle.logic3.specs.declared.value.Value.{Value};
+ghost use Rattle.bench_text.specs.Text.{lines_of, words_of};
+ghost use Rattle.bench_text.specs.Name.{IsName};
+ghost use Rattle.vcd_dump.specs.declared.unit.TimeUnit.{TimeUnit};
+ghost use Rattle.vcd_dump.specs.Dump.{code_at, dump_keywords, dump_text};
+ghost use Rattle.vcd_dump.specs.Shown.{dump_tokens, shown_value};
+
+/// The identifier codes of distinct places differ.
+pub fn distinct_codes()
+    ensures { (first second : ℕ) → first ≢ second → code_at first ≢ code_at second }
+{}
+
+/// The code of a place below 100,000 has at most three characters, and is no keyword of a dump.
+pub fn codes_are_no_keywords()
+    ensures short { (place : ℕ) → place < 100_000 → length (code_at place) ≤ 3 }
+    ensures no_keyword { (place : ℕ) → place < 100_000 → ¬ Contains dump_keywords (code_at place) }
+{}
+
+/// The tokens of a text are those of its lines, end to end.
+pub fn tokens_of_lines()
+    ensures two_parts { (first second : List ℕ) →
+        dump_tokens (first ++ 10 ∷ second) ≡ dump_tokens first ++ dump_tokens second }
+    ensures all_lines { (text : List ℕ) → dump_tokens text ≡ flat_map words_of (lines_of text) }
+{}
+
+/// The dump of at most 100,000 distinct proper names shows for each of them its signal, at every
+/// tick up to the horizon.
+pub fn shown()
+    ensures { (unit : TimeUnit) (horizon : ℕ) (shown : List (List ℕ × (ℕ → Value)))
+        (place tick : ℕ) (name : List ℕ) (signal : ℕ → Value) →
+        length shown ≤ 100_000 → All (λ (name, signal). IsName name) shown →
+        AllPairs (λ (earlier, signal) (later, other). earlier ≢ later) shown →
+        slice_get shown place ≡ Some (name, signal) → tick ≤ horizon → horizon < 2 ^ 64 →
+        shown_value (dump_text unit horizon shown) name tick ≡ Some (signal tick) }
+{}

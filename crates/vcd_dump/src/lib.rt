@@ -1,0 +1,14 @@
+//! The text of a value change dump (IEEE 1364-2005).
+#![tactic(auto)]
+
+mod bytes;
+mod dumper;
+mod fault;
+pub mod laws;
+mod lines;
+mod pending;
+mod unit;
+
+pub use dumper::dump;
+pub use fault::DumpFault;
+pub use unit::TimeUnit;

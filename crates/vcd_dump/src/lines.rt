@@ -1,0 +1,105 @@
+ghost use Rattle.std.specs.Prelude.{◌≡◌, ◌++◌, OnOk};
+ghost use Rattle.vcd_dump.specs.Dump.{code_at, unit_text, value_text, heading, time_line, time_line_after, change_text, declaration_text};
+
+use crate::unit::TimeUnit;
+use itoa::Buffer;
+use logic3::Value;
+use std::alloc::AllocError;
+
+// The 94 characters of codes begin at '!'.
+const FIRST_CHARACTER: u8 = 33;
+
+const CHARACTERS: usize = 94;
+
+/// The word of a unit.
+pub fn unit_text(unit: TimeUnit) -> &'static [u8]
+    ensures { result.now ≡ unit_text unit }
+{
+    match unit {
+        TimeUnit::S => b"s",
+        TimeUnit::Ms => b"ms",
+        TimeUnit::Us => b"us",
+        TimeUnit::Ns => b"ns",
+        TimeUnit::Ps => b"ps",
+        TimeUnit::Fs => b"fs",
+    }
+}
+
+/// The character of a value.
+fn value_text(value: Value) -> &'static [u8]
+    ensures { result.now ≡ value_text value }
+{
+    match value {
+        Value::Zero => b"0",
+        Value::One => b"1",
+        Value::Unknown => b"x",
+    }
+}
+
+/// Adds the identifier code of a place.
+fn push_code(line: &mut Vec<u8>, place: usize) -> Result<(), AllocError>
+    ensures { OnOk result (line.new.items ≡ line.old.items ++ code_at place) }
+{
+    let mut rest = place;
+    loop {
+        line.push(FIRST_CHARACTER + (rest % CHARACTERS) as u8)?;
+        if rest < CHARACTERS {
+            return Ok(());
+        }
+        rest = rest / CHARACTERS - 1;
+    }
+}
+
+/// Adds the line of a time.
+pub fn push_time(line: &mut Vec<u8>, tick: u64) -> Result<(), AllocError>
+    ensures { OnOk result (line.new.items ≡ line.old.items ++ time_line tick) }
+{
+    let mut buffer = Buffer::new();
+    line.push(b'#')?;
+    line.extend_from_slice(buffer.format(tick).as_bytes())?;
+    line.push(b'\n')?;
+    Ok(())
+}
+
+/// Adds the line of a change.
+pub fn push_change(line: &mut Vec<u8>, value: Value, place: usize) -> Result<(), AllocError>
+    ensures { OnOk result (line.new.items ≡ line.old.items ++ change_text value (code_at place)) }
+{
+    line.extend_from_slice(value_text(value))?;
+    push_code(line, place)?;
+    line.push(b'\n')?;
+    Ok(())
+}
+
+/// Adds the declaration of a shown net.
+pub fn push_declaration(line: &mut Vec<u8>, place: usize, name: &[u8]) -> Result<(), AllocError>
+    ensures { OnOk result
+        (line.new.items ≡ line.old.items ++ declaration_text (code_at place) name.now) }
+{
+    line.extend_from_slice(b"$var wire 1 ")?;
+    push_code(line, place)?;
+    line.push(b' ')?;
+    line.extend_from_slice(name)?;
+    line.extend_from_slice(b" $end\n")?;
+    Ok(())
+}
+
+/// Adds the line of a time, where it is later than the time before.
+pub fn push_time_after(line: &mut Vec<u8>, before: u64, tick: u64) -> Result<(), AllocError>
+    ensures { OnOk result (line.new.items ≡ line.old.items ++ time_line_after before tick) }
+{
+    if before < tick {
+        push_time(line, tick)?;
+    }
+    Ok(())
+}
+
+/// Adds the lines before the declarations of the shown nets.
+pub fn push_heading(line: &mut Vec<u8>, unit: TimeUnit) -> Result<(), AllocError>
+    ensures { OnOk result (line.new.items ≡ line.old.items ++ heading unit) }
+{
+    line.extend_from_slice(b"$version nullsim 1 $end\n$timescale 1 ")?;
+    line.extend_from_slice(unit_text(unit))?;
+    line.extend_from_slice(b" $end\n$scope module top $end\n")?;
+    Ok(())
+}
