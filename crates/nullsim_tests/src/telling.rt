@@ -1,9 +1,10 @@
 //! Decks through `tell`: dumps byte for byte, exit statuses and fault lines, faulty streams.
-use nullsim::tell;
+use nullsim::{Picks, Show, Source, View, plain, tell};
 use std::alloc::Global;
 use std::io::{self, ErrorKind, Read, Write};
 use std::process::Abort;
 use std::test::Fail;
+use vcd_dump::TimeUnit;
 
 // What `tell` answers to a deck: its exit status, and these bytes on the two streams.
 fn tells(rt: &impl Abort, alloc: Global, deck: &[u8], status: u8, dump: &[u8], fault: &[u8]) {
@@ -248,4 +249,36 @@ fn many_codes(rt: HostRuntime) -> Result<(), Fail> {
         assert!(rt; out.windows(line.len()).any(|part| part == line));
     }
     Ok(())
+}
+
+// The dump of the outputs of a circuit, in picoseconds, up to tick 5.
+fn dumps_outputs(rt: &impl Abort, alloc: Global, bench: &[u8], stimuli: &[u8], dump: &[u8]) {
+    let source = Source {
+        bench,
+        delays: b"",
+        stimuli,
+        default_delay: 1,
+        period: 10,
+        picks: Picks::Nothing,
+    };
+    let view = View {
+        horizon: 5,
+        show: Show::Outputs,
+        unit: TimeUnit::Ps,
+    };
+    let mut out = Vec::new(alloc);
+    assert_eq!(rt; plain(alloc, &source, &view, &mut out), Ok(()));
+    assert!(rt; out.as_slice() == dump);
+}
+
+#[test]
+fn outputs_only(rt: HostRuntime) {
+    let inverter = b"INPUT(a)\nOUTPUT(y)\ny = NOT(a)\n";
+    let dump =
+        b"$version nullsim 1 $end\n$timescale 1 ps $end\n$scope module top $end\n$var wire 1 ! y $end\n$upscope $end\n$enddefinitions $end\n#0\n$dumpvars\nx!\n$end\n#1\n1!\n#4\n0!\n#5\n";
+    assert_eq!(rt; dump.len(), 160);
+    dumps_outputs(&rt, rt.alloc(), inverter, b"0 a 0\n3 a 1\n", dump);
+    let none =
+        b"$version nullsim 1 $end\n$timescale 1 ps $end\n$scope module top $end\n$upscope $end\n$enddefinitions $end\n#0\n$dumpvars\n$end\n#5\n";
+    dumps_outputs(&rt, rt.alloc(), b"INPUT(a)", b"", none);
 }
