@@ -9,6 +9,7 @@ pub mod NewName
 pub mod Numbers
 pub mod Places
 pub mod ProperNames
+pub mod ReadNetlist
 pub mod Scan
 pub mod SeenNames
 pub mod WellFormed

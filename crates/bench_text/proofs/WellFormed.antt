@@ -9,14 +9,14 @@ use Rattle.std.proofs.lemmas.List.Elements.{All-nil, All-cons, All-head, All-tai
 use Rattle.std.proofs.lemmas.List.Folds.{fold-map}
 use Rattle.bench_text.specs.declared.fault.BenchFault.TheVariants.{Undefined}
 use Rattle.bench_text.specs.Line.{Statement, defines, names_output, takes_pins}
-use Rattle.bench_text.specs.Netlist.{NetView, Definition, definition_in, uses_in, output_in, defined_names, undefined_fault, place_of, distinct, netlist_with, IsNetlist}
+use Rattle.bench_text.specs.Netlist.{NetView, Definition, definition_in, uses_in, output_in, defined_names, undefined_fault, place_of, netlist_with, IsNetlist}
 use Rattle.bench_text.specs.Name.{IsName, IsStatement}
 use Rattle.bench_text.specs.Names.{IsNames}
 use Rattle.bench_text.proofs.Among.{list_any-place}
 use Rattle.bench_text.proofs.Distinct.{All-distinct, AllPairs-distinct}
 use Rattle.bench_text.proofs.Wired.{undefined_fault-append}
 
-both_None : {A : Type 0} (first second : Option A) → option_or first second ≡ None → (first ≡ None) × (second ≡ None)
+pub both_None : {A : Type 0} (first second : Option A) → option_or first second ≡ None → (first ≡ None) × (second ≡ None)
 both_None (Some x) second e = cc
 both_None None second e = (refl, e)
 

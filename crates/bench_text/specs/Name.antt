@@ -1,5 +1,5 @@
 -- Names of nets.
-use Rattle.std.specs.Prelude.{◌≡◌, ◌≢◌, ℕ, ◌<◌, ◌≤◌, ◌==◌, ◌&&◌, not, Bool, IsTrue, true, List, length, All, codes, slice_index}
+use Rattle.std.specs.Prelude.{◌≢◌, ℕ, ◌<◌, ◌≤◌, ◌==◌, ◌&&◌, not, Bool, IsTrue, List, length, All, codes, slice_index}
 use Rattle.std.specs.List.{list_any}
 use Rattle.std.specs.Char.{is_ascii_graphic}
 use Rattle.bench_text.specs.Line.{Statement, defines, names_output, takes_pins}

@@ -1,7 +1,6 @@
 -- The netlist of a .bench text.
-use Rattle.std.specs.Prelude.{◌≢◌, ℕ, ◌<◌, ◌≤◌, ◌==◌, ◌||◌, ◌&&◌, not, nat_lt, Bool, IsTrue, if◌then◌else◌, List, [], ◌∷◌, length, take, map, filter, flat_map, filter_map, find, position, sum_by, option_map, Option, None, Some, Result, Ok, Err, All, AllPairs, codes, bytes_eq, slice_index, slice_index_or}
+use Rattle.std.specs.Prelude.{◌≢◌, ℕ, ◌<◌, ◌≤◌, ◌==◌, ◌||◌, not, nat_lt, Bool, IsTrue, if◌then◌else◌, List, [], ◌∷◌, length, take, map, filter, flat_map, filter_map, find, position, sum_by, option_map, Option, None, Some, Result, Ok, Err, All, AllPairs, bytes_eq, slice_index_or}
 use Rattle.std.specs.List.{list_any, position_or_len, enumerate_from}
-use Rattle.std.specs.Char.{is_ascii_graphic}
 use Rattle.std.specs.Option.{option_or}
 use Rattle.bench_text.specs.declared.part.Part.{Part}
 use Rattle.bench_text.specs.declared.part.Part.TheVariants.{Input}

@@ -1,5 +1,5 @@
 -- The design that a netlist makes with its texts and settings.
-use Rattle.std.proofs.Common.{◌≡◌, ◌≢◌, ℕ, ◌≤◌, Bool, true, false, cond, not, List, [], ◌∷◌, length, map, Option, None, Some, Result, Ok, Err, All, refl, ap, sym, ◌∙◌}
+use Rattle.std.proofs.Common.{◌≡◌, ◌≢◌, ℕ, ◌≤◌, Bool, true, false, cond, not, List, [], ◌∷◌, length, map, Option, None, Some, Result, Ok, Err, All, refl, ap, sym, subst, ◌∙◌}
 use Rattle.std.specs.Result.{result_map_both}
 use Rattle.std.specs.Option.{option_map_or}
 use Rattle.std.proofs.lemmas.Bool.{and_parts, leb-true}
@@ -14,9 +14,10 @@ use Rattle.design.specs.declared.fault.DelayFault.{DelayFault}
 use Rattle.design.specs.declared.fault.DelayFault.TheVariants as delay
 use Rattle.design.specs.declared.fault.StimulusFault.{StimulusFault}
 use Rattle.design.specs.declared.fault.StimulusFault.TheVariants as stimulus
+use Rattle.design.specs.declared.fault.BuildFault.{BuildFault}
 use Rattle.design.specs.declared.fault.BuildFault.TheVariants.{Setting, Timing, Stimulus, Memory}
-use Rattle.design.specs.Circuit.{Net, Circuit, IsTimed, most_delay, most_ticks}
-use Rattle.design.specs.Design.{IsDesign, untimed}
+use Rattle.design.specs.Circuit.{Circuit, IsTimed, most_delay, most_ticks}
+use Rattle.design.specs.Design.{DesignView, IsDesign, untimed}
 use Rattle.design.specs.Joined.{timed_nets, design_view, first_pins_of, IsJoined}
 use Rattle.design.specs.Options.{is_in_limits, option_fault, options_of}
 use Rattle.design.specs.Delays.{DelayLine, delays_of, net_delays, delay_of_net}
@@ -166,22 +167,53 @@ module _ (netlist : NetlistView) (delay_text stimulus_text : List ℕ) (default 
       let changes = refused_by (net_stimuli netlist) (stimuli_of netlist stimulus_text) fault (refused other.0) in
       rw (none, lines.1, changes) (ap Err other.1)
 
--- ---- a law of the definition
+-- ---- laws of the definition
 
--- a circuit has the names, the parts and the pins of its netlist's nets
-pub untimed-circuit_of : (netlist : NetlistView) (delay_text stimulus_text : List ℕ) (default period : ℕ) (circuit : Circuit) →
-    circuit_of netlist delay_text stimulus_text default period ≡ Ok circuit → map untimed circuit ≡ netlist.nets
-untimed-circuit_of netlist delay_text stimulus_text default period circuit =
-    go (option_fault default period) (delays_of netlist delay_text) (stimuli_of netlist stimulus_text)
+-- a circuit that is made of a well-formed netlist makes a design with it
+pub IsDesign-circuit_of : (netlist : NetlistView) (delay_text stimulus_text : List ℕ) (default period : ℕ) (circuit : Circuit) → IsNetlist netlist →
+    circuit_of netlist delay_text stimulus_text default period ≡ Ok circuit → IsDesign (record { netlist = netlist; circuit = circuit })
+IsDesign-circuit_of netlist delay_text stimulus_text default period circuit ok =
+    go (option_fault default period) (delays_of netlist delay_text) (stimuli_of netlist stimulus_text) refl refl refl
   where
+    made : (lines : List DelayLine) (changes : List NamedChange) → option_fault default period ≡ None → delays_of netlist delay_text ≡ Ok lines →
+        stimuli_of netlist stimulus_text ≡ Ok changes →
+        IsDesign (record { netlist = netlist; circuit = circuit_with netlist lines changes default period })
+    made lines changes none lines_are changes_are =
+        let given : IsGiven netlist delay_text stimulus_text default period (net_delays netlist default lines) (net_stimuli netlist changes) = record {
+          lines = lines;
+          changes = changes;
+          no_fault = none;
+          lines_are = lines_are;
+          changes_are = changes_are;
+          delays_are = refl;
+          stimuli_are = refl;
+        } in
+        record {
+          netlist = ok;
+          same_nets = untimed-timed (delay_of_net default lines) (λ (net : NetView). stimuli_named changes net.name) period netlist.nets;
+          timed = all_timed given ok;
+        }
+
     go : (fault : Option OptionFault) (lines : Result (List DelayLine) DelayFault) (changes : Result (List NamedChange) StimulusFault) →
+        option_fault default period ≡ fault → delays_of netlist delay_text ≡ lines → stimuli_of netlist stimulus_text ≡ changes →
         option_map_or (λ f. Err (Setting f)) fault (result_map_both (λ x. x) Timing lines
         >>= λ ls. result_map_both (λ x. x) Stimulus changes >>= λ cs. Ok (circuit_with netlist ls cs default period)) ≡ Ok circuit →
-        map untimed circuit ≡ netlist.nets
-    go (Some f) lines changes e = absurd (cc)
-    go None (Err f) changes e = absurd (cc)
-    go None (Ok lines) (Err f) e = absurd (cc)
-    go None (Ok lines) (Ok changes) e =
-        let same : circuit ≡ circuit_with netlist lines changes default period = cc in
-        ap (map untimed) same
-        ∙ untimed-timed (delay_of_net default lines) (λ (net : NetView). stimuli_named changes net.name) period netlist.nets
+        IsDesign (record { netlist = netlist; circuit = circuit })
+    go (Some f) lines changes a b c e = absurd (cc)
+    go None (Err f) changes a b c e = absurd (cc)
+    go None (Ok lines) (Err f) a b c e = absurd (cc)
+    go None (Ok lines) (Ok changes) a b c e =
+        let same : circuit_with netlist lines changes default period ≡ circuit = cc in
+        subst (λ nets. IsDesign (record { netlist = netlist; circuit = nets })) same (made lines changes a b c)
+
+pub IsDesign-design_of : (netlist : NetlistView) (delay_text stimulus_text : List ℕ) (default period : ℕ) (design : DesignView) → IsNetlist netlist →
+    design_of netlist delay_text stimulus_text default period ≡ Ok design → IsDesign design
+IsDesign-design_of netlist delay_text stimulus_text default period design ok =
+    go (circuit_of netlist delay_text stimulus_text default period) (IsDesign-circuit_of netlist delay_text stimulus_text default period)
+  where
+    go : (made : Result Circuit BuildFault) →
+        ((circuit : Circuit) → IsNetlist netlist → made ≡ Ok circuit → IsDesign (record { netlist = netlist; circuit = circuit })) →
+        ◌≡◌ {A = Result DesignView BuildFault} (made >>= λ circuit. Ok (record { netlist = netlist; circuit = circuit })) (Ok design) → IsDesign design
+    go (Ok circuit) formed e =
+        let same : ◌≡◌ {A = DesignView} (record { netlist = netlist; circuit = circuit }) design = cc in subst IsDesign same (formed circuit ok refl)
+    go (Err fault) formed e = cc

@@ -7,7 +7,7 @@ use Rattle.bench_text.specs.declared.part.Part.{Part}
 use Rattle.bench_text.specs.declared.part.Part.TheVariants.{Input, Gate, Flop}
 use Rattle.design.specs.Circuit.{Net, Circuit, IsCircuit, HasDelay, IsTimed}
 use Rattle.design.specs.Equations.{equation_of_part, equation_at, IsSolution, value_within, value_of}
-use Rattle.design.proofs.WellFormed.{All-slice_get}
+use Rattle.design.proofs.WellFormed.{timed_at}
 
 -- signals that agree at a tick give the same list there
 same_at : (f g : ℕ → ℕ → Value) (tick : ℕ) (pins : List ℕ) → ((pin : ℕ) → f pin tick ≡ g pin tick) →
@@ -16,7 +16,7 @@ same_at f g tick [] h = refl
 same_at f g tick (pin ∷ pins) h = let a = h pin in let b = same_at f g tick pins h in cc
 
 -- where a test fails the two sides may differ only behind it
-behind : {A : Type 0} (test : Bool) (x y z : A) → (test ≡ false → y ≡ z) → cond test x y ≡ cond test x z
+pub behind : {A : Type 0} (test : Bool) (x y z : A) → (test ≡ false → y ≡ z) → cond test x y ≡ cond test x z
 behind true x y z h = refl
 behind false x y z h = h refl
 
@@ -42,9 +42,6 @@ same_at_place : (place : Option Net) (f g : ℕ → ℕ → Value) (tick : ℕ) 
 same_at_place None f g tick timed h = refl
 same_at_place (Some net) f g tick timed h =
     let ok = timed net refl in same_equation net.part net f g tick ok.delay ok.period.0 h
-
-timed_at : (circuit : Circuit) → IsCircuit circuit → (number : ℕ) (net : Net) → slice_get circuit number ≡ Some net → IsTimed net
-timed_at circuit ok number net at = All-slice_get IsTimed circuit number net ok.timed at
 
 -- any solution is what the equations give within enough ticks
 within_solution : (circuit : Circuit) → IsCircuit circuit → (signals : ℕ → ℕ → Value) → IsSolution circuit signals →

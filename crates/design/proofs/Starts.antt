@@ -1,13 +1,13 @@
 -- The first pins of the nets, as a design stores them.
-use Rattle.std.proofs.Common.{◌≡◌, ℕ, zero, suc, ◌+◌, ◌-◌, ◌<◌, ◌≤◌, ◌⊎◌, inl, inr, nat_le, nat_lt, Bool, true, false, cond, List, [], ◌∷◌, length, map, sum, get_or, refl, ap, sym, ◌∙◌, arith, suc-add}
+use Rattle.std.proofs.Common.{◌≡◌, ℕ, zero, suc, ◌+◌, ◌-◌, ◌<◌, ◌≤◌, ◌⊎◌, inl, inr, nat_le, nat_lt, true, false, List, [], ◌∷◌, length, map, get_or, refl, ap, sym, ◌∙◌, arith, suc-add}
 use Rattle.std.specs.List.{sum_by}
 use Rattle.std.specs.List.Sorted.{IsPartitionPoint, IsNonDecreasing}
 use Rattle.std.proofs.lemmas.List.{length-map, get_or-map}
-use Rattle.std.proofs.lemmas.List.Sums.{sum_by-cons, sum-map}
-use Rattle.std.proofs.lemmas.Simd.{map-map}
+use Rattle.std.proofs.lemmas.List.Sums.{sum_by-cons}
 use Rattle.std.proofs.lemmas.Bool.{cases_lt, lt-ltb, le-ltb, le-leb, leb-true}
 use Rattle.design.specs.Circuit.{Net, Circuit, pin_count}
 use Rattle.bench_text.specs.Netlist.{NetView, NetlistView, IsNetlist, net_at}
+use Rattle.bench_text.proofs.WellFormed.{sum_by-map}
 use Rattle.design.specs.Joined.{starts_from, first_pins_of}
 use Rattle.design.specs.Pins.{first_pin, net_of_pin}
 use Rattle.design.proofs.Numbers.{pin_count-cons}
@@ -106,9 +106,6 @@ net_of_pin-partition (net ∷ circuit) first pin (suc after) le less inside poin
         rw (others, left) (ap suc (later late))
 
 -- ---- the first pins of a netlist
-
-sum_by-map : {A B : Type 0} (f : B → ℕ) (g : A → B) (xs : List A) → sum_by f (map g xs) ≡ sum_by (λ x. f (g x)) xs
-sum_by-map f g xs = sym (sum-map f (map g xs)) ∙ ap sum (map-map f g xs) ∙ sum-map (λ x. f (g x)) xs
 
 pub length-first_pins_of : (netlist : NetlistView) → length (first_pins_of netlist) ≡ length netlist.nets + 1
 length-first_pins_of netlist =

@@ -18,6 +18,14 @@ pub All-slice_get : {A : Type 0} (P : A → Type 0) (xs : List A) (place : ℕ) 
 All-slice_get P xs place x all at =
     subst P (get_or_from_slice_get xs place x x at) (all place x (slice_get_within xs place x at))
 
+-- what a circuit keeps of the net at a place
+pub timed_at : (circuit : Circuit) → IsCircuit circuit → (number : ℕ) (net : Net) → slice_get circuit number ≡ Some net → IsTimed net
+timed_at circuit ok number net at = All-slice_get IsTimed circuit number net ok.timed at
+
+pub pins_at : (circuit : Circuit) → IsCircuit circuit → (number : ℕ) (net : Net) → slice_get circuit number ≡ Some net →
+    All (λ pin. pin < length circuit) net.pins
+pins_at circuit ok number net at = All-slice_get (λ (n : Net). All (λ pin. pin < length circuit) n.pins) circuit number net ok.pins at
+
 -- what holds of each image holds of what it is the image of
 All-unmap : {A B : Type 0} (P : B → Type 0) (f : A → B) (xs : List A) → All P (map f xs) → All (λ x. P (f x)) xs
 All-unmap P f xs all place d below =

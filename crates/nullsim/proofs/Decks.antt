@@ -14,7 +14,7 @@ use Rattle.nullsim.specs.declared.deck_run.DeckFault.TheVariants.{Sim}
 use Rattle.nullsim.specs.Deck.{Sections, sections_of}
 use Rattle.nullsim.specs.Ends.{WritesPart, EndsBy, DeckEndsBy}
 use Rattle.nullsim.specs.Faults.{deck_of_text}
-use Rattle.nullsim.specs.Run.{dump_of_source, dump_of_deck, or_fault, source_of_deck, text_of, view_of_deck}
+use Rattle.nullsim.specs.Run.{design_of_source, dump_of_source, dump_of_deck, or_fault, source_of_deck, text_of, view_of_deck}
 use Rattle.nullsim.specs.Seen.{held, on_sections}
 
 -- a horizon past a `u64` is refused as the largest `u64` is
@@ -28,7 +28,7 @@ horizon_of-held horizon = go (cases_lt most_ticks horizon)
 -- so the sections as the code holds them have the same answer
 dump_of_source-held : (s : Sections) →
     dump_of_source (source_of_deck (held s)) (view_of_deck (held s)) ≡ dump_of_source (source_of_deck s) (view_of_deck s)
-unfolding dump_of_source text_of
+unfolding dump_of_source design_of_source text_of
 dump_of_source-held s = rw (horizon_of-held s.horizon) refl
 
 -- the answer to a deck whose sections the code found

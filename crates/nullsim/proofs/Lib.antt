@@ -11,4 +11,5 @@ pub mod Rows
 pub mod Rules
 pub mod Signals
 pub mod Told
+pub mod Viewed
 pub mod Words

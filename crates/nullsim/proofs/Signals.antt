@@ -6,8 +6,8 @@ use Rattle.logic3.specs.Value.{is_same}
 use Rattle.logic3.specs.Wave.{Wave, value_at, wave_of}
 use Rattle.logic3.proofs.Waves.{value_at-wave_of}
 use Rattle.bench_text.specs.Text.{is_empty}
-use Rattle.bench_text.specs.Netlist.{NetlistView}
 use Rattle.design.specs.Circuit.{Circuit}
+use Rattle.design.specs.Design.{DesignView}
 use Rattle.design.specs.Equations.{value_of}
 use Rattle.vcd_dump.specs.declared.unit.TimeUnit.{TimeUnit}
 use Rattle.vcd_dump.specs.Dump.{Variable, code_at, variable_at, declaration, change_text, change_line, time_line, changes_at, lines_at, dump_text}
@@ -76,11 +76,11 @@ dump_text-waves unit horizon circuit nets =
     (λ net tick within. value_at-wave_of (value_of circuit net) 0 (horizon + 1) tick (omega arith) (omega arith)) nets unit
 
 -- so what is dumped of the shown nets' waveforms is the answer's text
-pub text_of-waves : (view : View) (horizon : ℕ) (netlist : NetlistView) (circuit : Circuit) (nets : List ℕ) (waves : List Wave) →
-    nets ≡ shown_nets view.show netlist → waves ≡ waves_up_to circuit horizon nets →
-    dump_text view.unit horizon (traces circuit nets waves) ≡ text_of view horizon netlist circuit
+pub text_of-waves : (view : View) (horizon : ℕ) (design : DesignView) (nets : List ℕ) (waves : List Wave) →
+    nets ≡ shown_nets view.show design.netlist → waves ≡ waves_up_to design.circuit horizon nets →
+    dump_text view.unit horizon (traces design.circuit nets waves) ≡ text_of view horizon design
 unfolding text_of
-text_of-waves view horizon netlist circuit nets waves are show =
-    ap (λ ws. dump_text view.unit horizon (traces circuit nets ws)) show
-    ∙ dump_text-waves view.unit horizon circuit nets
-    ∙ ap (λ ns. dump_text view.unit horizon (signals_of circuit ns)) are
+text_of-waves view horizon design nets waves are show =
+    ap (λ ws. dump_text view.unit horizon (traces design.circuit nets ws)) show
+    ∙ dump_text-waves view.unit horizon design.circuit nets
+    ∙ ap (λ ns. dump_text view.unit horizon (signals_of design.circuit ns)) are

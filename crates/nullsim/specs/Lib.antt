@@ -6,3 +6,4 @@ pub mod Run
 pub mod Seen
 pub mod Shown
 pub mod Tell
+pub mod Viewed

@@ -7,7 +7,8 @@ use Rattle.bench_text.specs.Text.{◌>>=◌}
 use Rattle.bench_text.specs.Netlist.{NetlistView, netlist_of}
 use Rattle.design.specs.Options.{options_of, horizon_of}
 use Rattle.design.specs.Circuit.{Circuit}
-use Rattle.design.specs.Build.{circuit_of}
+use Rattle.design.specs.Design.{DesignView}
+use Rattle.design.specs.Build.{design_of}
 use Rattle.design.specs.Equations.{value_of}
 use Rattle.vcd_dump.specs.declared.unit.TimeUnit.TheVariants.{Ns}
 use Rattle.vcd_dump.specs.Dump.{dump_text}
@@ -49,22 +50,28 @@ shown_nets Outputs netlist = netlist.outputs
 abbrev pub signals_of : Circuit → List ℕ → List (List ℕ × (ℕ → Value))
 signals_of circuit nets = map (λ net. (name_of circuit net, value_of circuit net)) nets
 
--- the dump of a circuit up to a horizon
-unfoldable pub text_of : View → ℕ → NetlistView → Circuit → List ℕ
-text_of view horizon netlist circuit = dump_text view.unit horizon (signals_of circuit (shown_nets view.show netlist))
+-- the dump of a design up to a horizon
+unfoldable pub text_of : View → ℕ → DesignView → List ℕ
+text_of view horizon design = dump_text view.unit horizon (signals_of design.circuit (shown_nets view.show design.netlist))
 
 -- the same value, or the fault as another
 abbrev pub or_fault : {A F G : Type 0} → (F → G) → Result A F → Result A G
 or_fault lifted result = result_map_both (λ value. value) lifted result
 
+-- the horizon and the design that settings and texts make, or the first fault
+unfoldable pub design_of_source : SourceView → ℕ → Result (ℕ × DesignView) SimFault
+design_of_source source ticks = do
+  settings ← or_fault Setting (options_of source.default_delay source.period)
+  horizon ← or_fault Setting (horizon_of ticks)
+  netlist ← or_fault sim_of_bench (netlist_of source.bench)
+  design ← or_fault sim_of_build (design_of netlist source.delays source.stimuli source.default_delay source.period)
+  Ok (horizon, design)
+
 -- the answer to texts and settings: the dump, or the first fault
 unfoldable pub dump_of_source : SourceView → View → Result (List ℕ) SimFault
 dump_of_source source view = do
-  settings ← or_fault Setting (options_of source.default_delay source.period)
-  horizon ← or_fault Setting (horizon_of view.horizon)
-  netlist ← or_fault sim_of_bench (netlist_of source.bench)
-  circuit ← or_fault sim_of_build (circuit_of netlist source.delays source.stimuli source.default_delay source.period)
-  Ok (text_of view horizon netlist circuit)
+  ready ← design_of_source source view.horizon
+  Ok (text_of view ready.0 ready.1)
 
 -- a deck's run has the default delay 1 and the period 10, and shows all nets in nanoseconds
 abbrev pub source_of_deck : Sections → SourceView

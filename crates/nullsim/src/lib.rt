@@ -4,6 +4,7 @@
 mod deck_run;
 mod fault;
 mod input;
+pub mod laws;
 mod plain_run;
 mod sections;
 mod source;

@@ -1,10 +1,11 @@
 //! A run by the plain engine.
-ghost use Rattle.std.specs.Prelude.{◌≡◌, ◌<◌, map, length, All, IfOk, IfErr, OnOk, IsOkAnd};
+ghost use Rattle.std.specs.Prelude.{◌≡◌, ◌<◌, [], map, length, All, Some, IfOk, IfErr, IfSome, OnOk, IsOkAnd};
 ghost use Rattle.std.specs.Io.KnownBytes.{Appends};
 ghost use Rattle.design.specs.Design.{IsDesign};
-ghost use Rattle.nullsim.specs.Run.{dump_of_source, seen_source, shown_nets, text_of};
+ghost use Rattle.nullsim.specs.Run.{design_of_source, dump_of_source, seen_source, shown_nets, text_of};
 ghost use Rattle.nullsim.specs.Ends.{BreaksOff, EndsBy, IsRefusal};
 ghost use Rattle.nullsim.specs.Shown.{wave_at, waves_up_to};
+ghost use Rattle.nullsim.specs.Viewed.{ShowsValues};
 
 use crate::fault::SimFault;
 use crate::source::Source;
@@ -18,6 +19,8 @@ use vcd_dump::dump;
 
 /// Writes the dump of a run.
 ///
+/// The text that goes out shows each shown net's value at every tick, as the equations give it.
+///
 /// # Errors
 /// A refusal of the settings or of a text comes before the first byte is written. After a failed
 /// write or a want of memory a first part of the dump went out, which may be nothing.
@@ -29,6 +32,9 @@ pub fn plain<W: Write>(
 ) -> Result<(), SimFault>
     ensures ok { OnOk result (IsOkAnd (dump_of_source (seen_source source.now) view.now)
         (Appends (W.contents out.old) (W.contents out.new))) }
+    ensures shows { OnOk result (W.contents out.old ≡ Some [] → IfSome (W.contents out.new) (λ text.
+        IsOkAnd (design_of_source (seen_source source.now) view.now.horizon)
+        (λ ready. ShowsValues view.now ready.1 text))) }
     ensures err { IfErr result (EndsBy (dump_of_source (seen_source source.now) view.now)
         (W.contents out.old) (W.contents out.new)) }
 {
@@ -38,8 +44,8 @@ pub fn plain<W: Write>(
 
 /// The design and the horizon of a run.
 fn prepare(alloc: Global, source: &Source<'_>, view: &View) -> Result<(Design, Horizon), SimFault>
-    ensures ok { IfOk result (λ ready. dump_of_source (seen_source source.now) view.now
-        ≡ Ok (text_of view.now ready.1 ready.0.netlist ready.0.circuit)) }
+    ensures ok { IfOk result (λ ready. design_of_source (seen_source source.now) view.now.horizon
+        ≡ Ok (ready.1, ready.0)) }
     ensures err { IfErr result (IsRefusal (dump_of_source (seen_source source.now) view.now)) }
 {
     options(source.default_delay, source.period)?;
@@ -65,9 +71,9 @@ fn write_dump<W: Write>(
     out: &mut W,
 ) -> Result<(), SimFault>
     ensures ok { OnOk result (Appends (W.contents out.old) (W.contents out.new)
-        (text_of view.now horizon design.now.netlist design.now.circuit)) }
+        (text_of view.now horizon design.now)) }
     ensures err { IfErr result (BreaksOff (W.contents out.old) (W.contents out.new)
-        (text_of view.now horizon design.now.netlist design.now.circuit)) }
+        (text_of view.now horizon design.now)) }
 {
     let nets = shown_nets(alloc, design, view.show)?;
     let waves = shown_waves(alloc, design, horizon, view.show, nets.as_slice())?;

@@ -1,7 +1,7 @@
 use Rattle.std.proofs.Common.{sym}
 use Rattle.std.proofs.lemmas.Result.{err_from_is_err_and}
 use Rattle.nullsim.specs.Run.{seen_source}
-use Rattle.nullsim.proofs.Answer.{IsRefusal-bench, IsRefusal-build, dump_of_source-bad_settings, dump_of_source-bad_horizon, dump_of_source-bad_bench, dump_of_source-bad_texts, dump_of_source-good}
+use Rattle.nullsim.proofs.Answer.{IsRefusal-bench, IsRefusal-build, dump_of_source-bad_settings, dump_of_source-bad_horizon, dump_of_source-bad_bench, dump_of_source-bad_texts, design_of_source-good}
 use Rattle.nullsim.proofs.plain_run.prepare.Goals as goal
 
 pub returns-in_err-options-clause-err : goal.returns-in_err-options-clause-err
@@ -28,5 +28,5 @@ returns-in_err-design-clause-err c =
 
 pub returns-clause-ok : goal.returns-clause-ok
 returns-clause-ok c =
-    dump_of_source-good (seen_source c.args.source.now) c.args.view.now _ (sym c.in_ok-options.ensures)
+    design_of_source-good (seen_source c.args.source.now) c.args.view.now _ (sym c.in_ok-options.ensures)
     _ (sym c.in_ok-horizon.ensures) _ (sym (c.in_ok-netlist.ensures (λ e. (cc)))) _ (sym (c.in_ok-design.ensures (λ e. (cc))))

@@ -28,7 +28,7 @@ pub returns-in_err-dump-clause-err : goal.returns-in_err-dump-clause-err
 returns-in_err-dump-clause-err g c =
     let p = err_from_is_err_and c.from_residual-in_err-dump.result c.from_residual-in_err-dump.ensures.1 in
     let same = sym (c.as_slice-nets.ensures.value ∙ sym c.as_slice.ensures.value) in
-    let text = text_of-waves c.args.view.now c.args.horizon c.args.design.now.netlist c.args.design.now.circuit c.as_slice-nets.result.now c.as_slice-waves.result.now
+    let text = text_of-waves c.args.view.now c.args.horizon c.args.design.now c.as_slice-nets.result.now c.as_slice-waves.result.now
     (c.as_slice-nets.ensures.value ∙ c.in_ok-nets.ensures.nets)
     (c.as_slice-waves.ensures.value ∙ c.in_ok-waves.ensures ∙ ap (waves_up_to c.args.design.now.circuit c.args.horizon) same) in
     rw (p.1, p.2) (BreaksOff-dump _ _ _ _ (subst (AppendsPrefix _ _) text c.in_err-dump.ensures.err))
@@ -36,7 +36,7 @@ returns-in_err-dump-clause-err g c =
 pub returns-clause-ok : goal.returns-clause-ok
 returns-clause-ok g c =
     let same = sym (c.as_slice-nets.ensures.value ∙ sym c.as_slice.ensures.value) in
-    let text = text_of-waves c.args.view.now c.args.horizon c.args.design.now.netlist c.args.design.now.circuit c.as_slice-nets.result.now c.as_slice-waves.result.now
+    let text = text_of-waves c.args.view.now c.args.horizon c.args.design.now c.as_slice-nets.result.now c.as_slice-waves.result.now
     (c.as_slice-nets.ensures.value ∙ c.in_ok-nets.ensures.nets)
     (c.as_slice-waves.ensures.value ∙ c.in_ok-waves.ensures ∙ ap (waves_up_to c.args.design.now.circuit c.args.horizon) same) in
     subst (Appends _ _) text c.in_ok-dump.ensures.ok

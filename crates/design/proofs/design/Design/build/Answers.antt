@@ -1,4 +1,4 @@
-use Rattle.std.proofs.Common.{sym, ap, Err, ◌≢◌, ℕ, List, map}
+use Rattle.std.proofs.Common.{sym, ap, Err, map}
 use Rattle.std.proofs.lemmas.Result.{err_from_is_err_and}
 use Rattle.design.proofs.Built.{IsGiven, is_given, design_of-given, IsJoined-given, design_of-timing_fault, design_of-stimulus_fault}
 use Rattle.design.proofs.design.Design.build.Goals as goal
