@@ -1,5 +1,5 @@
 -- Each number where it stands first.
-use Rattle.std.proofs.Common.{◌≡◌, [], ◌≢◌, ℕ, ◌+◌, ◌==◌, ◌<◌, ◌||◌, not, Bool, true, false, cond, List, ◌∷◌, ◌++◌, length, get_or, set, take, All, AllPairs, refl, sym, ap, ◌∙◌, arith}
+use Rattle.std.proofs.Common.{◌≡◌, [], ◌≢◌, ℕ, suc, ◌+◌, ◌==◌, ◌<◌, ◌||◌, not, Bool, true, false, cond, List, ◌∷◌, ◌++◌, length, get_or, set, take, All, AllPairs, refl, sym, ap, ◌∙◌, arith}
 use Rattle.std.specs.List.{list_any, filter}
 use Rattle.std.proofs.lemmas.Bool.Decides.{nat_tests}
 use Rattle.std.proofs.lemmas.List.{append-nil, take_more, get_or-set_same, get_or-set_other}
@@ -9,7 +9,7 @@ use Rattle.std.proofs.lemmas.List.Folds.{list_any_more}
 use Rattle.bench_text.specs.Netlist.{distinct}
 
 -- one more number at the end
-distinct_push : (xs : List ℕ) (n : ℕ) → distinct (xs ++ n ∷ []) ≡ cond (list_any (λ m. n == m) xs) (distinct xs) (distinct xs ++ n ∷ [])
+pub distinct_push : (xs : List ℕ) (n : ℕ) → distinct (xs ++ n ∷ []) ≡ cond (list_any (λ m. n == m) xs) (distinct xs) (distinct xs ++ n ∷ [])
 distinct_push [] n = refl
 distinct_push (x ∷ xs) n = rw (distinct_push xs n) (go (n == x) (list_any (λ m. n == m) xs) refl)
   where
@@ -90,3 +90,29 @@ AllPairs-distinct (n ∷ numbers) =
     AllPairs-cons (λ earlier later. earlier ≢ later) n (filter kept (distinct numbers))
     (All-weaker (λ m. kept m ≡ true) (λ m. n ≢ m) (λ m passes. passes-other m n passes) (filter kept (distinct numbers)) (filter_passes kept (distinct numbers)))
     (AllPairs-filter (λ earlier later. earlier ≢ later) kept (distinct numbers) (AllPairs-distinct numbers))
+
+-- ---- numbers that differ
+
+pub AllPairs-head : {X : Type 0} (R : X → X → Type 0) (x : X) (xs : List X) → AllPairs R (x ∷ xs) → All (R x) xs
+AllPairs-head R x xs pairs = λ k d inside. pairs 0 (suc k) d (omega arith) (omega arith)
+
+pub AllPairs-tail : {X : Type 0} (R : X → X → Type 0) (x : X) (xs : List X) → AllPairs R (x ∷ xs) → AllPairs R xs
+AllPairs-tail R x xs pairs = λ i j d before inside. pairs (suc i) (suc j) d (omega arith) (omega arith)
+
+other_passes : (m n : ℕ) → n ≢ m → not (m == n) ≡ true
+other_passes m n other = grind (arith, nat_tests)
+
+filter-others : (n : ℕ) (numbers : List ℕ) → All (λ m. n ≢ m) numbers → filter (λ m. not (m == n)) numbers ≡ numbers
+filter-others n [] others = refl
+filter-others n (m ∷ numbers) others =
+    ap (λ passes. cond passes (m ∷ filter (λ m. not (m == n)) numbers) (filter (λ m. not (m == n)) numbers))
+    (other_passes m n (All-head (λ m. n ≢ m) m numbers others))
+    ∙ ap (λ rest. m ∷ rest) (filter-others n numbers (All-tail (λ m. n ≢ m) m numbers others))
+
+-- numbers that differ all stay
+pub distinct-same : (numbers : List ℕ) → AllPairs (λ (earlier later : ℕ). earlier ≢ later) numbers → distinct numbers ≡ numbers
+distinct-same [] pairs = refl
+distinct-same (n ∷ numbers) pairs =
+    let R = λ (earlier later : ℕ). earlier ≢ later in
+    ap (λ kept. n ∷ filter (λ m. not (m == n)) kept) (distinct-same numbers (AllPairs-tail R n numbers pairs))
+    ∙ ap (λ kept. n ∷ kept) (filter-others n numbers (AllPairs-head R n numbers pairs))

@@ -14,23 +14,11 @@ use Rattle.bench_text.specs.Name.{IsStatement}
 use Rattle.bench_text.specs.Names.{IsNames}
 use Rattle.bench_text.specs.Joined.{named_nets, netlist_view}
 use Rattle.bench_text.specs.Stages.{seen_net, net_of, WiringView, wiring}
+use Rattle.bench_text.proofs.Joined.{named_nets-wired}
 use Rattle.bench_text.proofs.Wired.{unless-Ok}
 use Rattle.bench_text.proofs.WellFormed.{HasPlace-outputs, IsNetlist-with, sum_by-map}
 
-named_nets-connected : (all : List (List ℕ)) (definitions : List Definition) (nets : List Net) → map seen_net nets ≡ map (net_of all) definitions →
-    named_nets (defined_names definitions) nets
-    ≡ map (λ (d : Definition). record { name = d.name; part = d.part; pins = map (place_of all) d.pins }) definitions
-named_nets-connected all [] [] e = refl
-named_nets-connected all [] (net ∷ nets) e = cc
-named_nets-connected all (d ∷ definitions) [] e = cc
-named_nets-connected all (d ∷ definitions) (net ∷ nets) e =
-    let first : seen_net net ≡ net_of all d = cc in
-    let rest : map seen_net nets ≡ map (net_of all) definitions = cc in
-    let joined : Part × List ℕ → NetView = λ connected. record { name = d.name; part = connected.0; pins = connected.1 } in
-    ap (λ connected. joined connected ∷ named_nets (defined_names definitions) nets) first
-    ∙ ap (λ more. joined (net_of all d) ∷ more) (named_nets-connected all definitions nets rest)
-
-is_empty-some : {A : Type 0} (xs : List A) → 0 < length xs → is_empty xs ≡ false
+pub is_empty-some : {A : Type 0} (xs : List A) → 0 < length xs → is_empty xs ≡ false
 is_empty-some [] some = absurd (omega arith)
 is_empty-some (x ∷ xs) some = refl
 
@@ -85,7 +73,7 @@ module _ (lines : List (ℕ × Statement)) (names : List (List ℕ)) (nets : Lis
       let outs = filter_map output_in lines in
       ap (λ kept. netlist_view names nets (distinct kept)) outputs-is
       ∙ ap (λ (all : List NetView). record { nets = all; outputs = distinct (map (place_of names) outs) })
-      (ap (λ names. named_nets names nets) names-is ∙ named_nets-connected names definitions nets nets-is)
+      (ap (λ names. named_nets names nets) names-is ∙ named_nets-wired (λ (d : Definition). d.name) (net_of names) definitions nets nets-is)
       ∙ ap
       (λ names. record {
         nets = map (λ (d : Definition). record { name = d.name; part = d.part; pins = map (place_of names) d.pins }) definitions;

@@ -25,7 +25,7 @@ IsPiece [] = Unit {0}
 IsPiece (byte ∷ text) = IsToken (token_of (byte ∷ text))
 
 -- a byte of a name is no mark
-is_mark-name_byte : (byte : ℕ) → is_name_byte byte ≡ true → is_mark byte ≡ false
+pub is_mark-name_byte : (byte : ℕ) → is_name_byte byte ≡ true → is_mark byte ≡ false
 is_mark-name_byte byte h = grind (arith, nat_tests)
 
 -- a plain byte that is neither white, a mark nor '#' is a byte of a name

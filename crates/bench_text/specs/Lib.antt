@@ -8,3 +8,5 @@ pub mod Netlist
 pub mod Names
 pub mod Joined
 pub mod Stages
+pub mod Canonical
+pub mod Pick

@@ -2,15 +2,19 @@
 #![tactic(auto)]
 
 mod fault;
+pub mod laws;
 mod names;
 mod netlist;
 mod part;
+mod pick;
 mod reader;
 mod statement;
 pub mod text;
 mod token;
+mod writer;
 
 pub use fault::BenchFault;
 pub use netlist::Netlist;
 pub use part::Part;
 pub use reader::read;
+pub use writer::write;

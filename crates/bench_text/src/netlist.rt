@@ -1,10 +1,12 @@
-ghost use Rattle.std.specs.Prelude.{◌≡◌, ◌<◌, length};
+ghost use Rattle.std.specs.Prelude.{◌≡◌, ℕ, ◌<◌, length, map, All, AllPairs, IfOk};
 ghost use Rattle.bench_text.specs.Netlist.{IsNetlist, net_at, net_named};
 ghost use Rattle.bench_text.specs.Joined.{netlist_view};
+ghost use Rattle.bench_text.specs.Canonical.{name_at};
 
 use crate::names::Names;
 use crate::part::Part;
 use smallvec::SmallVec;
+use std::alloc::{AllocError, Global};
 use std::marker::Model;
 
 /// What drives a net, and the numbers of the nets at its pins.
@@ -97,5 +99,19 @@ impl Netlist {
         ensures { result ≡ net_named self.now name.now }
     {
         self.names.find(name)
+    }
+
+    /// The names of nets whose numbers rise, in order.
+    pub(crate) fn names_of(&self, alloc: Global, nets: &[u32]) -> Result<Names, AllocError>
+        requires rising { AllPairs (λ (earlier later : ℕ). earlier < later) nets.now }
+        requires nets { All (λ net. net < length self.now.nets) nets.now }
+        ensures names { IfOk result (λ names. names ≡ map (name_at self.now) nets.now) }
+        ensures well_formed { IsNetlist self.now }
+    {
+        let mut names = Names::new(alloc);
+        for net in nets {
+            names.push(self.names.name(*net))?;
+        }
+        Ok(names)
     }
 }

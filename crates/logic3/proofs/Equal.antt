@@ -19,7 +19,7 @@ is_same-true _ _ e = cc
 is_same-Decides : (v w : Value) → Decides (is_same v w) (v ≡ w)
 is_same-Decides v w = (is_same-true v w, λ e. rw e (is_same_equiv.refl w))
 
-is_same_change-Decides : (first second : Change) → Decides (is_same_change first second) (first ≡ second)
+pub is_same_change-Decides : (first second : Change) → Decides (is_same_change first second) (first ≡ second)
 is_same_change-Decides first second =
     let both = Decides-and _ _ (Decides-eqb first.tick second.tick) (is_same-Decides first.value second.value) in
     (λ e. let fields = both.0 e in λ i. record { tick = fields.0 i; value = fields.1 i }, λ e. both.1 (ap (λ (c : Change). c.tick) e, ap (λ (c : Change). c.value) e))

@@ -162,7 +162,7 @@ all_from P signal from (suc ticks) each =
         All-cons P _ [] (each from (omega arith) (omega arith) differs) (All-nil P)
 
 -- where a signal isn't what it was there is a change
-change_at-some : (signal : ℕ → Value) (tick : ℕ) → value_before signal tick ≢ signal tick →
+pub change_at-some : (signal : ℕ → Value) (tick : ℕ) → value_before signal tick ≢ signal tick →
     change_at signal tick ≡ record { tick = tick; value = signal tick } ∷ []
 change_at-some signal tick differs = go (is_same (signal tick) (value_before signal tick)) refl
   where
@@ -227,7 +227,7 @@ All-wave_of signal from to = all_from (λ (change : Change). change.tick < to) s
 
 -- ---- one tick more
 
-value_in_the_end-append : (v : Value) (xs ys : List Change) → value_in_the_end v (xs ++ ys) ≡ value_in_the_end (value_in_the_end v xs) ys
+pub value_in_the_end-append : (v : Value) (xs ys : List Change) → value_in_the_end v (xs ++ ys) ≡ value_in_the_end (value_in_the_end v xs) ys
 value_in_the_end-append v [] ys = refl
 value_in_the_end-append v (x ∷ xs) ys = value_in_the_end-append x.value xs ys
 

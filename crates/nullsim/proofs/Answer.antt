@@ -1,8 +1,9 @@
--- The answer to texts and settings, step by step.
-use Rattle.std.proofs.Common.{◌≡◌, ℕ, List, Result, Ok, Err, refl}
+-- The answer to a source, step by step.
+use Rattle.std.proofs.Common.{◌≡◌, ℕ, List, Result, Ok, Err, refl, ap}
 use Rattle.bench_text.specs.declared.fault.BenchFault.{BenchFault}
 use Rattle.bench_text.specs.declared.fault.BenchFault.TheVariants as bench
 use Rattle.bench_text.specs.Netlist.{NetlistView, netlist_of}
+use Rattle.bench_text.specs.Text.{◌>>=◌}
 use Rattle.design.specs.declared.fault.OptionFault.{OptionFault}
 use Rattle.design.specs.declared.fault.DelayFault.TheVariants as delay
 use Rattle.design.specs.declared.fault.StimulusFault.TheVariants as stimulus
@@ -11,64 +12,136 @@ use Rattle.design.specs.declared.fault.BuildFault.TheVariants as build
 use Rattle.design.specs.Design.{DesignView}
 use Rattle.design.specs.Options.{options_of, horizon_of}
 use Rattle.design.specs.Build.{design_of}
+use Rattle.cmb_kernel.specs.declared.event.Event.{Event}
+use Rattle.cmb_kernel.specs.declared.schedule_fault.ScheduleFault.{ScheduleFault}
+use Rattle.cmb_kernel.specs.declared.schedule_fault.ScheduleFault.TheVariants as schedule
 use Rattle.nullsim.specs.declared.view.View.{View}
 use Rattle.nullsim.specs.declared.fault.SimFault.{SimFault}
 use Rattle.nullsim.specs.declared.fault.SimFault.TheVariants.{Setting}
-use Rattle.nullsim.specs.Faults.{sim_of_bench, sim_of_build}
-use Rattle.nullsim.specs.Run.{SourceView, design_of_source, dump_of_source, text_of}
+use Rattle.nullsim.specs.declared.simulation.Report.{Report}
+use Rattle.nullsim.specs.Events.{events_of_picks}
+use Rattle.nullsim.specs.Faults.{sim_of_bench, sim_of_build, sim_of_schedule}
+use Rattle.nullsim.specs.Run.{SourceView, design_of_source, dump_of_source, or_fault, text_of}
+use Rattle.nullsim.specs.Simulated.{RunView, dump_in, report_of, run_of_source, simulated}
 use Rattle.nullsim.specs.Ends.{IsRefusal}
 
--- a fault of the netlist refuses the run, unless it is want of memory
-pub IsRefusal-bench : (answer : Result (List ℕ) SimFault) (fault : BenchFault) →
-    (¬ ◌≡◌ {A = Result NetlistView BenchFault} (Err fault) (Err bench.Memory) → answer ≡ Err (sim_of_bench fault)) → IsRefusal answer (sim_of_bench fault)
-IsRefusal-bench answer bench.Memory refused = tt
-IsRefusal-bench answer _ refused = refused (λ e. (cc))
+module _ {A : Type 0} (answer : Result A SimFault) where
+  -- a fault of the netlist refuses the run, unless it is want of memory
+  pub IsRefusal-bench : (fault : BenchFault) →
+      (¬ ◌≡◌ {A = Result NetlistView BenchFault} (Err fault) (Err bench.Memory) → answer ≡ Err (sim_of_bench fault)) → IsRefusal answer (sim_of_bench fault)
+  IsRefusal-bench bench.Memory refused = tt
+  IsRefusal-bench _ refused = refused (λ e. (cc))
 
--- so does a fault of the timing or the stimuli
-pub IsRefusal-build : (answer : Result (List ℕ) SimFault) (fault : BuildFault) →
-    (¬ ◌≡◌ {A = Result DesignView BuildFault} (Err fault) (Err build.Memory) → answer ≡ Err (sim_of_build fault)) → IsRefusal answer (sim_of_build fault)
-IsRefusal-build answer build.Memory refused = tt
-IsRefusal-build answer (build.Timing delay.Memory) refused = tt
-IsRefusal-build answer (build.Stimulus stimulus.Memory) refused = tt
-IsRefusal-build answer (build.Setting fault) refused = refused (λ e. (cc))
-IsRefusal-build answer (build.Timing _) refused = refused (λ e. (cc))
-IsRefusal-build answer (build.Stimulus _) refused = refused (λ e. (cc))
+  -- so does a fault of the timing or the stimuli
+  pub IsRefusal-build : (fault : BuildFault) →
+      (¬ ◌≡◌ {A = Result DesignView BuildFault} (Err fault) (Err build.Memory) → answer ≡ Err (sim_of_build fault)) → IsRefusal answer (sim_of_build fault)
+  IsRefusal-build build.Memory refused = tt
+  IsRefusal-build (build.Timing delay.Memory) refused = tt
+  IsRefusal-build (build.Stimulus stimulus.Memory) refused = tt
+  IsRefusal-build (build.Setting fault) refused = refused (λ e. (cc))
+  IsRefusal-build (build.Timing _) refused = refused (λ e. (cc))
+  IsRefusal-build (build.Stimulus _) refused = refused (λ e. (cc))
 
-module _ (source : SourceView) (view : View) where
-  -- the dump is that of the design, and a fault of the design is the answer
-  pub dump_of_source-good : (horizon : ℕ) (design : DesignView) → design_of_source source view.horizon ≡ Ok (horizon, design) →
-      dump_of_source source view ≡ Ok (text_of view horizon design)
-  unfolding dump_of_source
-  dump_of_source-good horizon design good = rw good refl
+  -- so does a fault of the schedule
+  pub IsRefusal-schedule : (fault : ScheduleFault) →
+      (¬ ◌≡◌ {A = Result (List Event) ScheduleFault} (Err fault) (Err schedule.Memory) → answer ≡ Err (sim_of_schedule fault)) →
+      IsRefusal answer (sim_of_schedule fault)
+  IsRefusal-schedule schedule.Memory refused = tt
+  IsRefusal-schedule _ refused = refused (λ e. (cc))
 
-  dump_of_source-bad : (fault : SimFault) → design_of_source source view.horizon ≡ Err fault → dump_of_source source view ≡ Err fault
-  unfolding dump_of_source
-  dump_of_source-bad fault bad = rw bad refl
+-- ---- the design
 
-  pub dump_of_source-bad_settings : (fault : OptionFault) → options_of source.default_delay source.period ≡ Err fault →
-      dump_of_source source view ≡ Err (Setting fault)
+module _ (source : SourceView) (ticks : ℕ) where
+  pub design_of_source-bad_settings : (fault : OptionFault) → options_of source.default_delay source.period ≡ Err fault →
+      design_of_source source ticks ≡ Err (Setting fault)
   unfolding design_of_source
-  dump_of_source-bad_settings fault bad = dump_of_source-bad (Setting fault) (rw bad refl)
+  design_of_source-bad_settings fault bad = rw bad refl
 
   module _ (settings : Unit {0}) (good : options_of source.default_delay source.period ≡ Ok settings) where
-    pub dump_of_source-bad_horizon : (fault : OptionFault) → horizon_of view.horizon ≡ Err fault → dump_of_source source view ≡ Err (Setting fault)
+    pub design_of_source-bad_horizon : (fault : OptionFault) → horizon_of ticks ≡ Err fault → design_of_source source ticks ≡ Err (Setting fault)
     unfolding design_of_source
-    dump_of_source-bad_horizon fault bad = dump_of_source-bad (Setting fault) (rw (good, bad) refl)
+    design_of_source-bad_horizon fault bad = rw (good, bad) refl
 
-    module _ (horizon : ℕ) (end : horizon_of view.horizon ≡ Ok horizon) where
-      pub dump_of_source-bad_bench : (fault : BenchFault) → netlist_of source.bench ≡ Err fault → dump_of_source source view ≡ Err (sim_of_bench fault)
+    module _ (horizon : ℕ) (end : horizon_of ticks ≡ Ok horizon) where
+      pub design_of_source-bad_bench : (fault : BenchFault) → netlist_of source.bench ≡ Err fault → design_of_source source ticks ≡ Err (sim_of_bench fault)
       unfolding design_of_source
-      dump_of_source-bad_bench fault bad = dump_of_source-bad (sim_of_bench fault) (rw (good, end, bad) refl)
+      design_of_source-bad_bench fault bad = rw (good, end, bad) refl
 
       module _ (netlist : NetlistView) (read : netlist_of source.bench ≡ Ok netlist) where
-        pub dump_of_source-bad_texts : (fault : BuildFault) →
+        pub design_of_source-bad_texts : (fault : BuildFault) →
             design_of netlist source.delays source.stimuli source.default_delay source.period ≡ Err fault →
-            dump_of_source source view ≡ Err (sim_of_build fault)
+            design_of_source source ticks ≡ Err (sim_of_build fault)
         unfolding design_of_source
-        dump_of_source-bad_texts fault bad = dump_of_source-bad (sim_of_build fault) (rw (good, end, read, bad) refl)
+        design_of_source-bad_texts fault bad = rw (good, end, read, bad) refl
 
         pub design_of_source-good : (design : DesignView) →
             design_of netlist source.delays source.stimuli source.default_delay source.period ≡ Ok design →
-            design_of_source source view.horizon ≡ Ok (horizon, design)
+            design_of_source source ticks ≡ Ok (horizon, design)
         unfolding design_of_source
         design_of_source-good design made = rw (good, end, read, made) refl
+
+-- ---- what is made of it
+
+module _ (source : SourceView) (view : View) where
+  -- a fault of the design is the answer
+  pub dump_of_source-bad : (fault : SimFault) → design_of_source source view.horizon ≡ Err fault → dump_of_source source view ≡ Err fault
+  unfolding dump_of_source
+  dump_of_source-bad fault bad = rw bad refl
+
+  run_of_source-bad : (fault : SimFault) → run_of_source source view.horizon ≡ Err fault → dump_in (simulated source view) ≡ Err fault
+  unfolding simulated
+  run_of_source-bad fault bad = rw bad refl
+
+  pub simulated-bad : (fault : SimFault) → design_of_source source view.horizon ≡ Err fault → dump_in (simulated source view) ≡ Err fault
+  unfolding run_of_source
+  simulated-bad fault bad = run_of_source-bad fault (rw bad refl)
+
+  module _ (horizon : ℕ) (design : DesignView) (made : design_of_source source view.horizon ≡ Ok (horizon, design)) where
+    pub dump_of_source-good : dump_of_source source view ≡ Ok (text_of view horizon design)
+    unfolding dump_of_source
+    dump_of_source-good = rw made refl
+
+    -- a fault of the schedule is the answer
+    pub simulated-bad_schedule : (fault : ScheduleFault) → events_of_picks design.circuit source.picks ≡ Err fault →
+        dump_in (simulated source view) ≡ Err (sim_of_schedule fault)
+    unfolding run_of_source
+    simulated-bad_schedule fault bad = run_of_source-bad (sim_of_schedule fault) (rw (made, bad) refl)
+
+    module _ (events : List Event) (picked : events_of_picks design.circuit source.picks ≡ Ok events) where
+      abbrev run : RunView
+      run = record { horizon = horizon; design = design; events = events }
+
+      pub run_of_source-good : run_of_source source view.horizon ≡ Ok run
+      unfolding run_of_source
+      run_of_source-good = rw (made, picked) refl
+
+      pub simulated-good : simulated source view ≡ Ok (text_of view horizon design, report_of run)
+      unfolding simulated
+      simulated-good = rw run_of_source-good refl
+
+-- the dump of a run by the kernel is the one that needs no events
+module _ (source : SourceView) (view : View) (text : List ℕ) (report : Report) where
+  abbrev picked : ℕ × DesignView → Result (List Event) SimFault
+  picked ready = or_fault sim_of_schedule (events_of_picks (ready.1).circuit source.picks)
+
+  abbrev run_with : ℕ × DesignView → List Event → RunView
+  run_with ready events = record { horizon = ready.0; design = ready.1; events = events }
+
+  abbrev answer_to : RunView → List ℕ × Report
+  answer_to run = (text_of view run.horizon run.design, report_of run)
+
+  text_is : (ready : ℕ × DesignView) (events : Result (List Event) SimFault) →
+      (events >>= (λ all. Ok (run_with ready all)) >>= λ run. Ok (answer_to run)) ≡ Ok (text, report) →
+      ◌≡◌ {A = Result (List ℕ) SimFault} (Ok (text_of view ready.0 ready.1)) (Ok text)
+  text_is ready (Ok events) is = ap dump_in is
+  text_is ready (Err fault) is = cc
+
+  pub dump_of_source-simulated : simulated source view ≡ Ok (text, report) → dump_of_source source view ≡ Ok text
+  unfolding simulated run_of_source dump_of_source
+  dump_of_source-simulated = go (design_of_source source view.horizon)
+    where
+      go : (made : Result (ℕ × DesignView) SimFault) →
+          (made >>= (λ ready. picked ready >>= λ events. Ok (run_with ready events)) >>= λ run. Ok (answer_to run)) ≡ Ok (text, report) →
+          (made >>= λ ready. Ok (text_of view ready.0 ready.1)) ≡ Ok text
+      go (Ok ready) is = text_is ready (picked ready) is
+      go (Err fault) is = cc

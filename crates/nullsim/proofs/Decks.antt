@@ -11,11 +11,15 @@ use Rattle.nullsim.specs.declared.sections.DeckTextFault.{DeckTextFault}
 use Rattle.nullsim.specs.declared.sections.DeckTextFault.TheVariants as text
 use Rattle.nullsim.specs.declared.deck_run.DeckFault.{DeckFault}
 use Rattle.nullsim.specs.declared.deck_run.DeckFault.TheVariants.{Sim}
+use Rattle.nullsim.specs.declared.simulation.Report.{Report}
 use Rattle.nullsim.specs.Deck.{Sections, sections_of}
+use Rattle.nullsim.specs.DeckRun.{dump_of_deck, simulated_deck, source_of_deck, view_of_deck}
 use Rattle.nullsim.specs.Ends.{WritesPart, EndsBy, DeckEndsBy}
 use Rattle.nullsim.specs.Faults.{deck_of_text}
-use Rattle.nullsim.specs.Run.{design_of_source, dump_of_source, dump_of_deck, or_fault, source_of_deck, text_of, view_of_deck}
+use Rattle.nullsim.specs.Run.{design_of_source, or_fault, text_of}
 use Rattle.nullsim.specs.Seen.{held, on_sections}
+use Rattle.nullsim.specs.Simulated.{dump_in, run_of_source, simulated}
+use Rattle.nullsim.proofs.Cut.{cut, sections_of-cut}
 
 -- a horizon past a `u64` is refused as the largest `u64` is
 horizon_of-held : (horizon : ℕ) → horizon_of (min (2 ^ 64 - 1) horizon) ≡ horizon_of horizon
@@ -26,33 +30,32 @@ horizon_of-held horizon = go (cases_lt most_ticks horizon)
     go (inr within) = let same : min (2 ^ 64 - 1) horizon ≡ horizon = omega arith in ap horizon_of same
 
 -- so the sections as the code holds them have the same answer
-dump_of_source-held : (s : Sections) →
-    dump_of_source (source_of_deck (held s)) (view_of_deck (held s)) ≡ dump_of_source (source_of_deck s) (view_of_deck s)
-unfolding dump_of_source design_of_source text_of
-dump_of_source-held s = rw (horizon_of-held s.horizon) refl
+simulated-held : (s : Sections) → simulated (source_of_deck (held s)) (view_of_deck (held s)) ≡ simulated (source_of_deck s) (view_of_deck s)
+unfolding simulated run_of_source design_of_source text_of
+simulated-held s = rw (horizon_of-held s.horizon) refl
 
 -- the answer to a deck whose sections the code found
-pub dump_of_deck-sections : (bytes : List ℕ) (found : Sections) → on_sections held (sections_of bytes) ≡ Ok found →
-    dump_of_deck bytes ≡ or_fault Sim (dump_of_source (source_of_deck found) (view_of_deck found))
-unfolding dump_of_deck
-dump_of_deck-sections bytes found is = go (sections_of bytes) is
+pub simulated_deck-sections : (bytes : List ℕ) (found : Sections) → on_sections held (sections_of bytes) ≡ Ok found →
+    simulated_deck bytes ≡ or_fault Sim (simulated (source_of_deck found) (view_of_deck found))
+unfolding simulated_deck
+simulated_deck-sections bytes found is = go (sections_of bytes) is
   where
     go : (sections : Result Sections DeckTextFault) → on_sections held sections ≡ Ok found →
-        (or_fault deck_of_text sections >>= λ s. or_fault Sim (dump_of_source (source_of_deck s) (view_of_deck s)))
-        ≡ or_fault Sim (dump_of_source (source_of_deck found) (view_of_deck found))
+        (or_fault deck_of_text sections >>= λ s. or_fault Sim (simulated (source_of_deck s) (view_of_deck s)))
+        ≡ or_fault Sim (simulated (source_of_deck found) (view_of_deck found))
     go (Ok s) e =
         let same : held s ≡ found = cc in
-        ap (or_fault Sim) (sym (dump_of_source-held s) ∙ ap (λ (d : Sections). dump_of_source (source_of_deck d) (view_of_deck d)) same)
+        ap (or_fault Sim) (sym (simulated-held s) ∙ ap (λ (d : Sections). simulated (source_of_deck d) (view_of_deck d)) same)
     go (Err fault) e = cc
 
 -- the answer to a text in which it found none
 pub dump_of_deck-bad_text : (bytes : List ℕ) (fault : DeckTextFault) → on_sections held (sections_of bytes) ≡ Err fault →
     dump_of_deck bytes ≡ Err (deck_of_text fault)
-unfolding dump_of_deck
+unfolding simulated_deck
 dump_of_deck-bad_text bytes fault is = go (sections_of bytes) is
   where
     go : (sections : Result Sections DeckTextFault) → on_sections held sections ≡ Err fault →
-        (or_fault deck_of_text sections >>= λ s. or_fault Sim (dump_of_source (source_of_deck s) (view_of_deck s))) ≡ Err (deck_of_text fault)
+        dump_in (or_fault deck_of_text sections >>= λ s. or_fault Sim (simulated (source_of_deck s) (view_of_deck s))) ≡ Err (deck_of_text fault)
     go (Ok s) e = cc
     go (Err other) e = let same : other ≡ fault = cc in ap (λ f. Err (deck_of_text f)) same
 
@@ -62,9 +65,14 @@ pub DeckEndsBy-bad_text : (answer : Result (List ℕ) DeckFault) (old : Option (
 DeckEndsBy-bad_text answer old text.TooLong is = (is, Keeps-refl old)
 DeckEndsBy-bad_text answer old (text.BadDeck line) is = (is, Keeps-refl old)
 
+-- a text that is too long may be cut
+pub dump_of_deck-cut : (bytes : List ℕ) → dump_of_deck (cut bytes) ≡ dump_of_deck bytes
+unfolding simulated_deck
+dump_of_deck-cut bytes = rw (sections_of-cut bytes) refl
+
 -- a run of the sections that is done is a run of the deck that is done
-pub IsOkAnd-Sim : (answer : Result (List ℕ) SimFault) (P : List ℕ → Type 0) → IsOkAnd answer P → IsOkAnd (or_fault Sim answer) P
-IsOkAnd-Sim (Ok text) P done = done
+pub IsOkAnd-Sim : {A : Type 0} (answer : Result A SimFault) (P : A → Type 0) → IsOkAnd answer P → IsOkAnd (or_fault Sim answer) P
+IsOkAnd-Sim (Ok value) P done = done
 IsOkAnd-Sim (Err fault) P done = absurd done
 
 WritesPart-Sim : (answer : Result (List ℕ) SimFault) (old new : Option (List ℕ)) → WritesPart answer old new → WritesPart (or_fault Sim answer) old new
@@ -77,8 +85,13 @@ DeckEndsBy-or_fault answer old new (Dump fault) ends = WritesPart-Sim answer old
 DeckEndsBy-or_fault answer old new Memory ends = WritesPart-Sim answer old new ends
 DeckEndsBy-or_fault answer old new _ ends = (ap (or_fault Sim) ends.0, ends.1)
 
+dump_in-or_fault : (answer : Result (List ℕ × Report) SimFault) → dump_in (or_fault Sim answer) ≡ or_fault Sim (dump_in answer)
+dump_in-or_fault (Ok both) = refl
+dump_in-or_fault (Err fault) = refl
+
 -- and one that ended with a fault is one that ended with it
-pub DeckEndsBy-Sim : (deck : Result (List ℕ) DeckFault) (answer : Result (List ℕ) SimFault) (old new : Option (List ℕ)) (fault : SimFault) →
-    deck ≡ or_fault Sim answer → EndsBy answer old new fault → DeckEndsBy deck old new (Sim fault)
+pub DeckEndsBy-Sim : (deck : Result (List ℕ × Report) DeckFault) (answer : Result (List ℕ × Report) SimFault) (old new : Option (List ℕ)) (fault : SimFault) →
+    deck ≡ or_fault Sim answer → EndsBy (dump_in answer) old new fault → DeckEndsBy (dump_in deck) old new (Sim fault)
 DeckEndsBy-Sim deck answer old new fault is ends =
-    subst (λ d. DeckEndsBy d old new (Sim fault)) (sym is) (DeckEndsBy-or_fault answer old new fault ends)
+    subst (λ d. DeckEndsBy d old new (Sim fault)) (sym (ap dump_in is ∙ dump_in-or_fault answer))
+    (DeckEndsBy-or_fault (dump_in answer) old new fault ends)

@@ -1,12 +1,15 @@
 -- How a run ends, from how its parts do.
-use Rattle.std.proofs.Common.{ℕ, List, Option, Ok}
+use Rattle.std.proofs.Common.{ℕ, List, length, take, Option, Result, Ok, Err, IfErr, IsOkAnd, OnErr, OnOk, ◌≡◌, sym, subst, arith}
+use Rattle.std.specs.Io.KnownBytes.{Appends, Keeps}
+use Rattle.std.proofs.KnownBytes.{Appends-nil, Appends-kept, Keeps-refl}
+use Rattle.std.proofs.lemmas.List.{take_all}
 use Rattle.vcd_dump.specs.declared.fault.DumpFault.{DumpFault}
 use Rattle.vcd_dump.specs.declared.fault.DumpFault.TheVariants as dump
 use Rattle.vcd_dump.specs.Bytes.{AppendsPrefix}
 use Rattle.nullsim.specs.declared.fault.SimFault.{SimFault}
 use Rattle.nullsim.specs.declared.fault.SimFault.TheVariants.{Dump, Memory}
 use Rattle.nullsim.specs.Faults.{sim_of_dump}
-use Rattle.nullsim.specs.Ends.{BreaksOff, EndsBy}
+use Rattle.nullsim.specs.Ends.{BreaksOff, EndsBy, IsRefusal, WritesPart}
 
 -- a fault of the dump breaks the answer off
 pub BreaksOff-dump : (old new : Option (List ℕ)) (text : List ℕ) (fault : DumpFault) → AppendsPrefix old new text →
@@ -19,3 +22,56 @@ pub EndsBy-BreaksOff : (old new : Option (List ℕ)) (text : List ℕ) (fault : 
 EndsBy-BreaksOff old new text (Dump fault) part = part
 EndsBy-BreaksOff old new text Memory part = part
 EndsBy-BreaksOff old new text _ part = absurd part
+
+-- the whole of a text is a first part of it
+pub AppendsPrefix-whole : (old new : Option (List ℕ)) (text : List ℕ) → Appends old new text → AppendsPrefix old new text
+AppendsPrefix-whole old new text done =
+    let whole : take (length text) text ≡ text = take_all (length text) text (omega arith) in
+    (length text, subst (Appends old new) (sym whole) done)
+
+-- a flush keeps what was written
+pub AppendsPrefix-flushed : (old new flushed : Option (List ℕ)) (text : List ℕ) → AppendsPrefix old new text → Keeps new flushed → AppendsPrefix old flushed text
+AppendsPrefix-flushed old new flushed text part kept = (part.0, Appends-kept old new flushed _ part.1 kept)
+
+module _ {F : Type 0} where
+  pub IsOkAnd-flushed : (answer : Result (List ℕ) F) (old new flushed : Option (List ℕ)) → IsOkAnd answer (Appends old new) → Keeps new flushed →
+      IsOkAnd answer (Appends old flushed)
+  IsOkAnd-flushed (Ok text) old new flushed done kept = Appends-kept old new flushed text done kept
+  IsOkAnd-flushed (Err fault) old new flushed done kept = absurd done
+
+  -- whatever the end, what went out is a first part of the answer
+  pub WritesPart-kept : (answer : Result (List ℕ) F) (old new : Option (List ℕ)) → Keeps old new → WritesPart answer old new
+  WritesPart-kept (Ok text) old new kept = (0, Appends-kept old old new _ (Appends-nil old) kept)
+  WritesPart-kept (Err fault) old new kept = kept
+
+  pub WritesPart-done : (answer : Result (List ℕ) F) (old new : Option (List ℕ)) → IsOkAnd answer (Appends old new) → WritesPart answer old new
+  WritesPart-done (Ok text) old new done = AppendsPrefix-whole old new text done
+  WritesPart-done (Err fault) old new done = absurd done
+
+pub WritesPart-ended : (answer : Result (List ℕ) SimFault) (old new : Option (List ℕ)) (fault : SimFault) → EndsBy answer old new fault → WritesPart answer old new
+WritesPart-ended answer old new (Dump fault) ends = ends
+WritesPart-ended answer old new Memory ends = ends
+WritesPart-ended answer old new _ ends = WritesPart-kept answer old new ends.1
+
+-- before a byte is written the run ends by what refuses it
+pub EndsBy-IsRefusal : {A : Type 0} (refused : Result A SimFault) (answer : Result (List ℕ) SimFault) (old : Option (List ℕ)) (fault : SimFault) →
+    (refused ≡ Err fault → answer ≡ Err fault) → IsRefusal refused fault → EndsBy answer old old fault
+EndsBy-IsRefusal refused answer old (Dump fault) lifts refusal = absurd refusal
+EndsBy-IsRefusal refused answer old Memory lifts refusal = WritesPart-kept answer old old (Keeps-refl old)
+EndsBy-IsRefusal refused answer old _ lifts refusal = (lifts refusal, Keeps-refl old)
+
+-- ---- results of a last step
+
+module _ {A E : Type 0} where
+  pub OnOk-holds : (result : Result A E) (P : Type 0) → P → OnOk result P
+  OnOk-holds (Ok value) P holds = holds
+  OnOk-holds (Err fault) P holds = tt
+
+  pub OnErr-holds : (result : Result A E) (P : Type 0) → P → OnErr result P
+  OnErr-holds (Ok value) P holds = tt
+  OnErr-holds (Err fault) P holds = holds
+
+  -- what holds of the only fault
+  pub IfErr-only : (result : Result A E) (only : E) (P : E → Type 0) → IfErr result (λ fault. fault ≡ only) → P only → IfErr result P
+  IfErr-only (Ok value) only P is holds = tt
+  IfErr-only (Err fault) only P is holds = subst P (sym is) holds

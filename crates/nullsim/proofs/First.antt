@@ -1,10 +1,7 @@
 -- What stands before and behind the first element that passes a test.
-use Rattle.std.proofs.Common.{◌≡◌, ℕ, ◌+◌, ◌||◌, Bool, true, false, List, [], ◌∷◌, ◌++◌, take, drop, refl, sym, ap, ◌∙◌, one-add, suc-add}
+use Rattle.std.proofs.Common.{◌≡◌, ◌+◌, Bool, true, false, List, [], ◌∷◌, ◌++◌, drop, refl, one-add, suc-add}
 use Rattle.std.specs.List.{list_any, position_or_len, before_first, after_first}
-use Rattle.std.proofs.Math.Bool.{or-false}
 use Rattle.std.proofs.lemmas.Bool.{or_parts, or_from}
-use Rattle.std.proofs.lemmas.List.{take-append-drop}
-use Rattle.std.proofs.lemmas.List.Folds.{list_any-append}
 
 module _ {X : Type 0} (p : X → Bool) where
   -- the first element fails
@@ -35,12 +32,6 @@ module _ {X : Type 0} (p : X → Bool) where
       let parts = or_parts (p y) (list_any p earlier) none in
       rw (parts.0, one-add, suc-add) (after_first-append earlier x xs parts.1 passed)
 
-  -- what no element passes, none of the later ones does
-  pub list_any-drop : (count : ℕ) (xs : List X) → list_any p xs ≡ false → list_any p (drop count xs) ≡ false
-  list_any-drop count xs none =
-      (or_parts (list_any p (take count xs)) (list_any p (drop count xs))
-      (sym (list_any-append p (take count xs) (drop count xs)) ∙ ap (list_any p) (take-append-drop count xs) ∙ none)).1
-
 -- two tests
 module _ {X : Type 0} (p q : X → Bool) where
   -- one that fails wherever the other fails
@@ -51,13 +42,3 @@ module _ {X : Type 0} (p q : X → Bool) where
       go : (b : Bool) → q x ≡ b → list_any p (before_first q xs) ≡ false → list_any p (before_first q (x ∷ xs)) ≡ false
       go true passed rest = rw passed refl
       go false failed rest = rw (failed, one-add) (or_from (p x) _ (fails x failed) rest)
-
-  -- one that nothing passes
-  position_or_len-or : (xs : List X) → list_any q xs ≡ false → position_or_len (λ x. p x || q x) xs ≡ position_or_len p xs
-  position_or_len-or [] none = refl
-  position_or_len-or (x ∷ xs) none =
-      let parts = or_parts (q x) (list_any q xs) none in
-      rw (parts.0, or-false (p x), position_or_len-or xs parts.1) refl
-
-  pub before_first-or : (xs : List X) → list_any q xs ≡ false → before_first (λ x. p x || q x) xs ≡ before_first p xs
-  before_first-or xs none = ap (λ count. take count xs) (position_or_len-or xs none)

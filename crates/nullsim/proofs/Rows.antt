@@ -23,25 +23,30 @@ words_before_the_first_marker : sections_of (codes "%nullsim 5\n \nx y\n%bench\n
 unfolding sections_of sections_behind
 words_before_the_first_marker = refl
 
-later_marker : sections_of (codes "%nullsim 5\n%bench\nINPUT(a)\n%schedule\n") ≡ Err (BadDeck 4)
+schedule_twice : sections_of (codes "%nullsim 5\n%schedule\n%bench\n%schedule\n") ≡ Err (BadDeck 4)
 unfolding sections_of sections_behind
-later_marker = refl
+schedule_twice = refl
 
-first_line_alone : sections_of (codes "%nullsim 5") ≡ Ok (record { horizon = 5; bench = []; delays = []; stimuli = [] })
+first_line_alone : sections_of (codes "%nullsim 5") ≡ Ok (record { horizon = 5; bench = []; delays = []; stimuli = []; schedule = [] })
 unfolding sections_of sections_behind
 first_line_alone = refl
 
 inverter : sections_of (codes "%nullsim 5\n%bench\nINPUT(a)\nOUTPUT(y)\ny = NOT(a)\n%stimuli\n0 a 0\n3 a 1\n")
-    ≡ Ok (record { horizon = 5; bench = codes "INPUT(a)\nOUTPUT(y)\ny = NOT(a)\n"; delays = []; stimuli = codes "0 a 0\n3 a 1\n" })
+    ≡ Ok (record { horizon = 5; bench = codes "INPUT(a)\nOUTPUT(y)\ny = NOT(a)\n"; delays = []; stimuli = codes "0 a 0\n3 a 1\n"; schedule = [] })
 unfolding sections_of sections_behind
 inverter = refl
 
 inverter_without_last_newline : sections_of (codes "%nullsim 5\n%bench\nINPUT(a)\nOUTPUT(y)\ny = NOT(a)\n%stimuli\n0 a 0\n3 a 1")
-    ≡ Ok (record { horizon = 5; bench = codes "INPUT(a)\nOUTPUT(y)\ny = NOT(a)\n"; delays = []; stimuli = codes "0 a 0\n3 a 1" })
+    ≡ Ok (record { horizon = 5; bench = codes "INPUT(a)\nOUTPUT(y)\ny = NOT(a)\n"; delays = []; stimuli = codes "0 a 0\n3 a 1"; schedule = [] })
 unfolding sections_of sections_behind
 inverter_without_last_newline = refl
 
 sections_in_any_order : sections_of (codes "%nullsim 5\n\n%stimuli\n0 a 1\n \t%bench \r\n%delays\n\ny 1")
-    ≡ Ok (record { horizon = 5; bench = []; delays = codes "\ny 1"; stimuli = codes "0 a 1\n" })
+    ≡ Ok (record { horizon = 5; bench = []; delays = codes "\ny 1"; stimuli = codes "0 a 1\n"; schedule = [] })
 unfolding sections_of sections_behind
 sections_in_any_order = refl
+
+section_of_events : sections_of (codes "%nullsim 5\n%schedule\nadvance y # %bench\n%foo\n%bench\nINPUT(a)\n")
+    ≡ Ok (record { horizon = 5; bench = codes "INPUT(a)\n"; delays = []; stimuli = []; schedule = codes "advance y # %bench\n%foo\n" })
+unfolding sections_of sections_behind
+section_of_events = refl

@@ -2,12 +2,11 @@
 use Rattle.std.proofs.Common.{◌≡◌, ℕ, ◌&&◌, ◌||◌, not, Bool, true, false, cond, List, [], ◌∷◌, ◌++◌, length, take, drop, Option, None, Some, refl, sym, ap, ◌∙◌, one-add, append_assoc, append-nil, codes, bytes_eq}
 use Rattle.std.specs.List.{find, list_any, position_or_len, before_first, enumerate_from}
 use Rattle.std.proofs.Math.Seq.{take-append_seam}
-use Rattle.std.proofs.lemmas.Bool.{or_parts}
 use Rattle.std.proofs.lemmas.List.{length_push}
 use Rattle.bench_text.specs.Text.{is_empty}
 use Rattle.nullsim.specs.declared.sections.Marker.{Marker}
-use Rattle.nullsim.specs.Deck.{line_words, has_words, is_just, is_marker, is_later_marker, is_second_marker, breaks_rule}
-use Rattle.nullsim.specs.Seen.{word_of, ends_section}
+use Rattle.nullsim.specs.Deck.{line_words, has_words, is_just, is_marker, breaks_rule}
+use Rattle.nullsim.specs.Seen.{word_of}
 
 -- ---- the first of some lines that breaks a rule
 
@@ -44,17 +43,6 @@ module _ {X : Type 0} (breaks : List X → X → Bool) where
           rw (fine earlier x holds goes_on, goes_on, one-add)
           (more ∙ ap (λ before. bad_behind before (drop (position_or_len stops xs) xs)) (append_assoc earlier (x ∷ []) (before_first stops xs)))
 
-  -- where none does, a test that fails where no rule is broken finds none
-  pub list_any-none_bad : (p : X → Bool) → ((earlier : List X) (x : X) → breaks earlier x ≡ false → p x ≡ false) →
-      (earlier xs : List X) → bad_behind earlier xs ≡ None → list_any p xs ≡ false
-  list_any-none_bad p fails earlier [] none = refl
-  list_any-none_bad p fails earlier (x ∷ xs) none = go (breaks earlier x) refl none (list_any-none_bad p fails (earlier ++ x ∷ []) xs)
-    where
-      go : (b : Bool) → breaks earlier x ≡ b → cond b (Some (length earlier, x)) (bad_behind (earlier ++ x ∷ []) xs) ≡ None →
-          (bad_behind (earlier ++ x ∷ []) xs ≡ None → list_any p xs ≡ false) → list_any p (x ∷ xs) ≡ false
-      go true bad is more = cc
-      go false good is more = rw (fails earlier x good) (more is)
-
 -- ---- a line by itself
 
 -- one without words is no marker and breaks no rule
@@ -65,32 +53,29 @@ blank line none = go (line_words line) refl none
     go [] is e = is
     go (word ∷ words) is e = cc
 
-pub ends_section-blank : (line : List ℕ) → has_words line ≡ false → ends_section line ≡ false
-ends_section-blank line none = rw (blank line none) refl
+pub is_marker-blank : (line : List ℕ) → has_words line ≡ false → is_marker line ≡ false
+is_marker-blank line none = rw (blank line none) refl
 
 pub breaks_rule-blank : (earlier : List (List ℕ)) (line : List ℕ) → has_words line ≡ false → breaks_rule earlier line ≡ false
 breaks_rule-blank earlier line none = rw (blank line none) refl
 
 -- what else isn't a marker breaks no rule in a section, and breaks one before the first
-rule_of : (bench delays stimuli later words a b c in_section : Bool) → ((bench || (delays || (stimuli || false))) || later) ≡ false →
-    ((later || ((bench && a) || ((delays && b) || ((stimuli && c) || false)))) || ((words && not (bench || (delays || (stimuli || false)))) && not in_section))
+rule_of : (bench delays stimuli schedule words a b c d in_section : Bool) → (bench || (delays || (stimuli || (schedule || false)))) ≡ false →
+    (((bench && a) || ((delays && b) || ((stimuli && c) || ((schedule && d) || false))))
+    || ((words && not (bench || (delays || (stimuli || (schedule || false))))) && not in_section))
     ≡ (words && not in_section)
-rule_of false false false false false a b c in_section e = refl
-rule_of false false false false true a b c in_section e = refl
-rule_of false false false true words a b c in_section e = cc
-rule_of false false true later words a b c in_section e = cc
-rule_of false true stimuli later words a b c in_section e = cc
-rule_of true delays stimuli later words a b c in_section e = cc
+rule_of false false false false false a b c d in_section e = refl
+rule_of false false false false true a b c d in_section e = refl
+rule_of false false false true words a b c d in_section e = cc
+rule_of false false true schedule words a b c d in_section e = cc
+rule_of false true stimuli schedule words a b c d in_section e = cc
+rule_of true delays stimuli schedule words a b c d in_section e = cc
 
-pub breaks_rule-unmarked : (earlier : List (List ℕ)) (line : List ℕ) → ends_section line ≡ false →
+pub breaks_rule-unmarked : (earlier : List (List ℕ)) (line : List ℕ) → is_marker line ≡ false →
     breaks_rule earlier line ≡ (has_words line && not (list_any is_marker earlier))
 breaks_rule-unmarked earlier line unmarked =
-    rule_of (is_just (codes "%bench") line) (is_just (codes "%delays") line) (is_just (codes "%stimuli") line) (is_later_marker line)
-    (has_words line) _ _ _ (list_any is_marker earlier) unmarked
-
-pub is_later_marker-fine : (earlier : List (List ℕ)) (line : List ℕ) → breaks_rule earlier line ≡ false → is_later_marker line ≡ false
-is_later_marker-fine earlier line fine =
-    (or_parts (is_later_marker line) (is_second_marker earlier line) (or_parts (is_later_marker line || is_second_marker earlier line) _ fine).0).0
+    rule_of (is_just (codes "%bench") line) (is_just (codes "%delays") line) (is_just (codes "%stimuli") line) (is_just (codes "%schedule") line)
+    (has_words line) _ _ _ _ (list_any is_marker earlier) unmarked
 
 -- a line that is a marker
 module _ (marker : Marker) (line : List ℕ) (words : line_words line ≡ word_of marker ∷ []) where

@@ -39,11 +39,11 @@ use Rattle.nullsim.proofs.Nets.{length-circuit, All-shown_nets, AllPairs-shown_n
 
 -- ---- names of nets
 
-no_net : Net
+abbrev pub no_net : Net
 no_net = record { name = []; part = Input; pins = []; delay = 0; period = 0; stimuli = [] }
 
 module _ (design : DesignView) (ok : IsDesign design) where
-  name_is : (net : ℕ) → net < length design.circuit → name_of design.circuit net ≡ (get_or design.netlist.nets net (untimed no_net)).name
+  pub name_is : (net : ℕ) → net < length design.circuit → name_of design.circuit net ≡ (get_or design.netlist.nets net (untimed no_net)).name
   name_is net below =
       ap (λ at. option_map_or (λ (n : Net). n.name) at []) (slice_get-get_or design.circuit net no_net below)
       ∙ ap (λ (n : NetView). n.name)

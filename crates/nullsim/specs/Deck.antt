@@ -12,6 +12,7 @@ pub record Sections : Type 0 where
   pub bench : List ℕ
   pub delays : List ℕ
   pub stimuli : List ℕ
+  pub schedule : List ℕ
 
 -- ---- lines and their words
 
@@ -47,14 +48,10 @@ horizon_in line = said_by (line_words line)
 
 -- the words that, alone on a line, begin a section
 abbrev pub markers : List (List ℕ)
-markers = codes "%bench" ∷ codes "%delays" ∷ codes "%stimuli" ∷ []
+markers = codes "%bench" ∷ codes "%delays" ∷ codes "%stimuli" ∷ codes "%schedule" ∷ []
 
 abbrev pub is_marker : List ℕ → Bool
 is_marker line = list_any (λ marker. is_just marker line) markers
-
--- the line begins a section that only later versions have
-abbrev pub is_later_marker : List ℕ → Bool
-is_later_marker line = is_just (codes "%schedule") line
 
 -- the line begins a section that an earlier line begins
 abbrev pub is_second_marker : List (List ℕ) → List ℕ → Bool
@@ -67,7 +64,7 @@ is_stray earlier line = has_words line && not (is_marker line) && not (list_any 
 
 -- the line breaks a rule, where these lines stand before it
 abbrev pub breaks_rule : List (List ℕ) → List ℕ → Bool
-breaks_rule earlier line = is_later_marker line || is_second_marker earlier line || is_stray earlier line
+breaks_rule earlier line = is_second_marker earlier line || is_stray earlier line
 
 -- a line, by place from 0, breaks a rule
 abbrev pub is_bad : List (List ℕ) → ℕ × List ℕ → Bool
@@ -89,6 +86,7 @@ sections_at horizon lines = record {
   bench = section (codes "%bench") lines;
   delays = section (codes "%delays") lines;
   stimuli = section (codes "%stimuli") lines;
+  schedule = section (codes "%schedule") lines;
 }
 
 -- the sections of the lines behind the first one, which is line 1, or their first fault

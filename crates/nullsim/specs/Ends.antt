@@ -25,7 +25,7 @@ DeckEndsBy answer old new (Sim Memory) = WritesPart answer old new
 DeckEndsBy answer old new fault = (answer ≡ Err fault) × Keeps old new
 
 -- before a byte is written: the fault is the answer, unless memory was wanting
-abbrev pub IsRefusal : Result (List ℕ) SimFault → SimFault → Type 0
+abbrev pub IsRefusal : {A : Type 0} → Result A SimFault → SimFault → Type 0
 IsRefusal answer (Dump fault) = ⊥
 IsRefusal answer Memory = Unit {0}
 IsRefusal answer fault = answer ≡ Err fault

@@ -1,9 +1,15 @@
+pub mod Command
 pub mod Deck
+pub mod DeckRun
 pub mod Ends
+pub mod Events
 pub mod Faults
+pub mod Isolation
 pub mod Known
+pub mod Program
 pub mod Run
 pub mod Seen
 pub mod Shown
+pub mod Simulated
 pub mod Tell
 pub mod Viewed

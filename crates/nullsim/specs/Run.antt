@@ -1,4 +1,4 @@
--- Whole runs: the answer to texts and settings, and to a deck, composed of the definitions below.
+-- Whole runs: the answer to texts and settings, composed of the definitions below.
 use Rattle.std.specs.Prelude.{ℕ, List, map, length, Result, Ok}
 use Rattle.std.specs.List.{range_with_len}
 use Rattle.std.specs.Result.{result_map_both}
@@ -10,7 +10,6 @@ use Rattle.design.specs.Circuit.{Circuit}
 use Rattle.design.specs.Design.{DesignView}
 use Rattle.design.specs.Build.{design_of}
 use Rattle.design.specs.Equations.{value_of}
-use Rattle.vcd_dump.specs.declared.unit.TimeUnit.TheVariants.{Ns}
 use Rattle.vcd_dump.specs.Dump.{dump_text}
 use Rattle.vcd_dump.specs.Traces.{name_of}
 use Rattle.nullsim.specs.declared.source.Source.{Source}
@@ -19,18 +18,17 @@ use Rattle.nullsim.specs.declared.view.Show.{Show}
 use Rattle.nullsim.specs.declared.view.Show.TheVariants.{All, Outputs}
 use Rattle.nullsim.specs.declared.fault.SimFault.{SimFault}
 use Rattle.nullsim.specs.declared.fault.SimFault.TheVariants.{Setting}
-use Rattle.nullsim.specs.declared.deck_run.DeckFault.{DeckFault}
-use Rattle.nullsim.specs.declared.deck_run.DeckFault.TheVariants.{Sim}
-use Rattle.nullsim.specs.Faults.{sim_of_bench, sim_of_build, deck_of_text}
-use Rattle.nullsim.specs.Deck.{Sections, sections_of}
+use Rattle.nullsim.specs.Faults.{sim_of_bench, sim_of_build}
+use Rattle.nullsim.specs.Events.{PicksView, seen_picks}
 
--- the texts and settings of a run
+-- the texts and settings of a run, and what picks its events
 pub record SourceView : Type 0 where
   pub bench : List ℕ
   pub delays : List ℕ
   pub stimuli : List ℕ
   pub default_delay : ℕ
   pub period : ℕ
+  pub picks : PicksView
 
 abbrev pub seen_source : Source → SourceView
 seen_source s = record {
@@ -39,6 +37,7 @@ seen_source s = record {
   stimuli = s.stimuli.now;
   default_delay = s.default_delay;
   period = s.period;
+  picks = seen_picks s.picks;
 }
 
 -- the numbers of the nets that a dump shows, in its order
@@ -72,16 +71,3 @@ unfoldable pub dump_of_source : SourceView → View → Result (List ℕ) SimFau
 dump_of_source source view = do
   ready ← design_of_source source view.horizon
   Ok (text_of view ready.0 ready.1)
-
--- a deck's run has the default delay 1 and the period 10, and shows all nets in nanoseconds
-abbrev pub source_of_deck : Sections → SourceView
-source_of_deck s = record { bench = s.bench; delays = s.delays; stimuli = s.stimuli; default_delay = 1; period = 10 }
-
-abbrev pub view_of_deck : Sections → View
-view_of_deck s = record { horizon = s.horizon; show = All; unit = Ns }
-
--- the answer to a deck: the dump, or the first fault
-unfoldable pub dump_of_deck : List ℕ → Result (List ℕ) DeckFault
-dump_of_deck text = do
-  sections ← or_fault deck_of_text (sections_of text)
-  or_fault Sim (dump_of_source (source_of_deck sections) (view_of_deck sections))

@@ -1,5 +1,5 @@
 -- The code's markers and sections as those of the definitions.
-use Rattle.std.specs.Prelude.{◌≡◌, ℕ, ◌-◌, ◌<◌, ◌^◌, min, Bool, ◌∷◌, length, ◌||◌, false, if◌then◌else◌, List, codes, bytes_eq, MatchBool, IsSome, Option, None, Some, Result}
+use Rattle.std.specs.Prelude.{◌≡◌, ℕ, ◌-◌, ◌<◌, ◌^◌, min, Bool, ◌∷◌, length, false, if◌then◌else◌, List, codes, bytes_eq, MatchBool, IsSome, Option, None, Some, Result}
 use Rattle.std.specs.List.{list_any}
 use Rattle.std.specs.Result.{result_map_both}
 use denote.Ref.{Bor}
@@ -8,7 +8,7 @@ use Rattle.nullsim.specs.declared.sections.Found.{Found}
 use Rattle.nullsim.specs.declared.sections.Marker.{Marker}
 use Rattle.nullsim.specs.declared.sections.Marker.TheVariants.{Bench, Delays, Stimuli, Schedule}
 use Rattle.nullsim.specs.declared.sections.Sections as code
-use Rattle.nullsim.specs.Deck.{Sections, ended_lines, has_words, is_marker, is_later_marker, markers}
+use Rattle.nullsim.specs.Deck.{Sections, ended_lines, has_words, is_marker, markers}
 
 -- the word of a marker
 abbrev pub word_of : Marker → List ℕ
@@ -17,17 +17,13 @@ word_of Delays = codes "%delays"
 word_of Stimuli = codes "%stimuli"
 word_of Schedule = codes "%schedule"
 
--- a marker, be it of a later version
-abbrev pub ends_section : List ℕ → Bool
-ends_section line = is_marker line || is_later_marker line
-
--- the word of such a line
+-- one of the words
 abbrev pub is_marker_word : List ℕ → Bool
-is_marker_word word = list_any (λ marker. bytes_eq word marker) markers || bytes_eq word (codes "%schedule")
+is_marker_word word = list_any (λ marker. bytes_eq word marker) markers
 
 -- where lines end: those of a section at a marker, and those before the first section at words
 abbrev pub stops : Bool → List ℕ → Bool
-stops in_section line = if in_section then ends_section line else has_words line
+stops in_section line = if in_section then is_marker line else has_words line
 
 -- a text is a line and what follows it
 pub record SplitsLine (text line after : List ℕ) : Type 0 where
@@ -47,20 +43,26 @@ Keeps section_word word text old new =
 
 -- the text of a marker's section came, where there was none
 pub record KeepsText (marker : Marker) (text : Bor (List ℕ)) (old new : Found) : Type 0 where
-  pub this_version : bytes_eq (word_of marker) (codes "%schedule") ≡ false
   pub bench : Keeps (codes "%bench") (word_of marker) text old.bench new.bench
   pub delays : Keeps (codes "%delays") (word_of marker) text old.delays new.delays
   pub stimuli : Keeps (codes "%stimuli") (word_of marker) text old.stimuli new.stimuli
+  pub schedule : Keeps (codes "%schedule") (word_of marker) text old.schedule new.schedule
 
--- a marker of a later version, or one whose section is there
+-- a marker whose section is there
 abbrev pub IsRefused : Found → Marker → Type 0
 IsRefused found Bench = IsSome found.bench
 IsRefused found Delays = IsSome found.delays
 IsRefused found Stimuli = IsSome found.stimuli
-IsRefused found Schedule = Unit {0}
+IsRefused found Schedule = IsSome found.schedule
 
 abbrev pub seen_sections : code.Sections → Sections
-seen_sections s = record { horizon = s.horizon; bench = s.bench.now; delays = s.delays.now; stimuli = s.stimuli.now }
+seen_sections s = record {
+  horizon = s.horizon;
+  bench = s.bench.now;
+  delays = s.delays.now;
+  stimuli = s.stimuli.now;
+  schedule = s.schedule.now;
+}
 
 -- the same sections, with the horizon as a `u64` holds it
 abbrev pub held : Sections → Sections

@@ -1,14 +1,14 @@
 //! A run from one text.
-ghost use Rattle.std.specs.Prelude.{◌≡◌, IfErr, OnOk, IsOkAnd};
+ghost use Rattle.std.specs.Prelude.{◌≡◌, IfErr, IfOk, IsOkAnd};
 ghost use Rattle.std.specs.Io.KnownBytes.{Appends};
 ghost use Rattle.nullsim.specs.declared.deck_run.DeckFault.TheVariants.{Sim};
 ghost use Rattle.nullsim.specs.Faults.{deck_of_text};
-ghost use Rattle.nullsim.specs.Run.{dump_of_deck};
+ghost use Rattle.nullsim.specs.DeckRun.{dump_of_deck, simulated_deck};
 ghost use Rattle.nullsim.specs.Ends.{DeckEndsBy};
 
 use crate::fault::SimFault;
-use crate::plain_run::plain;
 use crate::sections::{DeckTextFault, read_sections};
+use crate::simulation::{Report, simulate};
 use crate::source::{Picks, Source};
 use crate::view::{Show, View};
 use std::alloc::Global;
@@ -49,13 +49,14 @@ impl From<SimFault> for DeckFault {
 }
 
 /// Writes the dump of a deck's run: all nets, in nanoseconds. The default delay is 1, the period 10.
+/// The deck's schedule picks the events that come before the run completes; answers the report.
 ///
 /// # Errors
 /// A refusal of the deck or of a section comes before the first byte is written. After a failed
 /// write or a want of memory a first part of the dump went out, which may be nothing.
-pub fn deck<W: Write>(alloc: Global, text: &[u8], out: &mut W) -> Result<(), DeckFault>
-    ensures ok { OnOk result (IsOkAnd (dump_of_deck text.now)
-        (Appends (W.contents out.old) (W.contents out.new))) }
+pub fn deck<W: Write>(alloc: Global, text: &[u8], out: &mut W) -> Result<Report, DeckFault>
+    ensures ok { IfOk result (λ report. IsOkAnd (simulated_deck text.now) (λ answer.
+        Appends (W.contents out.old) (W.contents out.new) answer.0 × (report ≡ answer.1))) }
     ensures err { IfErr result (DeckEndsBy (dump_of_deck text.now)
         (W.contents out.old) (W.contents out.new)) }
 {
@@ -66,13 +67,12 @@ pub fn deck<W: Write>(alloc: Global, text: &[u8], out: &mut W) -> Result<(), Dec
         stimuli: sections.stimuli,
         default_delay: 1,
         period: 10,
-        picks: Picks::Nothing,
+        picks: Picks::Text(sections.schedule),
     };
     let view = View {
         horizon: sections.horizon,
         show: Show::All,
         unit: TimeUnit::Ns,
     };
-    plain(alloc, &source, &view, out)?;
-    Ok(())
+    Ok(simulate(alloc, &source, &view, out)?)
 }

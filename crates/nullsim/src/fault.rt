@@ -1,8 +1,9 @@
 ghost use Rattle.std.specs.Prelude.{◌≡◌};
 ghost use Rattle.nullsim.specs.declared.fault.SimFault.TheVariants as sim;
-ghost use Rattle.nullsim.specs.Faults.{sim_of_bench, sim_of_build, sim_of_dump};
+ghost use Rattle.nullsim.specs.Faults.{sim_of_bench, sim_of_build, sim_of_dump, sim_of_schedule};
 
 use bench_text::BenchFault;
+use cmb_kernel::{KernelFault, ScheduleFault};
 use design::{BuildFault, DelayFault, OptionFault, StimulusFault};
 use std::alloc::AllocError;
 use thiserror::Error;
@@ -11,7 +12,7 @@ use vcd_dump::DumpFault;
 /// Why a run ended early.
 ///
 /// The first fault decides: the settings (default delay, period, horizon), the netlist, the delays,
-/// the stimuli. A want of memory of any layer is [`Memory`](Self::Memory).
+/// the stimuli, the schedule. A want of memory of any layer is [`Memory`](Self::Memory).
 #[derive(Clone, Copy, Debug, PartialEq, Eq, Error)]
 pub enum SimFault {
     #[error("{0}")]
@@ -22,6 +23,8 @@ pub enum SimFault {
     Timing(DelayFault),
     #[error("{0}")]
     Stimulus(StimulusFault),
+    #[error("{0}")]
+    Schedule(ScheduleFault),
     /// The dump broke off.
     #[error("{0}")]
     Dump(DumpFault),
@@ -69,6 +72,26 @@ impl From<BuildFault> for SimFault {
             BuildFault::Stimulus(fault) => SimFault::Stimulus(fault),
             BuildFault::Memory => SimFault::Memory,
         }
+    }
+}
+
+impl From<ScheduleFault> for SimFault {
+    ghost from_gives = { λ fault e. e ≡ sim_of_schedule fault };
+
+    fn from(fault: ScheduleFault) -> SimFault {
+        match fault {
+            ScheduleFault::Memory => SimFault::Memory,
+            other => SimFault::Schedule(other),
+        }
+    }
+}
+
+/// A run's kernel wants nothing but memory: the events of a schedule are few, and all are there.
+impl From<KernelFault> for SimFault {
+    ghost from_gives = { λ _ e. e ≡ sim.Memory };
+
+    fn from(_fault: KernelFault) -> SimFault {
+        SimFault::Memory
     }
 }
 

@@ -2,20 +2,20 @@
 ghost use Rattle.std.specs.Prelude.{◌≡◌, ◌<◌, [], map, length, All, Some, IfOk, IfErr, IfSome, OnOk, IsOkAnd};
 ghost use Rattle.std.specs.Io.KnownBytes.{Appends};
 ghost use Rattle.design.specs.Design.{IsDesign};
-ghost use Rattle.nullsim.specs.Run.{design_of_source, dump_of_source, seen_source, shown_nets, text_of};
-ghost use Rattle.nullsim.specs.Ends.{BreaksOff, EndsBy, IsRefusal};
+ghost use Rattle.nullsim.specs.Run.{design_of_source, dump_of_source, seen_source, shown_nets};
+ghost use Rattle.nullsim.specs.Ends.{EndsBy};
 ghost use Rattle.nullsim.specs.Shown.{wave_at, waves_up_to};
 ghost use Rattle.nullsim.specs.Viewed.{ShowsValues};
 
+use crate::dumping::{shown_nets, write_dump};
 use crate::fault::SimFault;
+use crate::preparation::prepare;
 use crate::source::Source;
 use crate::view::{Show, View};
-use bench_text::read;
-use design::{Design, Horizon, options, plain_waves};
+use design::{Design, Horizon, plain_waves};
 use logic3::Waveform;
 use std::alloc::{AllocError, Global};
 use std::io::Write;
-use vcd_dump::dump;
 
 /// Writes the dump of a run.
 ///
@@ -39,59 +39,10 @@ pub fn plain<W: Write>(
         (W.contents out.old) (W.contents out.new)) }
 {
     let (design, horizon) = prepare(alloc, source, view)?;
-    write_dump(alloc, &design, horizon, view, out)
-}
-
-/// The design and the horizon of a run.
-fn prepare(alloc: Global, source: &Source<'_>, view: &View) -> Result<(Design, Horizon), SimFault>
-    ensures ok { IfOk result (λ ready. design_of_source (seen_source source.now) view.now.horizon
-        ≡ Ok (ready.1, ready.0)) }
-    ensures err { IfErr result (IsRefusal (dump_of_source (seen_source source.now) view.now)) }
-{
-    options(source.default_delay, source.period)?;
-    let horizon = Horizon::new(view.horizon)?;
-    let netlist = read(alloc, source.bench)?;
-    let design = Design::build(
-        alloc,
-        netlist,
-        source.delays,
-        source.stimuli,
-        source.default_delay,
-        source.period,
-    )?;
-    Ok((design, horizon))
-}
-
-/// Writes the dump of a design up to a horizon.
-fn write_dump<W: Write>(
-    alloc: Global,
-    design: &Design,
-    horizon: Horizon,
-    view: &View,
-    out: &mut W,
-) -> Result<(), SimFault>
-    ensures ok { OnOk result (Appends (W.contents out.old) (W.contents out.new)
-        (text_of view.now horizon design.now)) }
-    ensures err { IfErr result (BreaksOff (W.contents out.old) (W.contents out.new)
-        (text_of view.now horizon design.now)) }
-{
-    let nets = shown_nets(alloc, design, view.show)?;
-    let waves = shown_waves(alloc, design, horizon, view.show, nets.as_slice())?;
+    let nets = shown_nets(alloc, &design, view.show)?;
+    let waves = shown_waves(alloc, &design, horizon, view.show, nets.as_slice())?;
     let (nets, waves) = (nets.as_slice(), waves.as_slice());
-    dump(alloc, out, design, nets, waves, horizon, view.unit)?;
-    Ok(())
-}
-
-/// The numbers of the nets that are shown, in their order.
-fn shown_nets(alloc: Global, design: &Design, show: Show) -> Result<Vec<u32>, AllocError>
-    ensures nets { IfOk result (λ nets. nets.items ≡ shown_nets show design.now.netlist) }
-    ensures well_formed { IsDesign design.now }
-{
-    let nets = design.nets();
-    match show {
-        Show::All => (0..nets).collect(alloc),
-        Show::Outputs => Vec::from_slice(alloc, design.netlist().outputs()),
-    }
+    write_dump(alloc, &design, horizon, view, nets, waves, out)
 }
 
 /// The waveforms of the nets that are shown.

@@ -2,8 +2,8 @@
 ghost use Rattle.std.specs.Prelude.{◌≡◌, ◌∷◌, ◌+◌, ◌-◌, ◌<◌, ◌≤◌, ◌^◌, ◌==◌, [], length, drop, false, min, option_map, MatchBool, MatchOption, IfSome, IsSome};
 ghost use Rattle.std.specs.List.{before_first, concat, position_or_len};
 ghost use Rattle.bench_text.specs.Text.{longest_text};
-ghost use Rattle.nullsim.specs.Deck.{ended_lines, has_words, horizon_in, line_words, sections_behind, sections_of};
-ghost use Rattle.nullsim.specs.Seen.{IsRefused, KeepsText, PassesLine, SplitsLine, ends_section, held, is_marker_word, on_sections, seen_sections, stops, word_of};
+ghost use Rattle.nullsim.specs.Deck.{ended_lines, has_words, horizon_in, is_marker, line_words, sections_behind, sections_of};
+ghost use Rattle.nullsim.specs.Seen.{IsRefused, KeepsText, PassesLine, SplitsLine, held, is_marker_word, on_sections, seen_sections, stops, word_of};
 
 use bench_text::text::{self, LONGEST_TEXT, first_place, split_word};
 use thiserror::Error;
@@ -26,15 +26,15 @@ pub(crate) struct Sections<'a> {
     pub(crate) bench: &'a [u8],
     pub(crate) delays: &'a [u8],
     pub(crate) stimuli: &'a [u8],
+    pub(crate) schedule: &'a [u8],
 }
 
 /// The sections of a deck, or its first fault.
 ///
 /// The first line has just the words `%nullsim` and a number, the horizon. A line with just one
-/// word, `%bench`, `%delays` or `%stimuli`, is a marker: a section is the bytes behind its marker's
-/// line, up to the next marker or the end, and one that isn't there is empty. Lines before the first
-/// marker have no words, no marker stands twice, and `%schedule`, the marker of later versions, not
-/// at all. Here no comment is dropped.
+/// word, `%bench`, `%delays`, `%stimuli` or `%schedule`, is a marker: a section is the bytes behind
+/// its marker's line, up to the next marker or the end, and one that isn't there is empty. Lines
+/// before the first marker have no words, and no marker stands twice. Here no comment is dropped.
 ///
 /// Goes over the lines once, takes no memory and copies nothing.
 pub(crate) fn read_sections(text: &[u8]) -> Result<Sections<'_>, DeckTextFault>
@@ -57,6 +57,7 @@ fn sections_behind(horizon: u64, text: &[u8]) -> Result<Sections<'_>, DeckTextFa
         bench: None,
         delays: None,
         stimuli: None,
+        schedule: None,
     };
     let head = split_front(text, false);
     // The lines so far: those of a deck count from 1, and its first line isn't among these.
@@ -75,6 +76,7 @@ fn sections_behind(horizon: u64, text: &[u8]) -> Result<Sections<'_>, DeckTextFa
         bench: found.bench.unwrap_or(&[]),
         delays: found.delays.unwrap_or(&[]),
         stimuli: found.stimuli.unwrap_or(&[]),
+        schedule: found.schedule.unwrap_or(&[]),
     })
 }
 
@@ -84,11 +86,12 @@ struct Found<'a> {
     bench: Option<&'a [u8]>,
     delays: Option<&'a [u8]>,
     stimuli: Option<&'a [u8]>,
+    schedule: Option<&'a [u8]>,
 }
 
 impl<'a> Found<'a> {
-    /// Takes the text of a marker's section, unless the line has no marker, or one of a later
-    /// version, or one whose section is there.
+    /// Takes the text of a marker's section, unless the line has no marker, or one whose section is
+    /// there.
     fn keep(&mut self, marker: Option<Marker>, text: &'a [u8]) -> bool
         ensures { MatchBool result
             (MatchOption marker ⊥ (λ marker. KeepsText marker text.entry self.old self.new))
@@ -98,7 +101,8 @@ impl<'a> Found<'a> {
             Some(Marker::Bench) => fill(&mut self.bench, text),
             Some(Marker::Delays) => fill(&mut self.delays, text),
             Some(Marker::Stimuli) => fill(&mut self.stimuli, text),
-            Some(Marker::Schedule) | None => false,
+            Some(Marker::Schedule) => fill(&mut self.schedule, text),
+            None => false,
         }
     }
 }
@@ -207,13 +211,12 @@ enum Marker {
     Bench,
     Delays,
     Stimuli,
-    /// A section that only later versions have.
     Schedule,
 }
 
 /// The marker that a line is.
 fn marker_in(line: &[u8]) -> Option<Marker>
-    ensures { MatchOption result (ends_section line.now ≡ false)
+    ensures { MatchOption result (is_marker line.now ≡ false)
         (λ marker. line_words line.now ≡ word_of marker ∷ []) }
 {
     let (word, rest) = split_word(without_newline(line))?;

@@ -12,11 +12,20 @@ pub struct Source<'a> {
     /// The period of all flip-flops in ticks: 1 to 10,000,000.
     pub period: u64,
     /// The plain engine doesn't read it.
-    pub picks: Picks,
+    pub picks: Picks<'a>,
 }
 
-/// What picks the order of work, where an engine has a choice. The plain one has none.
-#[derive(Clone, Copy, Debug, PartialEq, Eq)]
-pub enum Picks {
+/// What picks the events that come before a run completes.
+#[derive(Clone, Copy, Debug)]
+pub enum Picks<'a> {
+    /// There are none.
     Nothing,
+    /// A text with a line for each event.
+    Text(&'a [u8]),
+    /// A generator of random words.
+    Seeded {
+        seed: u64,
+        /// How many events: at most 10,000,000.
+        picks: u64,
+    },
 }

@@ -1,20 +1,50 @@
-//! The program: without words it reads a deck on standard input, and writes its dump.
+//! The program: without words it reads a deck on standard input and writes its dump, and with words
+//! it carries out a command over files.
 #![tactic(auto)]
 
-use nullsim::tell;
-use std::io;
+use nullsim::{ReadFault, Texts, command, read_text, tell};
+use std::fs::File;
+use std::io::{self, ErrorKind, Write};
 use std::process::ExitCode;
+use std::rt::Files;
 
-// The exit status of a usage fault.
-const USAGE: u8 = 2;
+/// The texts of files, by their paths.
+#[derive(Drop)]
+struct Folder<'a, R> {
+    rt: &'a R,
+}
 
-fn main(rt: HostRuntime) -> io::Result<ExitCode> {
-    let alloc = rt.alloc();
-    let words: Vec<String> = std::env::args(&rt)?.collect(alloc)?;
-    if words.len() > 1 {
-        eprintln!(rt; "usage: nullsim < DECK > DUMP")?;
-        return Ok(ExitCode::from(USAGE));
+impl<R: Files + AllocGlobal> Texts for Folder<'_, R> {
+    fn text(&mut self, name: &str) -> Result<Vec<u8>, ReadFault> {
+        match File::open(self.rt, name) {
+            Ok(mut file) => read_text(self.rt.alloc(), &mut file),
+            Err(_) => Err(ReadFault::Read),
+        }
     }
-    let status = tell(alloc, &mut rt.stdin(), &mut rt.stdout(), &mut rt.stderr());
-    Ok(ExitCode::from(status))
+}
+
+/// The words behind the program's own name.
+fn words_given(rt: &HostRuntime) -> io::Result<Vec<String>> {
+    Ok(std::env::args(rt)?.skip(1).collect(rt.alloc())?)
+}
+
+fn main(rt: HostRuntime) -> ExitCode {
+    let alloc = rt.alloc();
+    let (mut out, mut err) = (rt.stdout(), rt.stderr());
+    let status = match words_given(&rt) {
+        Ok(words) if words.is_empty() => tell(alloc, &mut rt.stdin(), &mut out, &mut err),
+        Ok(words) => {
+            let mut files = Folder { rt: &rt };
+            command(alloc, words.as_slice(), &mut files, &mut out, &mut err)
+        }
+        Err(fault) if fault.kind() == ErrorKind::OutOfMemory => {
+            let _ = err.write_all(b"memory:0: Memory\n");
+            4
+        }
+        Err(_) => {
+            let _ = err.write_all(b"error: a word of the command line is no UTF-8 text\n");
+            2
+        }
+    };
+    ExitCode::from(status)
 }

@@ -2,9 +2,23 @@
 #![tactic(auto)]
 
 #[cfg(test)]
+mod channels;
+#[cfg(test)]
+mod commanding;
+#[cfg(test)]
+mod cones;
+#[cfg(test)]
+mod kernels;
+#[cfg(test)]
 mod plain_engine;
 #[cfg(test)]
+mod processes;
+#[cfg(test)]
 mod reading;
+#[cfg(test)]
+mod schedules;
+#[cfg(test)]
+mod simulations;
 #[cfg(test)]
 mod telling;
 #[cfg(test)]

@@ -1,5 +1,5 @@
-//! Reading .bench texts.
-use bench_text::{BenchFault, Netlist, Part, read};
+//! Reading and writing .bench texts.
+use bench_text::{BenchFault, Netlist, Part, read, write};
 use logic3::GateKind;
 use std::alloc::{AllocError, Global};
 use std::fmt::Write;
@@ -124,6 +124,36 @@ fn first_fault(rt: HostRuntime) -> Result<(), Fail> {
     Ok(())
 }
 
+#[test]
+fn canonical_texts(rt: HostRuntime) -> Result<(), Fail> {
+    for (text, canonical) in [
+        (
+            b"input(a)\r\n\toutput ( y ) # \xC3\xA9\r\noutput(y)\r\ny = and( a )".as_slice(),
+            b"INPUT(a)\ny = AND(a)\nOUTPUT(y)\n".as_slice(),
+        ),
+        (
+            b"OUTPUT(y)\ny = NOT(n)\nn = NOT(a)\nINPUT(a)\n".as_slice(),
+            b"y = NOT(n)\nn = NOT(a)\nINPUT(a)\nOUTPUT(y)\n".as_slice(),
+        ),
+        (
+            b"INPUT(INPUT)\nNOT = not(INPUT)".as_slice(),
+            b"INPUT(INPUT)\nNOT = NOT(INPUT)\n".as_slice(),
+        ),
+        (
+            b"INPUT(a)\nb=nand(a,a)\nc=or(a)\nd=Nor(c,b,a)\ne=xor(a)\nf=xnor(a)".as_slice(),
+            b"INPUT(a)\nb = NAND(a, a)\nc = OR(a)\nd = NOR(c, b, a)\ne = XOR(a)\nf = XNOR(a)\n".as_slice(),
+        ),
+        (
+            b"INPUT(a)\ng=inv(a)\nh=buff(a)\ni=dff(h)".as_slice(),
+            b"INPUT(a)\ng = NOT(a)\nh = BUF(a)\ni = DFF(h)\n".as_slice(),
+        ),
+    ] {
+        let written = write(rt.alloc(), &accepts(rt.alloc(), text)?)?;
+        assert_eq!(rt; written.as_slice(), canonical);
+    }
+    Ok(())
+}
+
 // So many of a character.
 fn repeated(alloc: Global, character: char, count: usize) -> Result<String, AllocError> {
     let mut text = String::new(alloc);
@@ -217,8 +247,14 @@ fn limit_of_pins(rt: HostRuntime) -> Result<(), Fail> {
     let text = many_pins(rt.alloc(), "a", 577)?;
     refuses(&rt, rt.alloc(), text.as_bytes(), BenchFault::TooMany);
 
+    // Without spaces the text isn't too long; with one after each comma it is.
     let text = many_pins(rt.alloc(), "fifteen_letters", 576)?;
-    assert_eq!(rt; accepts(rt.alloc(), text.as_bytes())?.nets(), 978);
+    let netlist = accepts(rt.alloc(), text.as_bytes())?;
+    assert_eq!(rt; netlist.nets(), 978);
+    match write(rt.alloc(), &netlist) {
+        Ok(_) => assert!(rt; false, "written, and not TooLong"),
+        Err(fault) => assert_eq!(rt; fault, BenchFault::TooLong),
+    }
     Ok(())
 }
 

@@ -1,5 +1,5 @@
 //! Decks through `tell`: dumps byte for byte, exit statuses and fault lines, faulty streams.
-use nullsim::{Picks, Show, Source, View, plain, tell};
+use nullsim::{Picks, Show, Source, View, deck, plain, tell};
 use std::alloc::Global;
 use std::io::{self, ErrorKind, Read, Write};
 use std::process::Abort;
@@ -19,7 +19,7 @@ fn tells(rt: &impl Abort, alloc: Global, deck: &[u8], status: u8, dump: &[u8], f
 const INVERTER: &[u8] =
     b"%nullsim 5\n%bench\nINPUT(a)\nOUTPUT(y)\ny = NOT(a)\n%stimuli\n0 a 0\n3 a 1\n";
 
-const INVERTER_DUMP: &[u8] =
+pub(crate) const INVERTER_DUMP: &[u8] =
     b"$version nullsim 1 $end\n$timescale 1 ns $end\n$scope module top $end\n$var wire 1 ! a $end\n$var wire 1 \" y $end\n$upscope $end\n$enddefinitions $end\n#0\n$dumpvars\n0!\nx\"\n$end\n#1\n1\"\n#3\n1!\n#4\n0\"\n#5\n";
 
 #[test]
@@ -87,8 +87,8 @@ fn bad_decks(rt: HostRuntime) {
             b"deck:3: BadDeck\n".as_slice(),
         ),
         (
-            b"%nullsim 5\n%bench\nINPUT(a)\n%schedule\n".as_slice(),
-            b"deck:4: BadDeck\n".as_slice(),
+            b"%nullsim 5\n%schedule\n%bench\nINPUT(a)\n%schedule\n".as_slice(),
+            b"deck:5: BadDeck\n".as_slice(),
         ),
         (b"%nullsim 5".as_slice(), b"bench:0: NoNets\n".as_slice()),
         (
@@ -110,6 +110,67 @@ fn bad_decks(rt: HostRuntime) {
     ] {
         tells(&rt, rt.alloc(), deck, 1, b"", fault);
     }
+}
+
+#[test]
+fn schedules(rt: HostRuntime) {
+    for deck in [
+        b"%nullsim 5\n%bench\nINPUT(a)\nOUTPUT(y)\ny = NOT(a)\n%stimuli\n0 a 0\n3 a 1\n%schedule\nadvance a\ndeliver y 0 # one message\nadvance y\n".as_slice(),
+        b"%nullsim 5\n%schedule\n# %foo\n\nadvance y\n%stimuli\n0 a 0\n3 a 1\n%bench\nINPUT(a)\nOUTPUT(y)\ny = NOT(a)\n".as_slice(),
+        b"%nullsim 5\n%schedule\n%stimuli\n0 a 0\n3 a 1\n%bench\nINPUT(a)\nOUTPUT(y)\ny = NOT(a)\n".as_slice(),
+    ] {
+        tells(&rt, rt.alloc(), deck, 0, INVERTER_DUMP, b"");
+    }
+}
+
+#[test]
+fn schedule_faults(rt: HostRuntime) {
+    for (deck, fault) in [
+        (
+            b"%nullsim 5\n%bench\nINPUT(a)\ny = NOT(a)\n%schedule\ndeliver y 1\n".as_slice(),
+            b"schedule:1: BadPin\n".as_slice(),
+        ),
+        (
+            b"%nullsim 5\n%schedule\nAdvance y\n%bench\nINPUT(a)\ny = NOT(a)\n".as_slice(),
+            b"schedule:1: BadLine\n".as_slice(),
+        ),
+        (
+            b"%nullsim 5\n%bench\nINPUT(a)\ny = NOT(a)\n%schedule\n\nadvance y\nadvance zz\n".as_slice(),
+            b"schedule:3: UnknownNet\n".as_slice(),
+        ),
+        (
+            b"%nullsim 5\n%bench\nINPUT(a)\n%schedule\n%foo\n".as_slice(),
+            b"schedule:1: BadLine\n".as_slice(),
+        ),
+        // A fault of the stimuli comes first.
+        (
+            b"%nullsim 5\n%schedule\nadvance zz\n%bench\nINPUT(a)\n%stimuli\n0 a 2\n".as_slice(),
+            b"stimuli:1: BadValue\n".as_slice(),
+        ),
+    ] {
+        tells(&rt, rt.alloc(), deck, 1, b"", fault);
+    }
+}
+
+#[test]
+fn report_of_a_deck(rt: HostRuntime) -> Result<(), Fail> {
+    let mut out = Vec::new(rt.alloc());
+    let report = deck(rt.alloc(), INVERTER, &mut out)?;
+    assert!(rt; out.as_slice() == INVERTER_DUMP);
+    assert_eq!(rt; report.after.events, 0);
+    assert_eq!(rt; report.least, 0);
+    let total = report.total;
+    let counts = [total.events, total.changes, total.nulls, total.rounds];
+    assert_eq!(rt; counts, [7, 4, 3, 2]);
+
+    let scheduled =
+        b"%nullsim 5\n%bench\nINPUT(a)\ny = NOT(a)\n%schedule\nadvance a\ndeliver y 0\nadvance y\n";
+    let mut out = Vec::new(rt.alloc());
+    let report = deck(rt.alloc(), scheduled, &mut out)?;
+    assert_eq!(rt; report.after.events, 3);
+    assert_eq!(rt; report.least, 6);
+    assert_eq!(rt; report.total, report.after);
+    Ok(())
 }
 
 // Gives some bytes, one a call, and then fails; or gives bytes for ever.
@@ -152,17 +213,17 @@ fn faulty_readers(rt: HostRuntime) {
 
 // A writer that takes at most so many bytes in all, and so many a call; then it fails or takes none.
 #[derive(Drop)]
-struct Narrow {
-    taken: Vec<u8>,
+pub(crate) struct Narrow {
+    pub(crate) taken: Vec<u8>,
     room: usize,
     most: usize,
     fails: bool,
-    flushes: u32,
-    flush_fails: bool,
+    pub(crate) flushes: u32,
+    pub(crate) flush_fails: bool,
 }
 
 impl Narrow {
-    fn new(alloc: Global, room: usize, most: usize) -> Narrow {
+    pub(crate) fn new(alloc: Global, room: usize, most: usize) -> Narrow {
         Narrow {
             taken: Vec::new(alloc),
             room,

@@ -9,6 +9,7 @@ mod lines;
 mod pending;
 mod unit;
 
+pub use bytes::write_all_bytes;
 pub use dumper::dump;
 pub use fault::DumpFault;
 pub use unit::TimeUnit;

@@ -1,8 +1,9 @@
-use super::{tell, write_fault};
+use super::tell;
 use crate::deck_run::DeckFault;
 use crate::fault::SimFault;
-use crate::tell_fault::{TellFault, status};
+use crate::program_fault::{ProgramFault, SECTIONS, report};
 use bench_text::BenchFault;
+use cmb_kernel::ScheduleFault;
 use design::{DelayFault, OptionFault, StimulusFault};
 use std::io::{self, ErrorKind, Read, Write};
 use vcd_dump::DumpFault;
@@ -51,8 +52,8 @@ impl Write for Slow {
     }
 }
 
-fn of_run(fault: SimFault) -> TellFault {
-    TellFault::Run(DeckFault::Sim(fault))
+fn of_run(fault: SimFault) -> ProgramFault<'static> {
+    ProgramFault::Run(DeckFault::Sim(fault))
 }
 
 #[test]
@@ -61,11 +62,15 @@ fn each_fault_has_its_line_and_status(rt: HostRuntime) {
         line: 18_446_744_073_709_551_615,
     };
     let rows = [
-        (TellFault::Read, 3, "stdin:0: Read\n"),
-        (TellFault::Flush, 3, "stdout:0: Write\n"),
-        (TellFault::Run(DeckFault::TooLong), 1, "deck:0: TooLong\n"),
+        (ProgramFault::Read("stdin"), 3, "stdin:0: Read\n"),
+        (ProgramFault::Flush, 3, "stdout:0: Write\n"),
         (
-            TellFault::Run(bad_deck),
+            ProgramFault::Run(DeckFault::TooLong),
+            1,
+            "deck:0: TooLong\n",
+        ),
+        (
+            ProgramFault::Run(bad_deck),
             1,
             "deck:18446744073709551615: BadDeck\n",
         ),
@@ -95,6 +100,11 @@ fn each_fault_has_its_line_and_status(rt: HostRuntime) {
             "stimuli:30: TickTooLarge\n",
         ),
         (
+            of_run(SimFault::Schedule(ScheduleFault::BadPin { line: 1 })),
+            1,
+            "schedule:1: BadPin\n",
+        ),
+        (
             of_run(SimFault::Dump(DumpFault::WroteNothing)),
             3,
             "stdout:0: WroteNothing\n",
@@ -105,9 +115,8 @@ fn each_fault_has_its_line_and_status(rt: HostRuntime) {
         let mut err = Slow {
             taken: Vec::new(rt.alloc()),
         };
-        write_fault(&mut err, fault);
+        assert_eq!(rt; report(&mut err, fault, SECTIONS), code);
         assert!(rt; err.taken.as_slice() == line.as_bytes());
-        assert_eq!(rt; status(fault), code);
     }
 }
 

@@ -1,8 +1,9 @@
 use Rattle.std.proofs.Common.{sym}
-use Rattle.std.specs.Io.KnownBytes.{Appends}
 use Rattle.std.proofs.lemmas.Result.{err_from_is_err_and}
+use Rattle.nullsim.specs.DeckRun.{source_of_deck, view_of_deck}
 use Rattle.nullsim.specs.Seen.{seen_sections}
-use Rattle.nullsim.proofs.Decks.{dump_of_deck-sections, dump_of_deck-bad_text, DeckEndsBy-bad_text, DeckEndsBy-Sim, IsOkAnd-Sim}
+use Rattle.nullsim.specs.Simulated.{simulated}
+use Rattle.nullsim.proofs.Decks.{simulated_deck-sections, dump_of_deck-bad_text, DeckEndsBy-bad_text, DeckEndsBy-Sim, IsOkAnd-Sim}
 use Rattle.nullsim.proofs.deck_run.deck.Goals as goal
 
 pub returns-in_err-sections-clause-err : goal.returns-in_err-sections-clause-err
@@ -10,13 +11,14 @@ returns-in_err-sections-clause-err g c =
     let p = err_from_is_err_and c.from_residual.result c.from_residual.ensures.1 in
     rw (p.1, p.2) (DeckEndsBy-bad_text _ _ _ (dump_of_deck-bad_text c.args.text.now _ (sym c.in_err-sections.ensures)))
 
-pub returns-in_err-plain-clause-err : goal.returns-in_err-plain-clause-err
-returns-in_err-plain-clause-err g c =
-    let p = err_from_is_err_and c.from_residual-in_err-plain.result c.from_residual-in_err-plain.ensures.1 in
-    let is = dump_of_deck-sections c.args.text.now (seen_sections c.in_ok-sections.sections) (sym c.in_ok-sections.ensures) in
-    rw (p.1, p.2) (DeckEndsBy-Sim _ _ _ _ _ is c.in_err-plain.ensures.err)
+pub returns-in_err-simulate-clause-err : goal.returns-in_err-simulate-clause-err
+returns-in_err-simulate-clause-err g c =
+    let p = err_from_is_err_and c.from_residual-in_err-simulate.result c.from_residual-in_err-simulate.ensures.1 in
+    let is = simulated_deck-sections c.args.text.now (seen_sections c.in_ok-sections.sections) (sym c.in_ok-sections.ensures) in
+    rw (p.1, p.2) (DeckEndsBy-Sim _ _ _ _ _ is c.in_err-simulate.ensures.err)
 
 pub returns-clause-ok : goal.returns-clause-ok
 returns-clause-ok g c =
-    rw (dump_of_deck-sections c.args.text.now (seen_sections c.in_ok-sections.sections) (sym c.in_ok-sections.ensures))
-    (IsOkAnd-Sim _ (λ text. Appends (g.W.Write.contents c.args.out.now) (g.W.Write.contents c.plain.new.out) text) c.in_ok-plain.ensures.ok)
+    let found = seen_sections c.in_ok-sections.sections in
+    rw (simulated_deck-sections c.args.text.now found (sym c.in_ok-sections.ensures))
+    (IsOkAnd-Sim (simulated (source_of_deck found) (view_of_deck found)) _ c.in_ok-simulate.ensures.ok)

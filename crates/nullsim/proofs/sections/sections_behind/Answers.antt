@@ -1,7 +1,7 @@
 use Rattle.std.proofs.Common.{◌≡◌, ◌∙◌, ℕ, List, [], codes, Ok, refl, ap, arith}
 use denote.Ref.{Bor}
 use Rattle.nullsim.specs.Deck.{ended_lines, section, sections_behind}
-use Rattle.nullsim.proofs.Found.{Reached-first, Reached-not_kept, Reached-kept, Reached-good, Reached-bench, Reached-delays, Reached-stimuli}
+use Rattle.nullsim.proofs.Found.{Reached-first, Reached-not_kept, Reached-kept, Reached-good, Reached-bench, Reached-delays, Reached-stimuli, Reached-schedule}
 use Rattle.nullsim.proofs.sections.sections_behind.Goals as goal
 
 pub loop-line-init : goal.loop-line-init
@@ -36,5 +36,6 @@ returns c =
     let bench : c.unwrap_or.result.now ≡ section (codes "%bench") all = ap (λ (text : Bor (List ℕ)). text.now) c.unwrap_or.ensures ∙ Reached-bench all _ _ reached _ refl in
     let delays : c.unwrap_or-2.result.now ≡ section (codes "%delays") all = ap (λ (text : Bor (List ℕ)). text.now) c.unwrap_or-2.ensures ∙ Reached-delays all _ _ reached _ refl in
     let stimuli : c.unwrap_or-3.result.now ≡ section (codes "%stimuli") all = ap (λ (text : Bor (List ℕ)). text.now) c.unwrap_or-3.ensures ∙ Reached-stimuli all _ _ reached _ refl in
+    let schedule : c.unwrap_or-4.result.now ≡ section (codes "%schedule") all = ap (λ (text : Bor (List ℕ)). text.now) c.unwrap_or-4.ensures ∙ Reached-schedule all _ _ reached _ refl in
     rw (Reached-good all _ _ reached)
-    (λ i. Ok (record { horizon = c.args.horizon; bench = bench i; delays = delays i; stimuli = stimuli i }))
+    (λ i. Ok (record { horizon = c.args.horizon; bench = bench i; delays = delays i; stimuli = stimuli i; schedule = schedule i }))

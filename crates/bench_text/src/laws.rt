@@ -1,0 +1,11 @@
+//! Facts about the definitions alone.
+ghost use Rattle.std.specs.Prelude.{◌≡◌, ◌≤◌, length, Ok};
+ghost use Rattle.bench_text.specs.Text.{longest_text};
+ghost use Rattle.bench_text.specs.Netlist.{NetlistView, IsNetlist, netlist_of};
+ghost use Rattle.bench_text.specs.Canonical.{canonical};
+
+/// The canonical text of a netlist, where it isn't too long, reads back as that netlist.
+pub fn read_back()
+    ensures { (netlist : NetlistView) → IsNetlist netlist → length (canonical netlist) ≤ longest_text →
+        netlist_of (canonical netlist) ≡ Ok netlist }
+{}

@@ -1,0 +1,57 @@
+ghost use Rattle.std.specs.Prelude.{◌≡◌, ℕ, ◌<◌, ◌++◌, ◌∷◌, [], List, length, replicate, IfOk, OnOk, OnErr, slice_index_or, option_to_list};
+ghost use Rattle.design.specs.Circuit.{pin_count};
+ghost use Rattle.design.specs.Pins.{sources_of};
+ghost use Rattle.cmb_channels.specs.declared.message.Message.{Message};
+ghost use Rattle.cmb_channels.specs.Lists.{sent, taken};
+
+use crate::message::Message;
+use design::Design;
+use std::alloc::{AllocError, Global};
+
+/// First-in first-out channels from nets to the pins that they feed: a list of waiting messages for
+/// each pin.
+///
+/// Nets and pins are numbered as in the [`Design`] that the channels were made for. A method that
+/// takes the number of a net or a pin asks for one of that design.
+pub trait Fabric: Drop {
+    /// The messages that wait at each pin, the oldest first.
+    ghost lists: { Self → List (List Message) };
+
+    /// The net that feeds each pin.
+    ghost sources: { Self → List ℕ };
+
+    /// How many nets there are.
+    ghost nets: { Self → ℕ };
+
+    /// Channels of a design, with nothing in them.
+    fn empty_for(alloc: Global, design: &Design) -> Result<Self, AllocError>
+        ensures lists { IfOk result (λ fabric. lists fabric ≡ replicate (pin_count design.now.circuit) []) }
+        ensures sources { IfOk result (λ fabric. sources fabric ≡ sources_of design.now.circuit) }
+        ensures nets { IfOk result (λ fabric. nets fabric ≡ length design.now.circuit) };
+
+    /// Puts a message at the end of the list of each pin that the net feeds; one at two pins of a gate
+    /// sends to both.
+    ///
+    /// An `AllocError` leaves all lists as they were.
+    fn send(&mut self, net: u32, message: Message) -> Result<(), AllocError>
+        requires { net < nets self.old }
+        ensures ok { OnOk result (lists self.new ≡ sent net (message ∷ []) (sources self.old) (lists self.old)) }
+        ensures err { OnErr result (lists self.new ≡ lists self.old) }
+        ensures pins { length (lists self.new) ≡ length (lists self.old) }
+        ensures sources { sources self.new ≡ sources self.old }
+        ensures nets { nets self.new ≡ nets self.old };
+
+    /// Takes the oldest message that waits at the pin, if one does. Takes no memory.
+    fn take(&mut self, pin: u32) -> Option<Message>
+        requires { pin < length (lists self.old) }
+        ensures front { slice_index_or (lists self.old) pin [] ≡ option_to_list result ++ slice_index_or (lists self.new) pin [] }
+        ensures lists { lists self.new ≡ taken pin (lists self.old) }
+        ensures pins { length (lists self.new) ≡ length (lists self.old) }
+        ensures sources { sources self.new ≡ sources self.old }
+        ensures nets { nets self.new ≡ nets self.old };
+
+    /// How many messages wait at the pin. Takes no memory.
+    fn waiting(&self, pin: u32) -> u64
+        requires { pin < length (lists self.now) }
+        ensures { result ≡ length (slice_index_or (lists self.now) pin []) };
+}

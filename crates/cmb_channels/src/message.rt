@@ -1,0 +1,12 @@
+use logic3::Change;
+
+/// What a net's process tells the pins that the net feeds, and what it promises by that of all
+/// later changes of the net.
+#[derive(Clone, Copy, Debug, PartialEq, Eq)]
+pub enum Message {
+    /// From the tick of this change on, the net shows its value; each later change comes at least one
+    /// tick after it.
+    Change(Change),
+    /// Null: no change, but a promise that each later one comes at this tick or after it.
+    Null(u64),
+}

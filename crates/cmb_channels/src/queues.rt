@@ -1,0 +1,75 @@
+mod building;
+mod filling;
+
+use crate::fabric::Fabric;
+use crate::message::Message;
+use building::{empty_queues, fed_pins, pin_sources};
+use design::Design;
+use filling::{push_at_all, reserve_places};
+use std::alloc::{AllocError, Global};
+use std::collections::VecDeque;
+use std::marker::Model;
+
+/// Channels as a queue of waiting messages for each pin.
+///
+/// Sending takes time in proportion to the pins that the net feeds, taking and counting constant
+/// time.
+#[derive(Debug, Drop)]
+pub struct Queues {
+    // The net that feeds each pin.
+    sources: Vec<u32>,
+    // The pins that each net feeds, in order: `sources` the other way round.
+    fed: Vec<Vec<u32>>,
+    // What waits at each pin.
+    queues: Vec<VecDeque<Message>>,
+}
+
+impl Model for Queues {
+    ghost use Rattle.std.specs.Prelude.{length};
+    ghost use Rattle.cmb_channels.specs.Channels.{Channels, IsWired, pins_in};
+    ghost use Rattle.cmb_channels.specs.Waiting.{lists_in};
+
+    ghost Value = { Channels };
+
+    ghost view = { λ q. record {
+      lists = lists_in q.queues.items;
+      sources = q.sources.items;
+      nets = length q.fed.items;
+    } };
+
+    ghost invariant = { λ q.
+        IsWired q.sources.items (pins_in q.fed.items) (lists_in q.queues.items) };
+}
+
+impl Fabric for Queues {
+    ghost use Rattle.cmb_channels.specs.Channels.{Channels};
+
+    ghost lists = { λ q. q.lists };
+
+    ghost sources = { λ q. q.sources };
+
+    ghost nets = { λ q. q.nets };
+
+    fn empty_for(alloc: Global, design: &Design) -> Result<Self, AllocError> {
+        Ok(Queues {
+            sources: pin_sources(alloc, design)?,
+            fed: fed_pins(alloc, design)?,
+            queues: empty_queues(alloc, design.pins())?,
+        })
+    }
+
+    fn send(&mut self, net: u32, message: Message) -> Result<(), AllocError> {
+        let pins = self.fed[net as usize].as_slice();
+        reserve_places(&mut self.queues, pins)?;
+        push_at_all(&mut self.queues, pins, message);
+        Ok(())
+    }
+
+    fn take(&mut self, pin: u32) -> Option<Message> {
+        self.queues[pin as usize].pop_front()
+    }
+
+    fn waiting(&self, pin: u32) -> u64 {
+        self.queues[pin as usize].len() as u64
+    }
+}

@@ -1,0 +1,36 @@
+//! A message into the queues of many pins: room in all of them first, and then the message.
+ghost use Rattle.std.specs.Prelude.{◌≡◌, ◌<◌, vec_len, All, OnOk};
+ghost use Rattle.cmb_channels.specs.Waiting.{appended, lists_in, HasRoom, IsRising};
+
+use crate::message::Message;
+use std::alloc::AllocError;
+use std::collections::VecDeque;
+
+/// Makes room for one more message in the queue of each of these pins.
+///
+/// An `AllocError` leaves some of them without.
+pub(super) fn reserve_places(
+    queues: &mut Vec<VecDeque<Message>>,
+    pins: &[u32],
+) -> Result<(), AllocError>
+    requires { All (λ pin. pin < vec_len queues.old) pins.now }
+    ensures lists { lists_in queues.new.items ≡ lists_in queues.old.items }
+    ensures ok { OnOk result (All (HasRoom queues.new.items) pins.now) }
+{
+    for pin in pins {
+        queues[*pin as usize].reserve(1)?;
+    }
+    Ok(())
+}
+
+/// Puts a message at the end of the queue of each of these pins.
+pub(super) fn push_at_all(queues: &mut Vec<VecDeque<Message>>, pins: &[u32], message: Message)
+    requires rising { IsRising pins.now }
+    requires exist { All (λ pin. pin < vec_len queues.old) pins.now }
+    requires room { All (HasRoom queues.old.items) pins.now }
+    ensures { lists_in queues.new.items ≡ appended message pins.now (lists_in queues.old.items) }
+{
+    for pin in pins {
+        queues[*pin as usize].push_back_reserved(message);
+    }
+}

@@ -1,0 +1,199 @@
+-- The frontiers after a round depend on the frontiers before it alone, and rise with them.
+use Rattle.std.proofs.Common.{◌≡◌, ℕ, zero, suc, ◌+◌, ◌<◌, ◌≤◌, min, List, [], ◌∷◌, map, length, replicate, Some, slice_get, slice_index_or, get_or, refl, ap, subst, ◌∙◌, arith, ◌⊎◌, inl, inr, zero-add}
+use Rattle.std.specs.List.{range_with_len}
+use Rattle.std.proofs.lemmas.Bool.{cases_lt}
+use Rattle.std.proofs.lemmas.List.{length-map, get_or_past}
+use Rattle.std.proofs.lemmas.Option.{slice_get_within, slice_get-get_or, get_or_from_slice_get}
+use Rattle.design.proofs.WellFormed.{timed_at}
+use Rattle.design.specs.Circuit.{Net, Circuit, IsCircuit}
+use Rattle.design.specs.Equations.{value_of}
+use Rattle.cmb_channels.specs.declared.message.Message.{Message}
+use Rattle.design.specs.Pins.{first_pin, net_of_pin, place_of_pin}
+use Rattle.cmb_channels.proofs.Places.{map-update, view_at, get_update_same, get_update_other}
+use Rattle.gate_process.specs.Knowledge.{Knowledge, Tells}
+use Rattle.gate_process.specs.Step.{ProcessState, least, frontier_of_part, advanced, heard}
+use Rattle.gate_process.proofs.Frontiers.{frontier-mono}
+use Rattle.cmb_kernel.specs.declared.event.Event.TheVariants.{Deliver, Advance}
+use Rattle.cmb_kernel.specs.State.{State, started, nets_of, frontier_at, IsComplete}
+use Rattle.cmb_kernel.specs.Step.{step, steps, after_deliver, deliveries_from, round_of, rounds}
+use Rattle.cmb_kernel.specs.Sound.{IsSound}
+use Rattle.cmb_kernel.proofs.Truth.{get_below, net_at, started_frontier, started_sound, steps_sound}
+use Rattle.cmb_kernel.proofs.Progress.{at_pin, steps-append, net_count, all_emptied, deliveries_exist, round_sound}
+use Rattle.cmb_kernel.proofs.Completion.{frontier_within, rounds_sound}
+
+-- ---- deliveries leave the nets' frontiers
+
+deliver_frontier : (state : State) (pin number : ℕ) → frontier_at (step state (Deliver pin)) number ≡ frontier_at state number
+deliver_frontier state pin number = go (at_pin state pin)
+  where
+    go : (waiting : List Message) → frontier_at (after_deliver state pin waiting) number ≡ frontier_at state number
+    go [] = refl
+    go (message ∷ messages) =
+        ap (λ ns. slice_index_or ns number 0)
+        (map-update (λ (p : ProcessState). p.known.frontier) (heard (place_of_pin (nets_of state) pin) message)
+        (net_of_pin (nets_of state) pin) state.processes (λ p. refl))
+
+deliver_frontiers : (state : State) (pin count number : ℕ) →
+    frontier_at (steps state (replicate count (Deliver pin))) number ≡ frontier_at state number
+deliver_frontiers state pin zero number = refl
+deliver_frontiers state pin (suc count) number =
+    deliver_frontiers (step state (Deliver pin)) pin count number ∙ deliver_frontier state pin number
+
+deliveries_frontier : (state : State) (pin : ℕ) (lists : List (List Message)) (number : ℕ) →
+    frontier_at (steps state (deliveries_from pin lists)) number ≡ frontier_at state number
+deliveries_frontier state pin [] number = refl
+deliveries_frontier state pin (list ∷ lists) number =
+    ap (λ s. frontier_at s number) (steps-append state (replicate (length list) (Deliver pin)) (deliveries_from (pin + 1) lists))
+    ∙ deliveries_frontier (steps state (replicate (length list) (Deliver pin))) (pin + 1) lists number
+    ∙ deliver_frontiers state pin (length list) number
+
+-- ---- each net advances once
+
+unmoved : (state : State) (from count number : ℕ) → number < from →
+    slice_get (steps state (map Advance (range_with_len from count))).processes number ≡ slice_get state.processes number
+unmoved state from zero number h = refl
+unmoved state from (suc count) number h =
+    unmoved (step state (Advance from)) (from + 1) count number (omega arith)
+    ∙ get_update_other advanced from state.processes number (λ e. omega arith)
+
+advanced_once : (state : State) (from count number : ℕ) (process : ProcessState) → slice_get state.processes number ≡ Some process →
+    from ≤ number → number < from + count →
+    slice_get (steps state (map Advance (range_with_len from count))).processes number ≡ Some (advanced process)
+advanced_once state from zero number process e a b = absurd (omega arith)
+advanced_once state from (suc count) number process e a b =
+    go (cases_lt from number) (λ late. advanced_once (step state (Advance from)) (from + 1) count number process
+    (get_update_other advanced from state.processes number (λ same. omega arith) ∙ e) (omega arith) (omega arith))
+  where
+    go : (from < number) ⊎ (number ≤ from) →
+        (from < number → slice_get (steps (step state (Advance from)) (map Advance (range_with_len (from + 1) count))).processes number ≡ Some (advanced process)) →
+        slice_get (steps (step state (Advance from)) (map Advance (range_with_len (from + 1) count))).processes number ≡ Some (advanced process)
+    go (inl late) rest = rest late
+    go (inr early) rest =
+        let is : from ≡ number = omega arith in
+        unmoved (step state (Advance from)) (from + 1) count number (omega arith)
+        ∙ ap (λ n. slice_get (step state (Advance n)).processes number) is
+        ∙ get_update_same advanced number state.processes process e
+
+same_frontiers : (received : List Knowledge) (pins : List ℕ) (frontier : ℕ → ℕ) → length received ≡ length pins →
+    ((place source : ℕ) (known : Knowledge) → slice_get pins place ≡ Some source → slice_get received place ≡ Some known →
+    known.frontier ≡ frontier source) →
+    map (λ (known : Knowledge). known.frontier) received ≡ map frontier pins
+same_frontiers [] [] frontier e h = refl
+same_frontiers [] (pin ∷ pins) frontier e h = absurd (omega arith)
+same_frontiers (known ∷ received) [] frontier e h = absurd (omega arith)
+same_frontiers (known ∷ received) (pin ∷ pins) frontier e h =
+    let first = h 0 pin known refl refl in
+    let rest = same_frontiers received pins frontier (omega arith) (λ place source k a b. h (suc place) source k a b) in cc
+
+-- after a round a net's frontier follows from the frontiers that its sources had before
+pub round_frontier : (circuit : Circuit) → IsCircuit circuit → (last : ℕ) (state : State) → IsSound circuit last state →
+    (number : ℕ) (net : Net) → slice_get circuit number ≡ Some net →
+    frontier_at (round_of state) number ≡ frontier_of_part net.part net last (least last (map (frontier_at state) net.pins))
+round_frontier circuit ok last state sound number net at =
+    ap (λ s. frontier_at s number) (steps-append state (deliveries_from 0 state.lists) (map Advance (range_with_len 0 (length state.processes))))
+    ∙ view_at (λ (p : ProcessState). p.known.frontier)
+    (steps delivered (map Advance (range_with_len 0 (length state.processes)))).processes number (advanced process.0)
+    (advanced_once delivered 0 (length state.processes) number process.0 process.1 (omega arith) (omega (arith, within)))
+    ∙ ap (λ ns. frontier_of_part (process.0).net.part (process.0).net (process.0).end (least (process.0).end ns)) heard_all
+    ∙ ap (λ n. frontier_of_part (process.0).net.part (process.0).net n (least n (map (frontier_at state) (process.0).net.pins))) end
+    ∙ ap (λ (n : Net). frontier_of_part n.part n last (least last (map (frontier_at state) n.pins))) is
+  where
+    delivered : State
+    delivered = steps state (deliveries_from 0 state.lists)
+
+    delivered_sound : IsSound circuit last (steps state (deliveries_from 0 state.lists))
+    delivered_sound = steps_sound circuit ok last state (deliveries_from 0 state.lists) sound
+        (deliveries_exist circuit 0 state.lists (let l = sound.lists in omega arith))
+
+    empty : (pin : ℕ) → at_pin (steps state (deliveries_from 0 state.lists)) pin ≡ []
+    empty = all_emptied state 0 state.lists (zero-add (length state.lists)) (λ place. ap (λ n. at_pin state n) (zero-add place))
+        (λ other h. absurd (omega arith))
+
+    within : number < length state.processes
+    within = let n = net_count circuit last state sound in let w = slice_get_within circuit number net at in omega arith
+
+    process : (p : ProcessState) × (slice_get (steps state (deliveries_from 0 state.lists)).processes number ≡ Some p)
+    process = get_below (steps state (deliveries_from 0 state.lists)).processes number
+        (let n = net_count circuit last (steps state (deliveries_from 0 state.lists)) delivered_sound in
+        let w = slice_get_within circuit number net at in omega arith)
+
+    is : (process.0).net ≡ net
+    is = let a = net_at circuit ok last (steps state (deliveries_from 0 state.lists)) delivered_sound number process.0 process.1 in cc
+
+    end : (process.0).end ≡ last
+    end = delivered_sound.ends number process.0 process.1
+
+    heard_all : map (λ (known : Knowledge). known.frontier) (process.0).received ≡ map (frontier_at state) (process.0).net.pins
+    heard_all = same_frontiers (process.0).received (process.0).net.pins (frontier_at state)
+        (delivered_sound.processes number process.0 process.1).pins
+        (λ place source known a b.
+        let tells : known.frontier ≡ frontier_at (steps state (deliveries_from 0 state.lists)) source =
+        subst (λ ms. Tells (value_of circuit source) known.frontier (frontier_at (steps state (deliveries_from 0 state.lists)) source) ms)
+        (empty (first_pin circuit number + place)) (delivered_sound.waiting number place source process.0 known process.1 a b) in
+        tells ∙ deliveries_frontier state 0 state.lists source)
+
+least_map-mono : (low high : ℕ) (pins : List ℕ) (f g : ℕ → ℕ) → low ≤ high → ((pin : ℕ) → f pin ≤ g pin) →
+    least low (map f pins) ≤ least high (map g pins)
+least_map-mono low high [] f g h each = h
+least_map-mono low high (pin ∷ pins) f g h each =
+    let here = each pin in least_map-mono (min low (f pin)) (min high (g pin)) pins f g (omega arith) each
+
+-- a state that is ahead of another stays ahead by a round
+pub round_ahead : (circuit : Circuit) → IsCircuit circuit → (last : ℕ) (old new : State) → IsSound circuit last old → IsSound circuit last new →
+    ((number : ℕ) → frontier_at old number ≤ frontier_at new number) →
+    (number : ℕ) → frontier_at (round_of old) number ≤ frontier_at (round_of new) number
+round_ahead circuit ok last old new sound_old sound_new ahead number = go (cases_lt number (length circuit))
+  where
+    go : (number < length circuit) ⊎ (length circuit ≤ number) → frontier_at (round_of old) number ≤ frontier_at (round_of new) number
+    go (inl there) =
+        let net = get_below circuit number there in
+        let a = round_frontier circuit ok last old sound_old number net.0 net.1 in
+        let b = round_frontier circuit ok last new sound_new number net.0 net.1 in
+        let more = frontier-mono (net.0).part net.0 last (least last (map (frontier_at old) (net.0).pins)) (least last (map (frontier_at new) (net.0).pins))
+        (timed_at circuit ok number net.0 net.1).period.0 (least_map-mono last last (net.0).pins (frontier_at old) (frontier_at new) (omega arith) ahead) in
+        omega arith
+    go (inr past) =
+        let count = net_count circuit last (round_of old) (round_sound circuit ok last old sound_old) in
+        let none : frontier_at (round_of old) number ≡ 0 =
+        get_or_past (map (λ (p : ProcessState). p.known.frontier) (round_of old).processes) number 0
+        (let l = length-map (round_of old).processes (λ (p : ProcessState). p.known.frontier) in omega arith) in
+        omega arith
+
+pub rounds_ahead : (circuit : Circuit) → IsCircuit circuit → (last count : ℕ) (old new : State) → IsSound circuit last old → IsSound circuit last new →
+    ((number : ℕ) → frontier_at old number ≤ frontier_at new number) →
+    (number : ℕ) → frontier_at (rounds count old) number ≤ frontier_at (rounds count new) number
+rounds_ahead circuit ok last zero old new a b ahead number = ahead number
+rounds_ahead circuit ok last (suc count) old new a b ahead number =
+    rounds_ahead circuit ok last count (round_of old) (round_of new) (round_sound circuit ok last old a) (round_sound circuit ok last new b)
+    (round_ahead circuit ok last old new a b ahead) number
+
+-- so many rounds bring each net at least as far as from a fresh start
+pub fresh_ahead : (circuit : Circuit) → IsCircuit circuit → (last count : ℕ) (state : State) → IsSound circuit last state →
+    (number : ℕ) → frontier_at (rounds count (started circuit last)) number ≤ frontier_at (rounds count state) number
+fresh_ahead circuit ok last count state sound =
+    rounds_ahead circuit ok last count (started circuit last) state (started_sound circuit last) sound
+    (λ n. let z = started_frontier last circuit n in omega arith)
+
+-- what happened before costs no round: rounds that complete a fresh run complete any sound state
+pub never_costs : (circuit : Circuit) → IsCircuit circuit → (last count : ℕ) (state : State) → IsSound circuit last state →
+    IsComplete (rounds count (started circuit last)) → IsComplete (rounds count state)
+never_costs circuit ok last count state sound complete number default below =
+    let fresh = rounds_sound circuit ok last count (started circuit last) (started_sound circuit last) in
+    let now = rounds_sound circuit ok last count state sound in
+    let nets_fresh = net_count circuit last (rounds count (started circuit last)) fresh in
+    let nets_now = net_count circuit last (rounds count state) now in
+    let ahead = fresh_ahead circuit ok last count state sound number in
+    let old = get_below (rounds count (started circuit last)).processes number (omega arith) in
+    let at : slice_get (rounds count state).processes number ≡ Some (get_or (rounds count state).processes number default) =
+    slice_get-get_or (rounds count state).processes number default below in
+    let is_old : frontier_at (rounds count (started circuit last)) number ≡ (old.0).known.frontier =
+    view_at (λ (p : ProcessState). p.known.frontier) (rounds count (started circuit last)).processes number old.0 old.1 in
+    let is_new : frontier_at (rounds count state) number ≡ (get_or (rounds count state).processes number default).known.frontier =
+    view_at (λ (p : ProcessState). p.known.frontier) (rounds count state).processes number _ at in
+    let same : get_or (rounds count (started circuit last)).processes number old.0 ≡ old.0 = get_or_from_slice_get _ number old.0 old.0 old.1 in
+    let done : (old.0).known.frontier ≡ (old.0).end =
+    subst (λ (p : ProcessState). p.known.frontier ≡ p.end) same (complete number old.0 (omega arith)) in
+    let end_old = fresh.ends number old.0 old.1 in
+    let end_new = now.ends number (get_or (rounds count state).processes number default) at in
+    let high = frontier_within circuit last number (rounds count state) (get_or (rounds count state).processes number default) now at in
+    omega arith

@@ -1,0 +1,39 @@
+use Rattle.std.proofs.Common.{◌≡◌, ℕ, ◌+◌, ◌<◌, ◌==◌, Bool, true, false, cond, List, [], ◌∷◌, ◌++◌, length, take, get_or, refl, ap, sym, ◌∙◌, arith}
+use Rattle.std.proofs.lemmas.List.{take_more, append-nil}
+use Rattle.cmb_channels.specs.declared.message.Message.{Message}
+use Rattle.cmb_channels.specs.Lists.{sent}
+use Rattle.cmb_channels.proofs.Places.{sent-append}
+use Rattle.cmb_kernel.proofs.kernel.events.send_all.Goals as goal
+
+sent-none : (net : ℕ) (sources : List ℕ) (lists : List (List Message)) → sent net [] sources lists ≡ lists
+sent-none net [] lists = refl
+sent-none net (source ∷ sources) [] = refl
+sent-none net (source ∷ sources) (list ∷ lists) = go (source == net) (sent-none net sources lists)
+  where
+    go : (same : Bool) → sent net [] sources lists ≡ lists → cond same (list ++ []) list ∷ sent net [] sources lists ≡ list ∷ lists
+    go true rest = rw (rest, append-nil) refl
+    go false rest = rw rest refl
+
+-- one more message is sent after those before it
+sent_more : (net index : ℕ) (sources old : List ℕ) (messages : List Message) (start before after : List (List Message)) (d : Message) →
+    index < length messages → sources ≡ old → before ≡ sent net (take index messages) old start →
+    after ≡ sent net (get_or messages index d ∷ []) sources before → after ≡ sent net (take (index + 1) messages) old start
+sent_more net index sources old messages start before after d within same so_far now =
+    now ∙ ap (λ s. sent net (get_or messages index d ∷ []) s before) same
+    ∙ ap (sent net (get_or messages index d ∷ []) old) so_far
+    ∙ sent-append net (take index messages) (get_or messages index d ∷ []) old start
+    ∙ ap (λ ms. sent net ms old start) (sym (take_more messages index d within))
+
+pub loop-message-init : goal.loop-message-init
+loop-message-init g c = record {
+  lists = sym (sent-none c.args.net (g.F.Fabric.sources c.args.fabric.now) (g.F.Fabric.lists c.args.fabric.now));
+  sources = refl;
+  nets = refl;
+}
+
+pub loop-message-preserved : goal.loop-message-preserved
+loop-message-preserved g c = record {
+  lists = sent_more c.args.net c.loop-message.message-index _ _ c.args.messages.now _ _ _ _ (omega arith) c.loop-message.invariant.sources c.loop-message.invariant.lists c.in_ok-send.ensures.ok;
+  sources = c.in_ok-send.ensures.sources ∙ c.loop-message.invariant.sources;
+  nets = c.in_ok-send.ensures.nets ∙ c.loop-message.invariant.nets;
+}

@@ -1,0 +1,12 @@
+pub mod State
+pub mod Step
+pub mod Sound
+pub mod Schedule
+pub mod Refusals
+pub mod Running
+pub use Rattle.logic3.specs.Gate
+pub use Rattle.logic3.specs.Wave
+pub use Rattle.design.specs.Circuit
+pub use Rattle.design.specs.Equations
+pub use Rattle.gate_process.specs.Knowledge
+pub use Rattle.cmb_channels.specs.Lists

@@ -1,0 +1,43 @@
+-- What is true of every state that a run reaches.
+use Rattle.std.specs.Prelude.{◌≡◌, ℕ, ◌+◌, ◌<◌, ◌≤◌, List, [], length, slice_get, slice_index_or, Some}
+use Rattle.logic3.specs.Wave.{value_at, wave_of}
+use Rattle.design.specs.Circuit.{Circuit, pin_count}
+use Rattle.design.specs.Equations.{value_of}
+use Rattle.cmb_channels.specs.declared.message.Message.{Message}
+use Rattle.design.specs.Pins.{first_pin}
+use Rattle.gate_process.specs.Knowledge.{Knowledge, told_all, Tells}
+use Rattle.gate_process.specs.Step.{ProcessState}
+use Rattle.gate_process.specs.Truth.{KnowsTruth}
+use Rattle.cmb_kernel.specs.declared.event.Event.{Event}
+use Rattle.cmb_kernel.specs.declared.event.Event.TheVariants.{Deliver, Advance}
+use Rattle.cmb_kernel.specs.State.{State, nets_of, frontier_at}
+
+-- the waveform of a net is what the equations give it, from its floor up to its frontier
+pub record KnowsNet (circuit : Circuit) (last number : ℕ) (process : ProcessState) : Type 0 where
+  pub wave : process.known.wave ≡ wave_of (value_of circuit number) process.floor process.known.frontier
+  pub floor : process.floor ≤ process.known.frontier
+  pub within : process.known.frontier ≤ last
+
+-- what a pin received, once it is told what waits, has its source's frontier and shows the source's values at the kept ticks
+pub record HearsSource (circuit : Circuit) (source reached keep : ℕ) (received : Knowledge) (coming : List Message) : Type 0 where
+  pub frontier : (told_all received coming).frontier ≡ reached
+  pub values : (tick : ℕ) → keep ≤ tick → tick < reached → value_at (told_all received coming).wave tick ≡ value_of circuit source tick
+
+-- the event names a pin or a net of the circuit
+abbrev pub Exists : Circuit → Event → Type 0
+Exists circuit (Deliver pin) = pin < pin_count circuit
+Exists circuit (Advance net) = net < length circuit
+
+-- a state of a run of this circuit, up to an end: all that nets and pins know is what the equations give,
+-- and what waits at a pin tells of its source, from what the pin received up to what the source knows
+pub record IsSound (circuit : Circuit) (last : ℕ) (state : State) : Type 0 where
+  pub nets : nets_of state ≡ circuit
+  pub lists : length state.lists ≡ pin_count circuit
+  pub ends : (number : ℕ) (process : ProcessState) → slice_get state.processes number ≡ Some process → process.end ≡ last
+  pub processes : (number : ℕ) (process : ProcessState) → slice_get state.processes number ≡ Some process →
+      KnowsTruth (value_of circuit) number process
+  pub waiting : (number place source : ℕ) (process : ProcessState) (received : Knowledge) →
+      slice_get state.processes number ≡ Some process → slice_get process.net.pins place ≡ Some source →
+      slice_get process.received place ≡ Some received →
+      Tells (value_of circuit source) received.frontier (frontier_at state source)
+      (slice_index_or state.lists (first_pin circuit number + place) [])

@@ -1,0 +1,116 @@
+use Rattle.std.specs.Prelude.{ℕ, zero, suc, ◌+◌, min, nat_lt, if◌then◌else◌, Bool, true, false, List, [], ◌∷◌, ◌++◌, length, map, replicate, count_by, slice_get, slice_index_or}
+use Rattle.std.specs.List.{range_with_len}
+use Rattle.std.specs.Option.{option_map_or}
+use Rattle.cmb_kernel.specs.declared.counts.Counts.{Counts}
+use Rattle.cmb_kernel.specs.declared.event.Event.{Event}
+use Rattle.cmb_kernel.specs.declared.event.Event.TheVariants.{Deliver, Advance}
+use Rattle.cmb_channels.specs.declared.message.Message.{Message}
+use Rattle.cmb_channels.specs.declared.message.Message.TheVariants.{Change as Changes, Null}
+use Rattle.cmb_channels.specs.Lists.{update, sent, taken}
+use Rattle.design.specs.Pins.{sources_of, net_of_pin, place_of_pin}
+use Rattle.gate_process.specs.Step.{advanced, news, heard, drained}
+use Rattle.cmb_kernel.specs.State.{State, nets_of, progress, is_complete}
+
+-- one more, but no more than a u64 holds
+abbrev pub one_more : ℕ → ℕ
+one_more count = min (count + 1) 18_446_744_073_709_551_615
+
+abbrev pub is_change : Message → Bool
+is_change (Changes change) = true
+is_change (Null bound) = false
+
+abbrev pub is_null : Message → Bool
+is_null (Changes change) = false
+is_null (Null bound) = true
+
+-- the counts after an event that answered these messages
+abbrev pub counted : Counts → List Message → Counts
+counted counts messages =
+    record {
+      events = one_more counts.events;
+      changes = counts.changes + count_by is_change messages;
+      nulls = counts.nulls + count_by is_null messages;
+      rounds = counts.rounds;
+    }
+
+-- what the process of a net has to tell
+abbrev pub news_at : State → ℕ → List Message
+news_at state net = option_map_or news (slice_get state.processes net) []
+
+-- the state after a net advances
+abbrev pub after_advance : State → ℕ → State
+after_advance state net =
+    record {
+      processes = update advanced net state.processes;
+      lists = sent net (news_at state net) (sources_of (nets_of state)) state.lists;
+      counts = counted state.counts (news_at state net);
+    }
+
+-- the state after a pin takes the first of these messages, which wait there
+abbrev pub after_deliver : State → ℕ → List Message → State
+after_deliver state pin [] = record state { counts = counted state.counts [] }
+after_deliver state pin (message ∷ messages) =
+    record {
+      processes = update (heard (place_of_pin (nets_of state) pin) message) (net_of_pin (nets_of state) pin) state.processes;
+      lists = taken pin state.lists;
+      counts = counted state.counts [];
+    }
+
+-- the state after an event
+abbrev pub step : State → Event → State
+step state (Deliver pin) = after_deliver state pin (slice_index_or state.lists pin [])
+step state (Advance net) = after_advance state net
+
+-- the state after a net's changes before a tick were taken out
+abbrev pub after_drain : State → ℕ → ℕ → State
+after_drain state net bound = record state { processes = update (drained bound) net state.processes }
+
+-- the state after some events
+abbrev pub steps : State → List Event → State
+steps state [] = state
+steps state (event ∷ events) = steps (step state event) events
+
+-- the event raises a frontier
+abbrev pub is_useful : State → Event → Bool
+is_useful state event = nat_lt (progress state) (progress (step state event))
+
+-- how many of some events are useful when they come
+abbrev pub useful_count : State → List Event → ℕ
+useful_count state [] = 0
+useful_count state (event ∷ events) = (if is_useful state event then 1 else 0) + useful_count (step state event) events
+
+abbrev pub is_advance : Event → Bool
+is_advance (Deliver pin) = false
+is_advance (Advance net) = true
+
+-- how many of some events are useful Advances
+abbrev pub useful_advances : State → List Event → ℕ
+useful_advances state [] = 0
+useful_advances state (event ∷ events) =
+    (if is_advance event then (if is_useful state event then 1 else 0) else 0) + useful_advances (step state event) events
+
+-- a delivery for each waiting message, of the pins from one on
+abbrev pub deliveries_from : ℕ → List (List Message) → List Event
+deliveries_from pin [] = []
+deliveries_from pin (list ∷ lists) = replicate (length list) (Deliver pin) ++ deliveries_from (pin + 1) lists
+
+-- the events of a round: each pin takes what waits there, then each net advances
+abbrev pub round_events : State → List Event
+round_events state = deliveries_from 0 state.lists ++ map Advance (range_with_len 0 (length state.processes))
+
+abbrev pub with_round : State → State
+with_round state = record state { counts = record state.counts { rounds = one_more state.counts.rounds } }
+
+-- the state after a round
+abbrev pub round_of : State → State
+round_of state = with_round (steps state (round_events state))
+
+-- the state after so many rounds
+abbrev pub rounds : ℕ → State → State
+rounds zero state = state
+rounds (suc count) state = rounds count (round_of state)
+
+-- the state after the fewest rounds that complete it, if so many are enough
+abbrev pub completed_within : ℕ → State → State
+completed_within zero state = state
+completed_within (suc count) state = if is_complete state then state else completed_within count (round_of state)

@@ -1,0 +1,33 @@
+ghost use Rattle.std.specs.Prelude.{◌≡◌, ◌+◌, ◌^◌, ◌<◌, length};
+ghost use Rattle.cmb_kernel.specs.Step.{counted};
+
+use cmb_channels::Message;
+
+/// How much has happened.
+#[derive(Clone, Copy, Debug, PartialEq, Eq)]
+pub struct Counts {
+    /// The events applied, useful or not, those of rounds too. It stays at the greatest number.
+    pub events: u64,
+    /// The changes that advances answered, each once, however many pins the net feeds.
+    pub changes: u64,
+    /// The null messages that advances answered, counted in the same way.
+    pub nulls: u64,
+    /// The rounds. It stays at the greatest number.
+    pub rounds: u64,
+}
+
+impl Counts {
+    /// Counts an event that answered these messages.
+    pub(crate) fn add_event(&mut self, messages: &[Message])
+        requires { self.old.changes + self.old.nulls + length messages.now < 2 ^ 64 }
+        ensures { self.new ≡ counted self.old messages.now }
+    {
+        self.events = self.events.saturating_add(1);
+        for message in messages {
+            match message {
+                Message::Change(_) => self.changes += 1,
+                Message::Null(_) => self.nulls += 1,
+            }
+        }
+    }
+}

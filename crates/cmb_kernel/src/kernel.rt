@@ -1,0 +1,154 @@
+ghost use Rattle.std.specs.Prelude.{◌≡◌, ◌≢◌, ◌+◌, ◌<◌, ◌≤◌, false, length, map, slice_index_or, [], IfOk};
+ghost use Rattle.design.specs.Circuit.{pin_count};
+ghost use Rattle.design.specs.Design.{IsDesign};
+ghost use Rattle.design.specs.Equations.{value_of};
+ghost use Rattle.logic3.specs.Wave.{wave_of};
+ghost use Rattle.gate_process.specs.Step.{running, started_process};
+ghost use Rattle.cmb_kernel.specs.State.{fresh, frontier_at, received_at};
+ghost use Rattle.cmb_kernel.specs.Sound.{IsSound};
+
+mod events;
+mod progress;
+mod rounds;
+
+use crate::counts::Counts;
+use crate::fault::KernelFault;
+use cmb_channels::Fabric;
+use design::{Design, Horizon};
+use gate_process::Process;
+use logic3::Waveform;
+use std::alloc::{AllocError, Global};
+use std::marker::Model;
+
+/// A run of a design: a process for each net, and channels between them.
+///
+/// Whatever events are applied in whatever order, each net knows its waveform as the equations of the
+/// circuit give it, up to the net's frontier. Where memory was refused in the middle of an event the
+/// kernel has failed, and answers [`KernelFault::Failed`] from then on.
+#[derive(Drop)]
+pub struct Kernel<'d, F: Fabric> {
+    design: &'d Design,
+    // The first tick after the horizon.
+    end: u64,
+    processes: Vec<Process>,
+    fabric: F,
+    counts: Counts,
+    failed: bool,
+}
+
+impl<'d, F: Fabric> Model for Kernel<'d, F> {
+    ghost use Rattle.std.specs.Prelude.{◌≡◌, false};
+    ghost use Rattle.cmb_kernel.specs.State.{Run};
+    ghost use Rattle.cmb_kernel.specs.Running.{state_of, IsRunning};
+
+    ghost Value = { Run };
+
+    ghost view = { λ k. record {
+      circuit = k.design.now.circuit;
+      end = k.end;
+      failed = k.failed;
+      state = state_of k.processes.items (F.lists k.fabric) k.counts;
+    } };
+
+    ghost invariant = { λ k. k.failed ≡ false →
+        IsRunning k.design.now k.end k.processes.items (F.sources k.fabric) (F.nets k.fabric)
+        (state_of k.processes.items (F.lists k.fabric) k.counts) };
+}
+
+impl<'d, F: Fabric> Kernel<'d, F> {
+    /// A kernel to which nothing happened yet, that runs up to the horizon.
+    ///
+    /// # Errors
+    /// [`KernelFault::Memory`].
+    pub fn new(
+        alloc: Global,
+        design: &'d Design,
+        horizon: Horizon,
+    ) -> Result<Kernel<'d, F>, KernelFault>
+        ensures { result ≢ Err KernelFault.Memory → result ≡ Ok (fresh design.now.circuit (horizon + 1)) }
+    {
+        let processes = started(alloc, design, horizon)?;
+        let fabric = F::empty_for(alloc, design)?;
+        Ok(Kernel {
+            design,
+            end: horizon.ticks() + 1,
+            processes,
+            fabric,
+            counts: Counts {
+                events: 0,
+                changes: 0,
+                nulls: 0,
+                rounds: 0,
+            },
+            failed: false,
+        })
+    }
+
+    /// Whether a call was broken off by want of memory.
+    pub fn is_failed(&self) -> bool
+        ensures failed { result ≡ self.now.failed }
+        ensures sound { self.now.failed ≡ false → IsSound self.now.circuit self.now.end self.now.state }
+    {
+        self.failed
+    }
+
+    /// How much has happened.
+    pub fn counts(&self) -> Counts
+        requires { self.now.failed ≡ false }
+        ensures { result ≡ self.now.state.counts }
+    {
+        self.counts
+    }
+
+    /// How many ticks of a net are known: at most the horizon and one more.
+    pub fn frontier(&self, net: u32) -> u64
+        requires running { self.now.failed ≡ false }
+        requires net { net < length self.now.circuit }
+        ensures frontier { result ≡ frontier_at self.now.state net }
+        ensures within { result ≤ self.now.end }
+    {
+        self.processes[net as usize].frontier()
+    }
+
+    /// What a net shows at the ticks known.
+    pub fn waveform(&self, net: u32) -> &Waveform
+        requires running { self.now.failed ≡ false }
+        requires net { net < length self.now.circuit }
+        ensures { result.now ≡ wave_of (value_of self.now.circuit net) 0 (frontier_at self.now.state net) }
+    {
+        self.processes[net as usize].waveform()
+    }
+
+    /// How many ticks of its source a pin knows.
+    pub fn received(&self, pin: u32) -> u64
+        requires running { self.now.failed ≡ false }
+        requires pin { pin < pin_count self.now.circuit }
+        ensures { result ≡ received_at self.now.state pin }
+    {
+        let net = self.design.pin_net(pin);
+        let place = pin - self.design.pin(net, 0);
+        self.processes[net as usize].received(place)
+    }
+
+    /// How many messages wait at a pin.
+    pub fn waiting(&self, pin: u32) -> u64
+        requires running { self.now.failed ≡ false }
+        requires pin { pin < pin_count self.now.circuit }
+        ensures { result ≡ length (slice_index_or self.now.state.lists pin []) }
+    {
+        self.fabric.waiting(pin)
+    }
+}
+
+/// A process for each net of a design, in order.
+fn started(alloc: Global, design: &Design, horizon: Horizon) -> Result<Vec<Process>, AllocError>
+    ensures processes { IfOk result (λ processes. processes.items ≡
+        map (λ net. running (started_process (horizon + 1) net)) design.now.circuit) }
+    ensures well_formed { IsDesign design.now }
+{
+    let mut processes = Vec::with_capacity(alloc, design.nets() as usize)?;
+    for net in 0..design.nets() {
+        processes.push(Process::new(alloc, design, net, horizon)?)?;
+    }
+    Ok(processes)
+}

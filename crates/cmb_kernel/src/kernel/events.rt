@@ -1,0 +1,159 @@
+ghost use Rattle.std.specs.Prelude.{◌≡◌, ◌≢◌, ◌<◌, true, false, None, length, IfOk, IfErr, OnOk, OnErr};
+ghost use Rattle.design.specs.Circuit.{IsCircuit, pin_count};
+ghost use Rattle.cmb_channels.specs.Lists.{sent};
+ghost use Rattle.cmb_kernel.specs.declared.event.Event.TheVariants.{Deliver, Advance};
+ghost use Rattle.cmb_kernel.specs.Step.{step, steps, is_useful};
+ghost use Rattle.cmb_kernel.specs.Sound.{Exists, IsSound};
+ghost use Rattle.cmb_kernel.specs.Refusals.{event_fault, list_fault, refusal, answer};
+
+use crate::event::{Event, MOST_EVENTS};
+use crate::fault::KernelFault;
+use crate::kernel::Kernel;
+use cmb_channels::{Fabric, Message};
+use design::Design;
+use std::alloc::AllocError;
+
+impl<'d, F: Fabric> Kernel<'d, F> {
+    /// Applies an event, and answers whether it raised a frontier, of a net or of a pin.
+    ///
+    /// # Errors
+    /// [`KernelFault::Failed`], and [`KernelFault::NoSuchPin`] or [`KernelFault::NoSuchNet`] at
+    /// place 0; nothing changed. [`KernelFault::Memory`]; the kernel has failed from then on.
+    pub fn apply(&mut self, event: Event) -> Result<bool, KernelFault>
+        ensures answer { result ≢ Err KernelFault.Memory →
+            result ≡ answer (refusal self.old (event_fault self.old.circuit 0 event)) (is_useful self.old.state event) }
+        ensures ok { OnOk result (self.new ≡ record self.old { state = step self.old.state event }) }
+        ensures refused { IfErr result (λ fault. fault ≢ KernelFault.Memory → self.new ≡ self.old) }
+        ensures memory { result ≡ Err KernelFault.Memory →
+            (refusal self.old (event_fault self.old.circuit 0 event) ≡ None) × (self.new.failed ≡ true) }
+        ensures sound { self.new.failed ≡ false → IsSound self.new.circuit self.new.end self.new.state }
+    {
+        self.check_running()?;
+        check_event(self.design, 0, event)?;
+        Ok(self.step(event)?)
+    }
+
+    /// Applies some events in order. The whole list is checked before the first of them.
+    ///
+    /// # Errors
+    /// [`KernelFault::Failed`], [`KernelFault::TooManyEvents`], and the fault of the first bad event;
+    /// nothing changed. [`KernelFault::Memory`]; the kernel has failed from then on.
+    pub fn apply_all(&mut self, events: &[Event]) -> Result<(), KernelFault>
+        ensures answer { result ≢ Err KernelFault.Memory →
+            result ≡ answer (refusal self.old (list_fault self.old.circuit events.now)) tt }
+        ensures ok { OnOk result (self.new ≡ record self.old { state = steps self.old.state events.now }) }
+        ensures refused { IfErr result (λ fault. fault ≢ KernelFault.Memory → self.new ≡ self.old) }
+        ensures memory { result ≡ Err KernelFault.Memory →
+            (refusal self.old (list_fault self.old.circuit events.now) ≡ None) × (self.new.failed ≡ true) }
+        ensures sound { self.new.failed ≡ false → IsSound self.new.circuit self.new.end self.new.state }
+    {
+        self.check_running()?;
+        check_events(self.design, events)?;
+        for event in events {
+            self.step(*event)?;
+        }
+        Ok(())
+    }
+
+    /// That no call was broken off.
+    pub(crate) fn check_running(&self) -> Result<(), KernelFault>
+        ensures answer { result ≡ answer (refusal self.now None) tt }
+        ensures circuit { OnOk result (IsCircuit self.now.circuit) }
+        ensures sound { OnOk result (IsSound self.now.circuit self.now.end self.now.state) }
+    {
+        if self.failed {
+            return Err(KernelFault::Failed);
+        }
+        Ok(())
+    }
+
+    /// Applies an event that is there. After an `AllocError` the kernel has failed.
+    pub(crate) fn step(&mut self, event: Event) -> Result<bool, AllocError>
+        requires running { self.old.failed ≡ false }
+        requires exists { Exists self.old.circuit event }
+        ensures useful { IfOk result (λ useful. useful ≡ is_useful self.old.state event) }
+        ensures ok { OnOk result (self.new ≡ record self.old { state = step self.old.state event }) }
+        ensures err { OnErr result (self.new.failed ≡ true) }
+        ensures sound { OnOk result (IsSound self.new.circuit self.new.end self.new.state) }
+    {
+        match event {
+            Event::Deliver(pin) => self.deliver(pin),
+            Event::Advance(net) => self.advance(net),
+        }
+    }
+
+    fn deliver(&mut self, pin: u32) -> Result<bool, AllocError>
+        requires running { self.old.failed ≡ false }
+        requires exists { pin < pin_count self.old.circuit }
+        ensures useful { IfOk result (λ useful. useful ≡ is_useful self.old.state (Deliver pin)) }
+        ensures ok { OnOk result (self.new ≡ record self.old { state = step self.old.state (Deliver pin) }) }
+        ensures err { OnErr result (self.new.failed ≡ true) }
+        ensures sound { OnOk result (IsSound self.new.circuit self.new.end self.new.state) }
+    {
+        // So it stays where the event is broken off.
+        self.failed = true;
+        let message = self.fabric.take(pin);
+        if let Some(message) = message {
+            let net = self.design.pin_net(pin);
+            let place = pin - self.design.pin(net, 0);
+            self.processes[net as usize].receive(place, message)?;
+        }
+        self.counts.add_event(&[]);
+        self.failed = false;
+        Ok(message.is_some())
+    }
+
+    fn advance(&mut self, net: u32) -> Result<bool, AllocError>
+        requires running { self.old.failed ≡ false }
+        requires exists { net < length self.old.circuit }
+        ensures useful { IfOk result (λ useful. useful ≡ is_useful self.old.state (Advance net)) }
+        ensures ok { OnOk result (self.new ≡ record self.old { state = step self.old.state (Advance net) }) }
+        ensures err { OnErr result (self.new.failed ≡ true) }
+        ensures sound { OnOk result (IsSound self.new.circuit self.new.end self.new.state) }
+    {
+        // So it stays where the event is broken off.
+        self.failed = true;
+        let news = self.processes[net as usize].advance()?;
+        send_all(&mut self.fabric, net, news.as_slice())?;
+        self.counts.add_event(news.as_slice());
+        self.failed = false;
+        Ok(!news.is_empty())
+    }
+}
+
+/// Sends messages of a net in order.
+fn send_all<F: Fabric>(fabric: &mut F, net: u32, messages: &[Message]) -> Result<(), AllocError>
+    requires { net < F.nets fabric.old }
+    ensures lists { OnOk result (F.lists fabric.new ≡ sent net messages.now (F.sources fabric.old) (F.lists fabric.old)) }
+    ensures sources { F.sources fabric.new ≡ F.sources fabric.old }
+    ensures nets { F.nets fabric.new ≡ F.nets fabric.old }
+{
+    for message in messages {
+        fabric.send(net, *message)?;
+    }
+    Ok(())
+}
+
+/// That the event at this place of a list names a pin or a net of the design.
+fn check_event(design: &Design, at: u64, event: Event) -> Result<(), KernelFault>
+    ensures { result ≡ answer (event_fault design.now.circuit at event) tt }
+{
+    match event {
+        Event::Deliver(pin) if pin >= design.pins() => Err(KernelFault::NoSuchPin { at }),
+        Event::Advance(net) if net >= design.nets() => Err(KernelFault::NoSuchNet { at }),
+        _ => Ok(()),
+    }
+}
+
+/// That there are not too many events, and that each names a pin or a net of the design.
+fn check_events(design: &Design, events: &[Event]) -> Result<(), KernelFault>
+    ensures { result ≡ answer (list_fault design.now.circuit events.now) tt }
+{
+    if events.len() > MOST_EVENTS as usize {
+        return Err(KernelFault::TooManyEvents);
+    }
+    for (at, event) in events.iter().enumerate() {
+        check_event(design, at as u64, *event)?;
+    }
+    Ok(())
+}

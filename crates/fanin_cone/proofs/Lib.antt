@@ -1,0 +1,15 @@
+pub mod Agreed
+pub mod Agreeing
+pub mod DesignNets
+pub mod Extracted
+pub mod Extracting
+pub mod KnownNames
+pub mod Least
+pub mod Listed
+pub mod Marking
+pub mod NetNames
+pub mod NetOf
+pub mod Numbered
+pub mod SameNames
+pub mod Stimuli
+pub mod Walking

@@ -1,0 +1,8 @@
+use Rattle.fanin_cone.proofs.Extracted.{extract_agrees, extract_shows}
+use Rattle.fanin_cone.proofs.laws.extracted_nets_show_the_same.Goals as goal
+
+pub returns-clause-agree : goal.returns-clause-agree
+returns-clause-agree c = extract_agrees
+
+pub returns-clause-show : goal.returns-clause-show
+returns-clause-show c = extract_shows

@@ -1,0 +1,39 @@
+-- Two designs that agree on a set of names.
+use Rattle.std.specs.Prelude.{◌≡◌, ℕ, nat_le, List, filter, find, Option, Some, bytes_eq}
+use Rattle.logic3.specs.declared.change.Change.{Change}
+use Rattle.bench_text.specs.declared.part.Part.TheVariants.{Flop}
+use Rattle.design.specs.Circuit.{Net}
+use Rattle.design.specs.Design.{DesignView}
+use Rattle.fanin_cone.specs.Cone.{pin_names}
+
+-- the net of a name
+abbrev pub net_of : DesignView → List ℕ → Option Net
+net_of design name = find (λ (net : Net). bytes_eq net.name name) design.circuit
+
+-- the stimuli at ticks up to the horizon
+abbrev pub stimuli_to : ℕ → List Change → List Change
+stimuli_to horizon stimuli = filter (λ (change : Change). nat_le change.tick horizon) stimuli
+
+-- the same delay, period of a flip-flop, and stimuli up to the horizon
+pub record HasSameTiming (horizon : ℕ) (x y : Net) : Type 0 where
+  pub delay : x.delay ≡ y.delay
+  pub period : x.part ≡ Flop → x.period ≡ y.period
+  pub stimuli : stimuli_to horizon x.stimuli ≡ stimuli_to horizon y.stimuli
+
+-- the same part, pin names in order, and timing; numbers play no part
+pub record IsSameNet (a b : DesignView) (horizon : ℕ) (x y : Net) : Type 0 where
+  pub part : x.part ≡ y.part
+  pub pins : pin_names a.netlist x.pins ≡ pin_names b.netlist y.pins
+  pub timing : HasSameTiming horizon x y
+
+-- the name is a net of both designs, the same but for its number
+pub record AgreesAt (a b : DesignView) (horizon : ℕ) (name : List ℕ) : Type 0 where
+  pub x : Net
+  pub y : Net
+  pub first : net_of a name ≡ Some x
+  pub second : net_of b name ≡ Some y
+  pub same : IsSameNet a b horizon x y
+
+-- each name of the set is such a net
+abbrev pub AgreesOn : DesignView → DesignView → (List ℕ → Type 0) → ℕ → Type 0
+AgreesOn a b K horizon = (name : List ℕ) → K name → AgreesAt a b horizon name

@@ -1,0 +1,27 @@
+-- Closed sets of names, and the fan-in cone of names.
+use Rattle.std.specs.Prelude.{ℕ, ◌<◌, ◌↔◌, List, length, map, All, AllPairs, Contains}
+use Rattle.bench_text.specs.Netlist.{NetView, NetlistView, net_at}
+
+-- the name of the net of a number
+abbrev pub name_at : NetlistView → ℕ → List ℕ
+name_at netlist number = (net_at netlist number).name
+
+-- the names of the nets at these pins
+abbrev pub pin_names : NetlistView → List ℕ → List (List ℕ)
+pin_names netlist pins = map (name_at netlist) pins
+
+-- the set holds the pin names of each of its nets, flip-flops too
+abbrev pub IsClosed : NetlistView → (List ℕ → Type 0) → Type 0
+IsClosed netlist K = All (λ (net : NetView). K net.name → All K (pin_names netlist net.pins)) netlist.nets
+
+-- the fan-in cone, which is the least closed set that holds these names: they are in it, and the pin names of each net in it are
+pub data InCone (netlist : NetlistView) (names : List (List ℕ)) : List ℕ → Type 0 where
+  start : (name : List ℕ) → Contains names name → InCone netlist names name
+  pin : (net : NetView) (name : List ℕ) → Contains netlist.nets net → InCone netlist names net.name →
+      Contains (pin_names netlist net.pins) name → InCone netlist names name
+
+-- the numbers of the nets in the cone of these names, rising
+pub record IsConeOf (netlist : NetlistView) (names : List (List ℕ)) (numbers : List ℕ) : Type 0 where
+  pub rising : AllPairs (λ (earlier later : ℕ). earlier < later) numbers
+  pub nets : (number : ℕ) →
+      Contains numbers number ↔ ((number < length netlist.nets) × InCone netlist names (name_at netlist number))

@@ -1,0 +1,24 @@
+-- The nets of some cones as a netlist of their own.
+use Rattle.std.specs.Prelude.{◌≡◌, ℕ, List, filter_map, position, Option, Some}
+use Rattle.std.specs.Option.{is_none}
+use Rattle.bench_text.specs.Netlist.{NetlistView, net_named, distinct}
+use Rattle.bench_text.specs.Pick.{picked}
+use Rattle.design.specs.Circuit.{Net}
+use Rattle.design.specs.Design.{DesignView}
+use Rattle.fanin_cone.specs.Cone.{IsConeOf}
+use Rattle.fanin_cone.specs.Agreement.{net_of, HasSameTiming}
+
+-- the first place of a name that no net has
+abbrev pub first_unknown : NetlistView → List (List ℕ) → Option ℕ
+first_unknown netlist names = position (λ name. is_none (net_named netlist name)) names
+
+-- the nets in the cones of these names, in their old order, with these names as the outputs, each where it stands first
+pub record IsExtract (netlist : NetlistView) (names : List (List ℕ)) (extract : NetlistView) : Type 0 where
+  pub keep : List ℕ
+  pub cone : IsConeOf netlist names keep
+  pub picked_so : extract ≡ picked netlist keep (distinct (filter_map (net_named netlist) names))
+
+-- each net of the extract has the timing that the net of its name has in the whole
+abbrev pub KeepsTiming : DesignView → DesignView → ℕ → Type 0
+KeepsTiming whole extract horizon =
+    (name : List ℕ) (x y : Net) → net_of extract name ≡ Some x → net_of whole name ≡ Some y → HasSameTiming horizon x y

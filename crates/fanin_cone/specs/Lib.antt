@@ -1,0 +1,14 @@
+pub use Rattle.logic3.specs.Value
+pub use Rattle.logic3.specs.Gate
+pub use Rattle.logic3.specs.Wave
+pub use Rattle.bench_text.specs.Text
+pub use Rattle.bench_text.specs.Netlist
+pub use Rattle.bench_text.specs.Pick
+pub use Rattle.bench_text.specs.Seen
+pub use Rattle.design.specs.Circuit
+pub use Rattle.design.specs.Design
+pub use Rattle.design.specs.Equations
+pub mod Cone
+pub mod Walk
+pub mod Agreement
+pub mod Extract

@@ -1,0 +1,128 @@
+//! Whether two designs agree on a net's fan-in cone.
+ghost use Rattle.std.specs.Prelude.{◌≡◌, ◌∷◌, [], ◌<◌, ◌↔◌, length, All, AllPairs, IfOk, IfSome, IsSome, IsTrue, slice_get, Some};
+ghost use Rattle.logic3.specs.declared.change.Change.{Change as TheChange};
+ghost use Rattle.design.specs.Circuit.{Net};
+ghost use Rattle.design.specs.Design.{IsDesign};
+ghost use Rattle.fanin_cone.specs.Cone.{name_at, pin_names, InCone};
+ghost use Rattle.fanin_cone.specs.Agreement.{net_of, stimuli_to, IsSameNet, AgreesAt, AgreesOn};
+
+use crate::cones::cone;
+use bench_text::Part;
+use design::{Design, Horizon};
+use logic3::Change;
+use std::alloc::{AllocError, Global};
+
+/// Whether two designs agree, at ticks up to the horizon, on the fan-in cone that the net of this
+/// name has in the first one; None where one of them has no net of this name.
+///
+/// They agree where each name of the cone is a net of both, with the same part, the same names at its
+/// pins in order, the same delay, the same period if it is a flip-flop, and the same stimuli at ticks
+/// up to the horizon. The numbers of nets play no part.
+///
+/// # Errors
+/// An `AllocError` where a growth was refused.
+pub fn agree(
+    alloc: Global,
+    first: &Design,
+    second: &Design,
+    name: &[u8],
+    horizon: Horizon,
+) -> Result<Option<bool>, AllocError>
+    ensures found { IfOk result (λ answer.
+        IsSome answer ↔ (IsSome (net_of first.now name.now) × IsSome (net_of second.now name.now))) }
+    ensures agrees { IfOk result (λ answer. IfSome answer (λ agrees.
+        IsTrue agrees ↔ AgreesOn first.now second.now (InCone first.now.netlist (name.now ∷ [])) horizon)) }
+{
+    let Some(net) = first.find(name) else {
+        return Ok(None);
+    };
+    let Some(other) = second.find(name) else {
+        return Ok(None);
+    };
+    prove!(net < first.nets());
+    prove!(other < second.nets());
+    for net in &cone(alloc, first, net)? {
+        if !agrees_at(first, *net, second, horizon) {
+            return Ok(Some(false));
+        }
+    }
+    Ok(Some(true))
+}
+
+/// Whether the second design has a net of this one's name, the same but for its number.
+fn agrees_at(first: &Design, net: u32, second: &Design, horizon: Horizon) -> bool
+    requires first { IsDesign first.now }
+    requires second { IsDesign second.now }
+    requires net { net < length first.now.circuit }
+    ensures { IsTrue result ↔ AgreesAt first.now second.now horizon (name_at first.now.netlist net) }
+{
+    match second.find(first.name(net)) {
+        Some(other) => is_same_net(first, net, second, other, horizon),
+        None => false,
+    }
+}
+
+/// Whether two nets are the same, but for their numbers.
+fn is_same_net(first: &Design, net: u32, second: &Design, other: u32, horizon: Horizon) -> bool
+    requires first { IsDesign first.now }
+    requires second { IsDesign second.now }
+    requires net { net < length first.now.circuit }
+    requires other { other < length second.now.circuit }
+    ensures { (x y : Net) → slice_get first.now.circuit net ≡ Some x → slice_get second.now.circuit other ≡ Some y →
+        IsTrue result ↔ IsSameNet first.now second.now horizon x y }
+{
+    let same_names = has_same_names(first, first.pins_of(net), second, second.pins_of(other));
+    let same_stimuli = has_same_stimuli(first.stimuli(net), second.stimuli(other), horizon);
+    is_same_part(first, net, second, other)
+        && first.delay(net) == second.delay(other)
+        && same_names
+        && same_stimuli
+}
+
+/// Whether the same part drives two nets, with the same period if it is a flip-flop.
+fn is_same_part(first: &Design, net: u32, second: &Design, other: u32) -> bool
+    requires net { net < length first.now.circuit }
+    requires other { other < length second.now.circuit }
+    ensures { (x y : Net) → slice_get first.now.circuit net ≡ Some x → slice_get second.now.circuit other ≡ Some y →
+        IsTrue result ↔ ((x.part ≡ y.part) × (x.part ≡ Part.Flop → x.period ≡ y.period)) }
+{
+    let part = first.part(net);
+    part == second.part(other) && (part != Part::Flop || first.period() == second.period())
+}
+
+/// Whether the pins of two nets have the same names, in order.
+fn has_same_names(first: &Design, pins: &[u32], second: &Design, others: &[u32]) -> bool
+    requires first { IsDesign first.now }
+    requires second { IsDesign second.now }
+    requires pins { All (λ pin. pin < length first.now.circuit) pins.now }
+    requires others { All (λ pin. pin < length second.now.circuit) others.now }
+    ensures { IsTrue result ↔ (pin_names first.now.netlist pins.now ≡ pin_names second.now.netlist others.now) }
+{
+    if pins.len() != others.len() {
+        return false;
+    }
+    for (pin, other) in pins.iter().zip(others) {
+        if first.name(*pin) != second.name(*other) {
+            return false;
+        }
+    }
+    true
+}
+
+/// Whether the stimuli of two nets are the same at ticks up to the horizon.
+fn has_same_stimuli(stimuli: &[Change], others: &[Change], horizon: Horizon) -> bool
+    requires stimuli { AllPairs (λ (earlier later : TheChange). earlier.tick < later.tick) stimuli.now }
+    requires others { AllPairs (λ (earlier later : TheChange). earlier.tick < later.tick) others.now }
+    ensures { IsTrue result ↔ (stimuli_to horizon stimuli.now ≡ stimuli_to horizon others.now) }
+{
+    up_to(stimuli, horizon) == up_to(others, horizon)
+}
+
+/// The stimuli at ticks up to the horizon.
+fn up_to(stimuli: &[Change], horizon: Horizon) -> &[Change]
+    requires { AllPairs (λ (earlier later : TheChange). earlier.tick < later.tick) stimuli.now }
+    ensures { result.now ≡ stimuli_to horizon stimuli.now }
+{
+    let end = stimuli.partition_point(|change| change.tick <= horizon.ticks());
+    &stimuli[..end]
+}

@@ -1,0 +1,82 @@
+//! The walk from nets back over their pins.
+ghost use Rattle.std.specs.Prelude.{◌<◌, ◌≤◌, ◌^◌, ◌∷◌, [], length, map, All, IfOk, OnOk};
+ghost use Rattle.fanin_cone.specs.Cone.{name_at, IsConeOf};
+ghost use Rattle.fanin_cone.specs.Walk.{Marks, MarksCone, NumbersMarked};
+
+use bench_text::Netlist;
+use design::Design;
+use std::alloc::{AllocError, Global};
+
+/// The numbers of the nets in a net's fan-in cone, rising.
+///
+/// The cone is the least set of nets that holds the net and, with each of its nets, the nets at that
+/// one's pins, those of flip-flops too.
+///
+/// # Errors
+/// An `AllocError` where a growth was refused.
+pub fn cone(alloc: Global, design: &Design, net: u32) -> Result<Vec<u32>, AllocError>
+    requires { net < length design.now.circuit }
+    ensures { IfOk result
+        (λ cone. IsConeOf design.now.netlist (name_at design.now.netlist net ∷ []) cone.items) }
+{
+    prove!(net < design.nets());
+    cone_of(alloc, design.netlist(), &[net])
+}
+
+/// The numbers of the nets in the cone of these nets, rising.
+pub(crate) fn cone_of(
+    alloc: Global,
+    netlist: &Netlist,
+    starts: &[u32],
+) -> Result<Vec<u32>, AllocError>
+    requires { All (λ start. start < length netlist.now.nets) starts.now }
+    ensures { IfOk result
+        (λ cone. IsConeOf netlist.now (map (name_at netlist.now) starts.now) cone.items) }
+{
+    let marks = marked_cone(alloc, netlist, starts)?;
+    marked_nets(alloc, marks.as_slice())
+}
+
+/// Which nets are in the cone of these nets.
+fn marked_cone(alloc: Global, netlist: &Netlist, starts: &[u32]) -> Result<Vec<bool>, AllocError>
+    requires { All (λ start. start < length netlist.now.nets) starts.now }
+    ensures few { IfOk result (λ marks. length marks.items ≤ 100_000) }
+    ensures cone { IfOk result
+        (λ marks. MarksCone netlist.now (map (name_at netlist.now) starts.now) marks.items) }
+{
+    let mut marks = vec![in alloc; false; netlist.nets() as usize]?;
+    let mut waiting = Vec::new(alloc);
+    mark(starts, &mut marks, &mut waiting)?;
+    while let Some(net) = waiting.pop() {
+        mark(netlist.pins_of(net), &mut marks, &mut waiting)?;
+    }
+    Ok(marks)
+}
+
+/// Marks these nets, and puts those that were not marked yet behind the list, each once.
+pub(crate) fn mark(nets: &[u32], marks: &mut [bool], list: &mut Vec<u32>) -> Result<(), AllocError>
+    requires { All (λ net. net < length marks.old) nets.now }
+    ensures { OnOk result (Marks nets.now marks.old marks.new list.old.items list.new.items) }
+{
+    for net in nets {
+        if !marks[*net as usize] {
+            marks[*net as usize] = true;
+            list.push(*net)?;
+        }
+    }
+    Ok(())
+}
+
+/// The numbers of the marked nets, rising.
+fn marked_nets(alloc: Global, marks: &[bool]) -> Result<Vec<u32>, AllocError>
+    requires { length marks.now ≤ 2 ^ 32 }
+    ensures { IfOk result (λ nets. NumbersMarked marks.now nets.items) }
+{
+    let mut nets = Vec::new(alloc);
+    for (net, is_marked) in marks.iter().enumerate() {
+        if *is_marked {
+            nets.push(net as u32)?;
+        }
+    }
+    Ok(nets)
+}

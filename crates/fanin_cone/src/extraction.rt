@@ -1,0 +1,59 @@
+//! The nets of some cones as a netlist of their own.
+ghost use Rattle.std.specs.Prelude.{◌≡◌, ◌≢◌, ℕ, ◌<◌, ◌↔◌, length, map, All, IfOk, Some};
+ghost use Rattle.bench_text.specs.Netlist.{distinct, net_named};
+ghost use Rattle.bench_text.specs.Seen.{seen_names};
+ghost use Rattle.fanin_cone.specs.Extract.{first_unknown, IsExtract};
+
+use crate::cones::{cone_of, mark};
+use crate::fault::ConeFault;
+use bench_text::Netlist;
+use std::alloc::{AllocError, Global};
+
+/// The nets in the fan-in cones of the nets of these names, in their old order, as a netlist of
+/// their own, whose outputs are the nets of these names, each where its name stands first.
+///
+/// At least one name is asked for.
+///
+/// # Errors
+/// [`ConeFault::UnknownNet`] at the first name that no net has, or [`ConeFault::Memory`] where a
+/// growth was refused.
+pub fn extract(alloc: Global, netlist: &Netlist, names: &[&[u8]]) -> Result<Netlist, ConeFault>
+    requires { 0 < length names.now }
+    ensures unknown { result ≢ Err ConeFault.Memory → (at : ℕ) →
+        (result ≡ Err (ConeFault.UnknownNet at)) ↔ (first_unknown netlist.now (seen_names names.now) ≡ Some at) }
+    ensures extracted { IfOk result (IsExtract netlist.now (seen_names names.now)) }
+{
+    let numbers = numbers(alloc, netlist, names)?;
+    let keep = cone_of(alloc, netlist, numbers.as_slice())?;
+    let outputs = without_repeats(alloc, numbers.as_slice(), netlist.nets() as usize)?;
+    let extract = netlist.pick(alloc, keep.as_slice(), outputs.as_slice())?;
+    Ok(extract)
+}
+
+/// The numbers of the nets of these names, unless no net has one of them.
+fn numbers(alloc: Global, netlist: &Netlist, names: &[&[u8]]) -> Result<Vec<u32>, ConeFault>
+    ensures unknown { (at : ℕ) →
+        result ≡ Err (ConeFault.UnknownNet at) → first_unknown netlist.now (seen_names names.now) ≡ Some at }
+    ensures known { IfOk result
+        (λ numbers. map (net_named netlist.now) (seen_names names.now) ≡ map Some numbers.items) }
+{
+    let mut numbers = Vec::new(alloc);
+    for (at, name) in names.iter().enumerate() {
+        let Some(net) = netlist.find(name) else {
+            return Err(ConeFault::UnknownNet { at: at as u64 });
+        };
+        numbers.push(net)?;
+    }
+    Ok(numbers)
+}
+
+/// Each of these numbers, which are below `bound`, where it stands first.
+fn without_repeats(alloc: Global, numbers: &[u32], bound: usize) -> Result<Vec<u32>, AllocError>
+    requires { All (λ number. number < bound) numbers.now }
+    ensures { IfOk result (λ kept. kept.items ≡ distinct numbers.now) }
+{
+    let mut marks = vec![in alloc; false; bound]?;
+    let mut kept = Vec::new(alloc);
+    mark(numbers, &mut marks, &mut kept)?;
+    Ok(kept)
+}

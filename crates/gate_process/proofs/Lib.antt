@@ -1,0 +1,11 @@
+pub mod Told
+pub mod Frontiers
+pub mod Reckoned
+pub mod Events
+pub mod Steady
+pub mod Forgets
+pub mod Heard
+pub mod Walks
+pub mod Advanced
+pub mod Nets
+pub mod Starts

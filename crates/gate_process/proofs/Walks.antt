@@ -1,0 +1,162 @@
+-- A walk over the ticks at which a signal may change finds all of its changes.
+use Rattle.std.proofs.Common.{◌≡◌, ◌≢◌, ℕ, zero, suc, ◌+◌, ◌<◌, ◌≤◌, ◌==◌, nat_lt, Bool, true, false, cond, List, [], ◌∷◌, ◌++◌, All, map, refl, ap, sym, ◌∙◌, subst, arith, append-nil, append_assoc}
+use Rattle.std.proofs.lemmas.Bool.{lt-ltb, le-ltb, eqb-true, eqb-false}
+use Rattle.std.proofs.lemmas.List.{map-append}
+use Rattle.std.proofs.lemmas.List.Elements.{All-head, All-tail, All-append}
+use Rattle.logic3.specs.declared.value.Value.{Value}
+use Rattle.logic3.specs.declared.change.Change.{Change}
+use Rattle.logic3.specs.Value.{is_same, is_same_equiv}
+use Rattle.logic3.specs.Wave.{Wave, value_before, change_at, changes_between, last_value, joined}
+use Rattle.logic3.proofs.Waves.{changes_between-split, change_at-some, value_in_the_end-append, All-wave_of}
+use Rattle.cmb_channels.specs.declared.message.Message.{Message}
+use Rattle.cmb_channels.specs.declared.message.Message.TheVariants.{Change as Changes, Null}
+use Rattle.gate_process.specs.Knowledge.{news_of}
+use Rattle.gate_process.specs.Step.{continued}
+use Rattle.gate_process.proofs.Told.{one_change, no_change}
+use Rattle.gate_process.proofs.Steady.{quiet}
+
+-- what some changes tell of: up to the last of them, else up to a tick
+abbrev pub told_to : ℕ → List Change → ℕ
+told_to from [] = from
+told_to from (change ∷ changes) = told_to (change.tick + 1) changes
+
+told_to-push : (from : ℕ) (changes : List Change) (change : Change) → told_to from (changes ++ change ∷ []) ≡ change.tick + 1
+told_to-push from [] change = refl
+told_to-push from (first ∷ changes) change = told_to-push (first.tick + 1) changes change
+
+-- how far a walk over a signal has come: the waveform, the messages and how far they tell
+pub record Walked (signal : ℕ → Value) (from to tick told : ℕ) (start wave : Wave) (messages : List Message) : Type 0 where
+  pub after : from ≤ tick
+  pub within : tick ≤ to
+  pub wave_is : wave ≡ joined start (changes_between signal from tick)
+  pub last : last_value wave ≡ value_before signal tick
+  pub messages_are : messages ≡ map Changes (changes_between signal from tick)
+  pub told_is : told ≡ told_to from (changes_between signal from tick)
+
+none_between : (signal : ℕ → Value) (at : ℕ) → changes_between signal at at ≡ []
+none_between signal at = quiet signal at at (λ tick a b. absurd (omega arith))
+
+-- all changes so far are past
+pub walked_past : (signal : ℕ → Value) (from to tick told : ℕ) (start wave : Wave) (messages : List Message) →
+    Walked signal from to tick told start wave messages → All (λ (change : Change). change.tick < from) start.changes →
+    All (λ (change : Change). change.tick < tick) wave.changes
+walked_past signal from to tick told start wave messages walked past =
+    subst (λ (w : Wave). All (λ (change : Change). change.tick < tick) w.changes) (sym walked.wave_is)
+    (All-append (λ (change : Change). change.tick < tick) start.changes (changes_between signal from tick)
+    (λ k d below. let old = past k d below in let after = walked.after in omega arith)
+    (All-wave_of signal from tick))
+
+-- from one tick to the next at which the signal may change
+module _ (signal : ℕ → Value) (from tick next : ℕ) (after : from ≤ tick) (later : tick < next)
+    (steady : (t : ℕ) → tick ≤ t → t < next → signal t ≡ signal tick) where
+  one_look : changes_between signal from next ≡ changes_between signal from tick ++ change_at signal tick
+  one_look =
+      let rest : changes_between signal (tick + 1) next ≡ [] = quiet signal (tick + 1) next (λ t a b. still t a b) in
+      changes_between-split signal from tick next after (omega arith)
+      ∙ ap (λ cs. changes_between signal from tick ++ cs)
+      (changes_between-split signal tick (tick + 1) next (omega arith) (omega arith)
+      ∙ ap (λ cs. changes_between signal tick (tick + 1) ++ cs) rest ∙ append-nil (changes_between signal tick (tick + 1)) ∙ one_change signal tick)
+    where
+      still : (t : ℕ) → tick + 1 ≤ t → t < next → signal t ≡ value_before signal t
+      still zero a b = absurd (omega arith)
+      still (suc t) a b = steady (suc t) (omega arith) b ∙ sym (steady t (omega arith) (omega arith))
+
+  shown_next : value_before signal next ≡ signal tick
+  shown_next = go next refl
+    where
+      go : (n : ℕ) → next ≡ n → value_before signal n ≡ signal tick
+      go zero e = absurd (omega arith)
+      go (suc n) e = steady n (omega arith) (omega arith)
+
+-- where the signal shows the last value there is no change
+pub walked_same : (signal : ℕ → Value) (from to tick told : ℕ) (start wave : Wave) (messages : List Message) (next : ℕ) (value : Value) →
+    Walked signal from to tick told start wave messages → tick < next → next ≤ to →
+    ((t : ℕ) → tick ≤ t → t < next → signal t ≡ signal tick) → value ≡ signal tick → value ≡ last_value wave →
+    Walked signal from to next told start wave messages
+walked_same signal from to tick told start wave messages next value walked later within steady shows same =
+    let after = walked.after in
+    let before : value_before signal tick ≡ signal tick = sym walked.last ∙ sym same ∙ shows in
+    let none : change_at signal tick ≡ [] =
+    no_change signal tick (ap (is_same (signal tick)) before ∙ is_same_equiv.refl (signal tick)) in
+    let changes : changes_between signal from next ≡ changes_between signal from tick =
+    one_look signal from tick next after later steady ∙ ap (λ cs. changes_between signal from tick ++ cs) none
+    ∙ append-nil (changes_between signal from tick) in
+    record {
+      after = omega arith;
+      within = within;
+      wave_is = walked.wave_is ∙ ap (joined start) (sym changes);
+      last = sym same ∙ shows ∙ sym (shown_next signal from tick next after later steady);
+      messages_are = walked.messages_are ∙ ap (map Changes) (sym changes);
+      told_is = walked.told_is ∙ ap (told_to from) (sym changes);
+    }
+
+-- where it shows another value there is one
+pub walked_change : (signal : ℕ → Value) (from to tick told : ℕ) (start wave : Wave) (messages : List Message) (next : ℕ) (value : Value)
+    (more : Wave) (added : List Message) →
+    Walked signal from to tick told start wave messages → tick < next → next ≤ to →
+    ((t : ℕ) → tick ≤ t → t < next → signal t ≡ signal tick) → value ≡ signal tick → value ≢ last_value wave →
+    more ≡ joined wave (record { tick = tick; value = value } ∷ []) →
+    added ≡ messages ++ Changes (record { tick = tick; value = value }) ∷ [] →
+    Walked signal from to next (tick + 1) start more added
+walked_change signal from to tick told start wave messages next value more added walked later within steady shows differs more_is added_is =
+    let after = walked.after in
+    let change : Change = record { tick = tick; value = value } in
+    let here : change_at signal tick ≡ change ∷ [] =
+    change_at-some signal tick (λ same. differs (shows ∙ sym same ∙ sym walked.last))
+    ∙ ap (λ v. record { tick = tick; value = v } ∷ []) (sym shows) in
+    let changes : changes_between signal from next ≡ changes_between signal from tick ++ change ∷ [] =
+    one_look signal from tick next after later steady ∙ ap (λ cs. changes_between signal from tick ++ cs) here in
+    record {
+      after = omega arith;
+      within = within;
+      wave_is = more_is ∙ ap (λ (w : Wave). joined w (change ∷ [])) walked.wave_is
+          ∙ ap (λ cs. record { before = start.before; changes = cs }) (append_assoc start.changes (changes_between signal from tick) (change ∷ []))
+          ∙ ap (joined start) (sym changes);
+      last = ap last_value more_is ∙ value_in_the_end-append wave.before wave.changes (change ∷ []) ∙ shows
+          ∙ sym (shown_next signal from tick next after later steady);
+      messages_are = added_is ∙ ap (λ ms. ms ++ Changes change ∷ []) walked.messages_are
+          ∙ sym (map-append Changes (changes_between signal from tick) (change ∷ []))
+          ∙ ap (map Changes) (sym changes);
+      told_is = sym (ap (told_to from) changes ∙ told_to-push from (changes_between signal from tick) change);
+    }
+
+-- ---- the news in the end
+
+news_of-told : (from to : ℕ) (first : Change) (changes : List Change) → All (λ (change : Change). change.tick < to) (first ∷ changes) →
+    news_of (first ∷ changes) to ≡ map Changes (first ∷ changes) ++ cond (nat_lt (told_to from (first ∷ changes)) to) (Null to ∷ []) []
+news_of-told from to first [] past =
+    let below : first.tick < to = All-head (λ (change : Change). change.tick < to) first [] past in
+    ap (λ ms. Changes first ∷ ms) (go (first.tick + 1 == to) refl (omega arith))
+  where
+    go : (all : Bool) → (first.tick + 1 == to) ≡ all → first.tick + 1 ≤ to →
+        cond all [] (Null to ∷ []) ≡ cond (nat_lt (first.tick + 1) to) (Null to ∷ []) []
+    go true all below = let end : first.tick + 1 ≡ to = eqb-true _ _ all in rw (le-ltb (first.tick + 1) to (omega arith)) refl
+    go false all below = let apart : first.tick + 1 ≡ to → ⊥ = eqb-false _ _ all in rw (lt-ltb (first.tick + 1) to (omega (arith, apart))) refl
+news_of-told from to first (second ∷ changes) past =
+    ap (λ ms. Changes first ∷ ms)
+    (news_of-told (first.tick + 1) to second changes (All-tail (λ (change : Change). change.tick < to) first (second ∷ changes) past))
+
+-- the messages for the changes, and one for the end where they don't tell up to there
+pub news-told : (signal : ℕ → Value) (from to : ℕ) → from ≤ to →
+    cond (to == from) [] (news_of (changes_between signal from to) to)
+    ≡ map Changes (changes_between signal from to) ++ cond (nat_lt (told_to from (changes_between signal from to)) to) (Null to ∷ []) []
+news-told signal from to ahead = go (to == from) refl
+  where
+    some : (changes : List Change) → from < to → All (λ (change : Change). change.tick < to) changes →
+        news_of changes to ≡ map Changes changes ++ cond (nat_lt (told_to from changes) to) (Null to ∷ []) []
+    some [] less past = rw (lt-ltb from to less) refl
+    some (first ∷ changes) less past = news_of-told from to first changes past
+
+    go : (same : Bool) → (to == from) ≡ same →
+        cond same [] (news_of (changes_between signal from to) to)
+        ≡ map Changes (changes_between signal from to) ++ cond (nat_lt (told_to from (changes_between signal from to)) to) (Null to ∷ []) []
+    go true e =
+        let here : to ≡ from = eqb-true _ _ e in
+        let none : changes_between signal from to ≡ [] = ap (changes_between signal from) here ∙ none_between signal from in
+        rw (none, le-ltb from to (omega arith)) refl
+    go false e =
+        let apart : to ≡ from → ⊥ = eqb-false _ _ e in
+        some (changes_between signal from to) (omega (arith, apart, ahead)) (All-wave_of signal from to)
+
+pub continued-late : (wave : Wave) (from : ℕ) (signal : ℕ → Value) (tick : ℕ) → from ≤ tick → continued wave from signal tick ≡ signal tick
+continued-late wave from signal tick late = rw (le-ltb tick from late) refl

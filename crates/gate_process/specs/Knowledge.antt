@@ -1,0 +1,62 @@
+use Rattle.std.specs.Prelude.{◌≡◌, ◌==◌, if◌then◌else◌, ℕ, ◌+◌, ◌-◌, ◌<◌, ◌≤◌, min, List, [], ◌∷◌, ◌++◌, All}
+use Rattle.logic3.specs.declared.value.Value.{Value}
+use Rattle.logic3.specs.declared.value.Value.TheVariants.{Unknown}
+use Rattle.logic3.specs.Wave.{Wave, IsWave, value_at, changes_between, wave_of}
+use Rattle.logic3.specs.declared.change.Change.{Change}
+use Rattle.cmb_channels.specs.declared.message.Message.{Message}
+use Rattle.cmb_channels.specs.declared.message.Message.TheVariants.{Change as Changes, Null}
+
+-- what is known of a net: its waveform at the ticks before the frontier
+pub record Knowledge : Type 0 where
+  pub wave : Wave
+  pub frontier : ℕ
+
+-- what is known is a waveform, and tells nothing of the ticks from the frontier on
+pub record IsKnowledge (known : Knowledge) : Type 0 where
+  pub wave : IsWave known.wave
+  pub past : All (λ (change : Change). change.tick < known.frontier) known.wave.changes
+
+-- what is known before anything was told
+abbrev pub nothing_known : Knowledge
+nothing_known = record { wave = record { before = Unknown; changes = [] }; frontier = 0 }
+
+-- knowing a signal at the ticks from one up to but not including another
+abbrev pub knowledge_of : (ℕ → Value) → ℕ → ℕ → Knowledge
+knowledge_of signal from to = record { wave = wave_of signal from to; frontier = to }
+
+-- what is known after a message
+abbrev pub told : Knowledge → Message → Knowledge
+told known (Changes change) =
+    record { wave = record { before = known.wave.before; changes = known.wave.changes ++ change ∷ [] }; frontier = change.tick + 1 }
+told known (Null bound) = record { wave = known.wave; frontier = bound }
+
+-- what is known after some messages
+abbrev pub told_all : Knowledge → List Message → Knowledge
+told_all known [] = known
+told_all known (message ∷ messages) = told_all (told known message) messages
+
+-- the ticks that a pin keeps begin here, for a net of this frontier and delay
+abbrev pub kept_from : ℕ → ℕ → ℕ → ℕ
+kept_from frontier delay received = min (frontier - delay) (received - 1)
+
+-- the same at the ticks from there on
+abbrev pub forgetting : ℕ → Knowledge → Knowledge
+forgetting tick known = knowledge_of (value_at known.wave) tick known.frontier
+
+-- what a pin keeps of what it knows
+abbrev pub kept : ℕ → ℕ → Knowledge → Knowledge
+kept frontier delay known = forgetting (kept_from frontier delay known.frontier) known
+
+-- the messages that tell of these changes and of a frontier
+abbrev pub news_of : List Change → ℕ → List Message
+news_of [] to = Null to ∷ []
+news_of (change ∷ []) to = Changes change ∷ (if change.tick + 1 == to then [] else Null to ∷ [])
+news_of (change ∷ changes) to = Changes change ∷ news_of changes to
+
+-- these messages tell of a signal, from a tick known so far up to another, each one raising what is known
+abbrev pub Tells : (ℕ → Value) → ℕ → ℕ → List Message → Type 0
+Tells signal from to [] = from ≡ to
+Tells signal from to (Changes change ∷ messages) =
+    (from ≤ change.tick) × (changes_between signal from (change.tick + 1) ≡ change ∷ []) × Tells signal (change.tick + 1) to messages
+Tells signal from to (Null bound ∷ messages) =
+    (from < bound) × (changes_between signal from bound ≡ []) × Tells signal bound to messages

@@ -1,0 +1,55 @@
+-- What is true of a process, and of one whose channels tell the truth.
+use Rattle.std.specs.Prelude.{◌≡◌, ℕ, ◌+◌, ◌-◌, ◌<◌, ◌≤◌, true, length, map, slice_get, Some}
+use Rattle.logic3.specs.declared.value.Value.{Value}
+use Rattle.bench_text.specs.Line.{takes_pins}
+use Rattle.design.specs.Circuit.{Net, IsTimed, most_ticks}
+use Rattle.design.specs.Equations.{equation}
+use Rattle.logic3.specs.Wave.{IsWave}
+use Rattle.cmb_channels.specs.declared.message.Message.{Message}
+use Rattle.gate_process.specs.Knowledge.{Knowledge, knowledge_of, told, kept_from, forgetting, kept}
+use Rattle.gate_process.specs.Step.{ProcessState, next_frontier, asked_of_part}
+
+-- a signal of a family meets a net's equation, over the others
+pub record Meets (signals : ℕ → ℕ → Value) (number : ℕ) (net : Net) : Type 0 where
+  pub timed : IsTimed net
+  pub solves : (tick : ℕ) → signals number tick ≡ equation net (map signals net.pins) tick
+
+-- what the process of this net and its pins know is true of these signals, one for each net
+pub record KnowsTruth (signals : ℕ → ℕ → Value) (number : ℕ) (process : ProcessState) : Type 0 where
+  pub pins : length process.received ≡ length process.net.pins
+  pub floor : process.floor ≤ process.known.frontier
+  pub ahead : process.known.frontier ≤ next_frontier process
+  -- no value from the frontier on asks for a tick that the pins may have forgotten
+  pub asked : (tick : ℕ) → process.known.frontier ≤ tick → tick < process.end →
+      process.known.frontier - process.net.delay ≤ asked_of_part process.net.part process.net tick
+  -- the net is known from its floor up to its frontier
+  pub known : process.known ≡ knowledge_of (signals number) process.floor process.known.frontier
+  -- the source of each pin is known at the kept ticks below its received frontier
+  pub heard : (place source : ℕ) (received : Knowledge) → slice_get process.net.pins place ≡ Some source →
+      slice_get process.received place ≡ Some received →
+      received ≡ knowledge_of (signals source) (kept_from process.known.frontier process.net.delay received.frontier) received.frontier
+
+-- a net with its timing in the ranges, and as many pins as its part takes
+pub record IsNet (net : Net) : Type 0 where
+  pub timed : IsTimed net
+  pub arity : takes_pins net.part (length net.pins) ≡ true
+
+-- a process whose messages raise frontiers, whatever they tell: it never falls back, and keeps no more than it must
+pub record IsProcess (process : ProcessState) : Type 0 where
+  pub timed : IsTimed process.net
+  pub arity : takes_pins process.net.part (length process.net.pins) ≡ true
+  pub end : process.end ≤ most_ticks + 1
+  pub pins : length process.received ≡ length process.net.pins
+  pub floor : process.floor ≤ process.known.frontier
+  pub ahead : process.known.frontier ≤ next_frontier process
+  pub asked : (tick : ℕ) → process.known.frontier ≤ tick → tick < process.end →
+      process.known.frontier - process.net.delay ≤ asked_of_part process.net.part process.net tick
+  pub known : process.known ≡ forgetting process.floor process.known
+  pub heard : (place : ℕ) (received : Knowledge) → slice_get process.received place ≡ Some received →
+      received ≡ kept process.known.frontier process.net.delay received
+
+-- the process can be told this message at a place: it raises what the pin knows, goes on with its waveform, and isn't past the end
+abbrev pub CanHear : ProcessState → ℕ → Message → Type 0
+CanHear process place message =
+    (known : Knowledge) → slice_get process.received place ≡ Some known →
+    (known.frontier < (told known message).frontier) × ((told known message).frontier ≤ process.end) × IsWave (told known message).wave

@@ -1,0 +1,68 @@
+//! The steps of an advance.
+ghost use Rattle.std.specs.Prelude.{◌≡◌, ℕ, ◌+◌, ◌<◌, ◌≤◌, ◌==◌, if◌then◌else◌, [], All, slice_get, Some, length, map, IfOk, OnOk};
+ghost use Rattle.logic3.specs.declared.value.Value.TheVariants.{Unknown};
+ghost use Rattle.logic3.specs.declared.change.Change.{Change};
+ghost use Rattle.logic3.specs.Wave.{value_at, value_before, last_value, joined, changes_between};
+ghost use Rattle.design.specs.Circuit.{most_ticks};
+ghost use Rattle.design.specs.Equations.{equation};
+ghost use Rattle.gate_process.specs.Knowledge.{Knowledge, news_of, kept_from, kept};
+ghost use Rattle.gate_process.specs.Step.{signals_of, continued};
+
+use crate::net_copy::NetCopy;
+use crate::received::Received;
+use cmb_channels::Message;
+use logic3::{Change, Waveform};
+use std::alloc::{AllocError, Global};
+
+/// Carries a net's waveform on by its equation, and answers the messages that tell of it.
+///
+/// It looks at a tick only where a pin's change or a stimulus may show, so ticks between cost nothing.
+pub fn extend(
+    alloc: Global,
+    net: &NetCopy,
+    received: &[Received],
+    from: u64,
+    to: u64,
+    wave: &mut Waveform,
+) -> Result<Vec<Message>, AllocError>
+    requires pins { length received.now ≡ length net.now.pins }
+    requires ahead { from ≤ to }
+    requires end { to ≤ most_ticks + 1 }
+    requires past { All (λ (change : Change). change.tick < from) wave.old.changes }
+    requires last { last_value wave.old ≡ value_before (value_at wave.old) from }
+    ensures wave { OnOk result (wave.new ≡ joined wave.old
+        (changes_between (continued wave.old from (equation net.now (signals_of received.now))) from to)) }
+    ensures news { IfOk result (λ messages. messages.items ≡ (if to == from then [] else
+        news_of (changes_between (continued wave.old from (equation net.now (signals_of received.now))) from to) to)) }
+{
+    let mut messages = Vec::new(alloc);
+    let mut values = Vec::new(alloc);
+    // The messages so far tell of the net up to here.
+    let mut told = from;
+    let mut tick = from;
+    while tick < to {
+        let value = net.value_at(received, tick, &mut values)?;
+        if value != wave.last_value() {
+            let change = Change { tick, value };
+            wave.push(change)?;
+            messages.push(Message::Change(change))?;
+            told = tick + 1;
+        }
+        tick = net.steady_until(received, tick, to);
+    }
+    if told < to {
+        messages.push(Message::Null(to))?;
+    }
+    Ok(messages)
+}
+
+/// Forgets at each pin what a net of this frontier and delay doesn't ask for any more.
+pub fn keep_all(received: &mut [Received], frontier: u64, delay: u64)
+    requires { (place : ℕ) (known : Knowledge) → slice_get received.old place ≡ Some known →
+        kept_from frontier delay known.frontier ≡ 0 → known.wave.before ≡ Unknown }
+    ensures { received.new ≡ map (kept frontier delay) received.old }
+{
+    for pin in received.iter_mut() {
+        pin.keep(frontier, delay);
+    }
+}

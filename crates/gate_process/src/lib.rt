@@ -1,0 +1,12 @@
+//! The logical process of a net: it reckons what the net shows from what its pins were told.
+#![tactic(auto)]
+
+mod advance;
+mod changes;
+mod equation;
+pub mod laws;
+mod net_copy;
+mod process;
+mod received;
+
+pub use process::Process;

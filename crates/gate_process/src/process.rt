@@ -1,0 +1,187 @@
+ghost use Rattle.std.specs.Prelude.{◌≡◌, ℕ, ◌+◌, ◌<◌, Bool, true, false, length, slice_get, Some, IfOk, IfSome, OnOk, OnErr, option_map};
+ghost use Rattle.logic3.specs.Wave.{last_value};
+ghost use Rattle.gate_process.specs.Knowledge.{Knowledge};
+ghost use Rattle.gate_process.specs.Step.{running, started_process, heard, safe_of, advanced, news};
+ghost use Rattle.gate_process.specs.Truth.{IsProcess, CanHear};
+
+use crate::advance::{extend, keep_all};
+use crate::net_copy::NetCopy;
+use crate::received::{Received, least_frontier, nothing_received};
+use cmb_channels::Message;
+use design::{Design, Horizon};
+use logic3::{Value, Waveform};
+use std::alloc::{AllocError, Global};
+use std::marker::Model;
+
+/// The logical process of a net.
+///
+/// It shares nothing with other processes: messages tell it what its pins show, and by messages it
+/// tells what its net shows. A frontier is how many ticks of a net are known, from tick 0 on.
+///
+/// After [`advance`](Self::advance) ran out of memory it has failed, and only
+/// [`is_failed`](Self::is_failed) may be called.
+#[derive(Debug, Drop)]
+pub struct Process {
+    net: NetCopy,
+    // The first tick past the horizon.
+    end: u64,
+    // The waveform begins at this tick.
+    floor: u64,
+    wave: Waveform,
+    frontier: u64,
+    // What each pin was told, in order.
+    received: Vec<Received>,
+    failed: bool,
+}
+
+impl Model for Process {
+    ghost use Rattle.std.specs.Prelude.{◌≡◌, false};
+    ghost use Rattle.gate_process.specs.Step.{ProcessView};
+    ghost use Rattle.gate_process.specs.Truth.{IsProcess};
+
+    ghost Value = { ProcessView };
+
+    ghost view = { λ p. record {
+      failed = p.failed;
+      state = record {
+        net = p.net;
+        end = p.end;
+        floor = p.floor;
+        known = record { wave = p.wave; frontier = p.frontier };
+        received = p.received.items;
+      };
+    } };
+
+    ghost invariant = { λ p. p.failed ≡ false → IsProcess (record {
+      net = p.net;
+      end = p.end;
+      floor = p.floor;
+      known = record { wave = p.wave; frontier = p.frontier };
+      received = p.received.items;
+    }) };
+}
+
+impl Process {
+    /// The process of a net, which knows nothing yet: all frontiers are 0.
+    pub fn new(
+        alloc: Global,
+        design: &Design,
+        net: u32,
+        horizon: Horizon,
+    ) -> Result<Process, AllocError>
+        requires { net < length design.now.circuit }
+        ensures { IfOk result (λ process. IfSome (slice_get design.now.circuit net)
+            (λ n. process ≡ running (started_process (horizon + 1) n))) }
+    {
+        let copy = NetCopy::of(alloc, design, net)?;
+        let received = nothing_received(alloc, copy.pins())?;
+        Ok(Process {
+            net: copy,
+            end: horizon.ticks() + 1,
+            floor: 0,
+            wave: Waveform::new(alloc),
+            frontier: 0,
+            received,
+            failed: false,
+        })
+    }
+
+    /// Hears a message at the pin at this place.
+    ///
+    /// The message raises what is known of the pin, but not past the horizon, and a change goes on
+    /// with the waveform that the pin was told. An `AllocError` leaves the process as it was.
+    pub fn receive(&mut self, place: u32, message: Message) -> Result<(), AllocError>
+        requires running { self.old.failed ≡ false }
+        requires place { place < length self.old.state.received }
+        requires can_hear { CanHear self.old.state place message }
+        ensures ok { OnOk result (self.new ≡ running (heard place message self.old.state)) }
+        ensures err { OnErr result (self.new ≡ self.old) }
+    {
+        let received = &mut self.received[place as usize];
+        received.hear(message)?;
+        received.keep(self.frontier, self.net.delay());
+        Ok(())
+    }
+
+    /// Reckons the net as far as its pins are known, and answers the messages that tell of it: each
+    /// change, in order, and at the end a null message where no change comes at the last tick. Each
+    /// raises what is known of the net, so there is none where the frontier stays.
+    ///
+    /// The cost grows with the changes and the pins, not with the ticks. After an `AllocError` the
+    /// process has failed.
+    pub fn advance(&mut self) -> Result<Vec<Message>, AllocError>
+        requires running { self.old.failed ≡ false }
+        ensures news { IfOk result (λ messages. messages.items ≡ news self.old.state) }
+        ensures state { OnOk result (self.new ≡ running (advanced self.old.state)) }
+        ensures err { OnErr result (self.new.failed ≡ true) }
+    {
+        let alloc = *self.received.allocator();
+        let safe = least_frontier(self.end, self.received.as_slice());
+        let to = self.net.next_frontier(self.end, safe);
+
+        self.failed = true;
+        let messages = extend(
+            alloc,
+            &self.net,
+            self.received.as_slice(),
+            self.frontier,
+            to,
+            &mut self.wave,
+        )?;
+        self.frontier = to;
+        keep_all(self.received.as_mut_slice(), to, self.net.delay());
+        self.failed = false;
+        Ok(messages)
+    }
+
+    /// How many ticks are known of all pins: the least of their frontiers, and for an input all
+    /// ticks up to the horizon.
+    pub fn safe(&self) -> u64
+        requires running { self.now.failed ≡ false }
+        ensures { result ≡ safe_of self.now.state }
+    {
+        least_frontier(self.end, self.received.as_slice())
+    }
+
+    /// How many ticks of the net are known.
+    pub fn frontier(&self) -> u64
+        requires running { self.now.failed ≡ false }
+        ensures { result ≡ self.now.state.known.frontier }
+    {
+        self.frontier
+    }
+
+    /// How many ticks are known of the pin at this place among the pins of the net.
+    pub fn received(&self, place: u32) -> u64
+        requires running { self.now.failed ≡ false }
+        requires place { place < length self.now.state.received }
+        ensures { option_map (λ (known : Knowledge). known.frontier) (slice_get self.now.state.received place) ≡ Some result }
+    {
+        self.received[place as usize].frontier()
+    }
+
+    /// The value of the last change that the pin at this place was told, X where there was none.
+    pub fn last(&self, place: u32) -> Value
+        requires running { self.now.failed ≡ false }
+        requires place { place < length self.now.state.received }
+        ensures { option_map (λ (known : Knowledge). last_value known.wave) (slice_get self.now.state.received place) ≡ Some result }
+    {
+        self.received[place as usize].last()
+    }
+
+    /// What the net shows at the ticks that are known.
+    pub fn waveform(&self) -> &Waveform
+        requires running { self.now.failed ≡ false }
+        ensures { result.now ≡ self.now.state.known.wave }
+    {
+        &self.wave
+    }
+
+    /// Whether an advance ran out of memory.
+    pub fn is_failed(&self) -> bool
+        ensures failed { result ≡ self.now.failed }
+        ensures well_formed { self.now.failed ≡ false → IsProcess self.now.state }
+    {
+        self.failed
+    }
+}

@@ -1,0 +1,146 @@
+ghost use Rattle.std.specs.Prelude.{◌≡◌, ℕ, ◌+◌, ◌<◌, ◌≤◌, map, replicate, IfOk, OnOk, OnErr};
+ghost use Rattle.logic3.specs.declared.value.Value.TheVariants.{Unknown};
+ghost use Rattle.logic3.specs.Wave.{IsWave, last_value, value_at, value_in_the_end};
+ghost use Rattle.design.specs.Circuit.{most_ticks};
+ghost use Rattle.gate_process.specs.Knowledge.{Knowledge, nothing_known, told, kept_from, forgetting, kept};
+ghost use Rattle.gate_process.specs.Step.{least};
+
+use crate::changes::{ChangeQueue, next_change};
+use cmb_channels::Message;
+use logic3::{Change, Value, value_after};
+use std::alloc::{AllocError, Global};
+use std::marker::Model;
+
+/// What a pin was told of its source, as far as it is kept.
+#[derive(Debug, Drop)]
+pub struct Received {
+    // The value before the first change that is kept.
+    before: Value,
+    changes: ChangeQueue,
+    frontier: u64,
+}
+
+impl Model for Received {
+    ghost use Rattle.gate_process.specs.Knowledge.{Knowledge, IsKnowledge};
+
+    ghost Value = { Knowledge };
+
+    ghost view = { λ r. record { wave = record { before = r.before; changes = r.changes }; frontier = r.frontier } };
+
+    ghost invariant = { λ r.
+        IsKnowledge (record { wave = record { before = r.before; changes = r.changes }; frontier = r.frontier }) };
+}
+
+impl Received {
+    /// What is known before anything was told.
+    pub fn nothing(alloc: Global) -> Received
+        ensures { result ≡ nothing_known }
+    {
+        Received {
+            before: Value::Unknown,
+            changes: ChangeQueue::new(alloc),
+            frontier: 0,
+        }
+    }
+
+    /// How many ticks of the source are known, from tick 0 on.
+    pub fn frontier(&self) -> u64
+        ensures { result ≡ self.now.frontier }
+    {
+        self.frontier
+    }
+
+    /// Knows a message more. An `AllocError` changes nothing.
+    pub fn hear(&mut self, message: Message) -> Result<(), AllocError>
+        requires raises { self.old.frontier < (told self.old message).frontier }
+        requires fits { (told self.old message).frontier ≤ most_ticks + 1 }
+        requires wave { IsWave (told self.old message).wave }
+        ensures ok { OnOk result (self.new ≡ told self.old message) }
+        ensures err { OnErr result (self.new ≡ self.old) }
+    {
+        match message {
+            Message::Change(change) => {
+                self.changes.push(change)?;
+                self.frontier = change.tick + 1;
+            }
+            Message::Null(bound) => self.frontier = bound,
+        }
+        Ok(())
+    }
+
+    /// Forgets the ticks that a net of this frontier and delay doesn't ask for any more.
+    pub fn keep(&mut self, frontier: u64, delay: u64)
+        requires { kept_from frontier delay self.old.frontier ≡ 0 → self.old.wave.before ≡ Unknown }
+        ensures { self.new ≡ kept frontier delay self.old }
+    {
+        let oldest = frontier
+            .saturating_sub(delay)
+            .min(self.frontier.saturating_sub(1));
+        self.forget_before(oldest);
+    }
+
+    /// Forgets the ticks before this one.
+    fn forget_before(&mut self, tick: u64)
+        requires { tick ≡ 0 → self.old.wave.before ≡ Unknown }
+        ensures { self.new ≡ forgetting tick self.old }
+    {
+        let changes = self.changes.as_slice();
+        let early = changes.partition_point(|change| change.tick < tick);
+        self.before = last_value(self.before, &changes[..early]);
+        self.changes.drop_front(early);
+    }
+
+    /// The value at a tick that is kept and known. Takes logarithmic time.
+    pub fn value_at(&self, tick: u64) -> Value
+        ensures { result ≡ value_at self.now.wave tick }
+    {
+        value_after(self.before, self.changes.as_slice(), tick)
+    }
+
+    /// The tick of the first change after a tick, at most the limit: up to there the value stays.
+    ///
+    /// Takes logarithmic time.
+    pub fn next_change(&self, tick: u64, limit: u64) -> u64
+        ensures later { tick < limit → tick < result }
+        ensures within { result ≤ limit }
+        ensures steady { (t : ℕ) → tick ≤ t → t < result → value_at self.now.wave t ≡ value_at self.now.wave tick }
+    {
+        next_change(self.changes.as_slice(), tick, limit)
+    }
+
+    /// The value of the last change, X where there was none.
+    pub fn last(&self) -> Value
+        ensures { result ≡ last_value self.now.wave }
+    {
+        last_value(self.before, self.changes.as_slice())
+    }
+}
+
+/// The value of the last of the changes, else the value before them.
+fn last_value(before: Value, changes: &[Change]) -> Value
+    ensures { result ≡ value_in_the_end before changes.now }
+{
+    changes.last().map_or(before, |change| change.value)
+}
+
+/// What so many pins know before anything was told.
+pub fn nothing_received(alloc: Global, pins: usize) -> Result<Vec<Received>, AllocError>
+    ensures { IfOk result (λ received. received.items ≡ replicate pins nothing_known) }
+{
+    let mut received = Vec::with_capacity(alloc, pins)?;
+    for _pin in 0..pins {
+        received.push(Received::nothing(alloc))?;
+    }
+    Ok(received)
+}
+
+/// The least of the pins' frontiers and a bound.
+pub fn least_frontier(bound: u64, received: &[Received]) -> u64
+    ensures { result ≡ least bound (map (λ (known : Knowledge). known.frontier) received.now) }
+{
+    let mut least = bound;
+    for pin in received {
+        least = least.min(pin.frontier());
+    }
+    least
+}
