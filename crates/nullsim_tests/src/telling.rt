@@ -313,7 +313,13 @@ fn many_codes(rt: HostRuntime) -> Result<(), Fail> {
 }
 
 // The dump of the outputs of a circuit, in picoseconds, up to tick 5.
-fn dumps_outputs(rt: &impl Abort, alloc: Global, bench: &[u8], stimuli: &[u8], dump: &[u8]) {
+fn dumps_outputs(
+    rt: &impl Abort,
+    alloc: Global,
+    bench: &'static [u8],
+    stimuli: &'static [u8],
+    dump: &[u8],
+) {
     let source = Source {
         bench,
         delays: b"",
