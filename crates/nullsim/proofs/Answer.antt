@@ -17,7 +17,7 @@ use Rattle.cmb_kernel.specs.declared.schedule_fault.ScheduleFault.{ScheduleFault
 use Rattle.cmb_kernel.specs.declared.schedule_fault.ScheduleFault.TheVariants as schedule
 use Rattle.nullsim.specs.declared.view.View.{View}
 use Rattle.nullsim.specs.declared.fault.SimFault.{SimFault}
-use Rattle.nullsim.specs.declared.fault.SimFault.TheVariants.{Setting}
+use Rattle.nullsim.specs.declared.fault.SimFault.TheVariants.{Setting, Dump, Memory}
 use Rattle.nullsim.specs.declared.simulation.Report.{Report}
 use Rattle.nullsim.specs.Events.{events_of_picks}
 use Rattle.nullsim.specs.Faults.{sim_of_bench, sim_of_build, sim_of_schedule}
@@ -80,6 +80,33 @@ module _ (source : SourceView) (ticks : ℕ) where
         unfolding design_of_source
         design_of_source-good design made = rw (good, end, read, made) refl
 
+-- ---- the run
+
+-- what refuses one answer refuses another that fails where it does
+pub IsRefusal-lifted : {A B : Type 0} (refused : Result A SimFault) (answer : Result B SimFault) (fault : SimFault) →
+    (refused ≡ Err fault → answer ≡ Err fault) → IsRefusal refused fault → IsRefusal answer fault
+IsRefusal-lifted refused answer (Dump fault) lifts refusal = refusal
+IsRefusal-lifted refused answer Memory lifts refusal = tt
+IsRefusal-lifted refused answer _ lifts refusal = lifts refusal
+
+module _ (source : SourceView) (ticks : ℕ) where
+  -- a fault of the design is the answer
+  pub run_of_source-bad : (fault : SimFault) → design_of_source source ticks ≡ Err fault → run_of_source source ticks ≡ Err fault
+  unfolding run_of_source
+  run_of_source-bad fault bad = rw bad refl
+
+  module _ (horizon : ℕ) (design : DesignView) (made : design_of_source source ticks ≡ Ok (horizon, design)) where
+    -- so is a fault of the schedule
+    pub run_of_source-bad_schedule : (fault : ScheduleFault) → events_of_picks design.circuit source.picks ≡ Err fault →
+        run_of_source source ticks ≡ Err (sim_of_schedule fault)
+    unfolding run_of_source
+    run_of_source-bad_schedule fault bad = rw (made, bad) refl
+
+    pub run_of_source-good : (events : List Event) → events_of_picks design.circuit source.picks ≡ Ok events →
+        run_of_source source ticks ≡ Ok (record { horizon = horizon; design = design; events = events })
+    unfolding run_of_source
+    run_of_source-good events picked = rw (made, picked) refl
+
 -- ---- what is made of it
 
 module _ (source : SourceView) (view : View) where
@@ -88,36 +115,20 @@ module _ (source : SourceView) (view : View) where
   unfolding dump_of_source
   dump_of_source-bad fault bad = rw bad refl
 
-  run_of_source-bad : (fault : SimFault) → run_of_source source view.horizon ≡ Err fault → dump_in (simulated source view) ≡ Err fault
+  pub dump_of_source-good : (horizon : ℕ) (design : DesignView) → design_of_source source view.horizon ≡ Ok (horizon, design) →
+      dump_of_source source view ≡ Ok (text_of view horizon design)
+  unfolding dump_of_source
+  dump_of_source-good horizon design made = rw made refl
+
+  -- a fault of the run is the answer
+  pub simulated-bad : (fault : SimFault) → run_of_source source view.horizon ≡ Err fault → dump_in (simulated source view) ≡ Err fault
   unfolding simulated
-  run_of_source-bad fault bad = rw bad refl
+  simulated-bad fault bad = rw bad refl
 
-  pub simulated-bad : (fault : SimFault) → design_of_source source view.horizon ≡ Err fault → dump_in (simulated source view) ≡ Err fault
-  unfolding run_of_source
-  simulated-bad fault bad = run_of_source-bad fault (rw bad refl)
-
-  module _ (horizon : ℕ) (design : DesignView) (made : design_of_source source view.horizon ≡ Ok (horizon, design)) where
-    pub dump_of_source-good : dump_of_source source view ≡ Ok (text_of view horizon design)
-    unfolding dump_of_source
-    dump_of_source-good = rw made refl
-
-    -- a fault of the schedule is the answer
-    pub simulated-bad_schedule : (fault : ScheduleFault) → events_of_picks design.circuit source.picks ≡ Err fault →
-        dump_in (simulated source view) ≡ Err (sim_of_schedule fault)
-    unfolding run_of_source
-    simulated-bad_schedule fault bad = run_of_source-bad (sim_of_schedule fault) (rw (made, bad) refl)
-
-    module _ (events : List Event) (picked : events_of_picks design.circuit source.picks ≡ Ok events) where
-      abbrev run : RunView
-      run = record { horizon = horizon; design = design; events = events }
-
-      pub run_of_source-good : run_of_source source view.horizon ≡ Ok run
-      unfolding run_of_source
-      run_of_source-good = rw (made, picked) refl
-
-      pub simulated-good : simulated source view ≡ Ok (text_of view horizon design, report_of run)
-      unfolding simulated
-      simulated-good = rw run_of_source-good refl
+  pub simulated-good : (run : RunView) → run_of_source source view.horizon ≡ Ok run →
+      simulated source view ≡ Ok (text_of view run.horizon run.design, report_of run)
+  unfolding simulated
+  simulated-good run made = rw made refl
 
 -- the dump of a run by the kernel is the one that needs no events
 module _ (source : SourceView) (view : View) (text : List ℕ) (report : Report) where

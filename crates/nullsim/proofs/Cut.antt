@@ -10,17 +10,26 @@ use Rattle.design.specs.declared.fault.BuildFault.{BuildFault}
 use Rattle.design.specs.declared.fault.DelayFault.TheVariants as delay
 use Rattle.design.specs.declared.fault.StimulusFault.TheVariants as stimulus
 use Rattle.design.specs.Build.{design_of}
+use Rattle.design.specs.Circuit.{Circuit}
 use Rattle.design.specs.Design.{DesignView}
 use Rattle.design.specs.Options.{horizon_of, options_of}
 use Rattle.design.specs.Delays.{delays_after, delays_of}
 use Rattle.design.specs.Stimuli.{stimuli_after, stimuli_of}
+use Rattle.cmb_kernel.specs.declared.event.Event.{Event}
+use Rattle.cmb_kernel.specs.declared.schedule_fault.ScheduleFault.{ScheduleFault}
+use Rattle.cmb_kernel.specs.declared.schedule_fault.ScheduleFault.TheVariants as schedule
+use Rattle.cmb_kernel.specs.Schedule.{events_in, events_of}
 use Rattle.nullsim.specs.declared.sections.DeckTextFault.TheVariants as deck
 use Rattle.nullsim.specs.declared.fault.SimFault.{SimFault}
 use Rattle.nullsim.specs.declared.fault.SimFault.TheVariants.{Setting}
 use Rattle.nullsim.specs.declared.view.View.{View}
-use Rattle.nullsim.specs.Faults.{sim_of_bench, sim_of_build}
 use Rattle.nullsim.specs.Deck.{ended_lines, sections_of, sections_of_lines}
+use Rattle.nullsim.specs.Events.{PicksView, events_of_picks}
+use Rattle.nullsim.specs.Events as picks
+use Rattle.nullsim.specs.Faults.{sim_of_bench, sim_of_build, sim_of_schedule}
 use Rattle.nullsim.specs.Run.{SourceView, design_of_source, dump_of_source, or_fault}
+use Rattle.nullsim.specs.Simulated.{RunView, run_of_source, simulated}
+use Rattle.nullsim.specs.Twins.{twins_of}
 
 -- the bytes that are read of a text
 abbrev pub cut : List ℕ → List ℕ
@@ -40,7 +49,7 @@ limited-cut {A = A} fault f text = go (cases_lt longest_text (length text))
         let whole : cut text ≡ text = take_all (longest_text + 1) text (omega arith) in
         ap (λ t. if nat_lt longest_text (length t) then fault else f t) whole
 
-netlist_of-cut : (text : List ℕ) → netlist_of (cut text) ≡ netlist_of text
+pub netlist_of-cut : (text : List ℕ) → netlist_of (cut text) ≡ netlist_of text
 netlist_of-cut text = limited-cut (Err bench.TooLong) (λ t. statements_of t >>= netlist_of_statements) text
 
 delays_of-cut : (netlist : NetlistView) (text : List ℕ) → delays_of netlist (cut text) ≡ delays_of netlist text
@@ -66,8 +75,28 @@ design_by source ticks read build = do
   design ← or_fault sim_of_build (build netlist)
   Ok (horizon, design)
 
+events_of-cut : (circuit : Circuit) (text : List ℕ) → events_of circuit (cut text) ≡ events_of circuit text
+events_of-cut circuit text = limited-cut (Err schedule.TooLong) (λ t. events_in circuit (code_lines t)) text
+
+abbrev pub cut_picks : PicksView → PicksView
+cut_picks (picks.text bytes) = picks.text (cut bytes)
+cut_picks other = other
+
+events_of_picks-cut : (circuit : Circuit) (source : PicksView) → events_of_picks circuit (cut_picks source) ≡ events_of_picks circuit source
+unfolding events_of_picks
+events_of_picks-cut circuit (picks.text bytes) = events_of-cut circuit bytes
+events_of_picks-cut circuit picks.nothing = refl
+events_of_picks-cut circuit (picks.seeded seed count) = refl
+
+-- ---- the texts of a source
+
 abbrev pub cut_source : SourceView → SourceView
-cut_source source = record source { bench = cut source.bench; delays = cut source.delays; stimuli = cut source.stimuli }
+cut_source source = record source {
+  bench = cut source.bench;
+  delays = cut source.delays;
+  stimuli = cut source.stimuli;
+  picks = cut_picks source.picks;
+}
 
 design_of_source-cut : (source : SourceView) (ticks : ℕ) → design_of_source (cut_source source) ticks ≡ design_of_source source ticks
 unfolding design_of_source
@@ -82,3 +111,27 @@ design_of_source-cut source ticks =
 pub dump_of_source-cut : (source : SourceView) (view : View) → dump_of_source (cut_source source) view ≡ dump_of_source source view
 unfolding dump_of_source
 dump_of_source-cut source view = rw (design_of_source-cut source view.horizon) refl
+
+-- the run, from what the settings and texts give, and the picks
+abbrev run_by : Result (ℕ × DesignView) SimFault → (Circuit → Result (List Event) ScheduleFault) → Result RunView SimFault
+run_by made pick = do
+  ready ← made
+  events ← or_fault sim_of_schedule (pick (ready.1).circuit)
+  Ok (record { horizon = ready.0; design = ready.1; events = events })
+
+pub run_of_source-cut : (source : SourceView) (ticks : ℕ) → run_of_source (cut_source source) ticks ≡ run_of_source source ticks
+unfolding run_of_source
+run_of_source-cut source ticks =
+    let picked : PicksView → Circuit → Result (List Event) ScheduleFault = λ from circuit. events_of_picks circuit from in
+    let same : picked (cut_picks source.picks) ≡ picked source.picks = λ i circuit. events_of_picks-cut circuit source.picks i in
+    ap (λ made. run_by made (picked (cut_picks source.picks))) (design_of_source-cut source ticks)
+    ∙ ap (run_by (design_of_source source ticks)) same
+
+pub simulated-cut : (source : SourceView) (view : View) → simulated (cut_source source) view ≡ simulated source view
+unfolding simulated
+simulated-cut source view = rw (run_of_source-cut source view.horizon) refl
+
+pub twins_of-cut : (first second : SourceView) (name : List ℕ) (horizon : ℕ) →
+    twins_of (cut_source first) (cut_source second) name horizon ≡ twins_of first second name horizon
+unfolding twins_of
+twins_of-cut first second name horizon = rw (run_of_source-cut first horizon, run_of_source-cut second horizon) refl

@@ -1,5 +1,5 @@
 -- How a run ends, from how its parts do.
-use Rattle.std.proofs.Common.{ℕ, List, length, take, Option, Result, Ok, Err, IfErr, IsOkAnd, OnErr, OnOk, ◌≡◌, sym, subst, arith}
+use Rattle.std.proofs.Common.{ℕ, List, length, take, Option, Result, Ok, Err, IfErr, IsOkAnd, OnOk, ◌≡◌, sym, subst, arith}
 use Rattle.std.specs.Io.KnownBytes.{Appends, Keeps}
 use Rattle.std.proofs.KnownBytes.{Appends-nil, Appends-kept, Keeps-refl}
 use Rattle.std.proofs.lemmas.List.{take_all}
@@ -29,10 +29,6 @@ AppendsPrefix-whole old new text done =
     let whole : take (length text) text ≡ text = take_all (length text) text (omega arith) in
     (length text, subst (Appends old new) (sym whole) done)
 
--- a flush keeps what was written
-pub AppendsPrefix-flushed : (old new flushed : Option (List ℕ)) (text : List ℕ) → AppendsPrefix old new text → Keeps new flushed → AppendsPrefix old flushed text
-AppendsPrefix-flushed old new flushed text part kept = (part.0, Appends-kept old new flushed _ part.1 kept)
-
 module _ {F : Type 0} where
   pub IsOkAnd-flushed : (answer : Result (List ℕ) F) (old new flushed : Option (List ℕ)) → IsOkAnd answer (Appends old new) → Keeps new flushed →
       IsOkAnd answer (Appends old flushed)
@@ -48,11 +44,6 @@ module _ {F : Type 0} where
   WritesPart-done (Ok text) old new done = AppendsPrefix-whole old new text done
   WritesPart-done (Err fault) old new done = absurd done
 
-pub WritesPart-ended : (answer : Result (List ℕ) SimFault) (old new : Option (List ℕ)) (fault : SimFault) → EndsBy answer old new fault → WritesPart answer old new
-WritesPart-ended answer old new (Dump fault) ends = ends
-WritesPart-ended answer old new Memory ends = ends
-WritesPart-ended answer old new _ ends = WritesPart-kept answer old new ends.1
-
 -- before a byte is written the run ends by what refuses it
 pub EndsBy-IsRefusal : {A : Type 0} (refused : Result A SimFault) (answer : Result (List ℕ) SimFault) (old : Option (List ℕ)) (fault : SimFault) →
     (refused ≡ Err fault → answer ≡ Err fault) → IsRefusal refused fault → EndsBy answer old old fault
@@ -66,10 +57,6 @@ module _ {A E : Type 0} where
   pub OnOk-holds : (result : Result A E) (P : Type 0) → P → OnOk result P
   OnOk-holds (Ok value) P holds = holds
   OnOk-holds (Err fault) P holds = tt
-
-  pub OnErr-holds : (result : Result A E) (P : Type 0) → P → OnErr result P
-  OnErr-holds (Ok value) P holds = tt
-  OnErr-holds (Err fault) P holds = holds
 
   -- what holds of the only fault
   pub IfErr-only : (result : Result A E) (only : E) (P : E → Type 0) → IfErr result (λ fault. fault ≡ only) → P only → IfErr result P

@@ -104,16 +104,9 @@ report_of-fresh run start events is are =
     ap (λ (r : Run). reported r.end r.circuit (steps r.state events)) is
     ∙ ap (λ es. reported (run.horizon + 1) run.design.circuit (steps (started run.design.circuit (run.horizon + 1)) es)) are
 
--- what it knows at its end are the waveforms up to the horizon
-module _ (circuit : Circuit) (horizon : ℕ) (start after : Run) (state : State) (is : start ≡ fresh circuit (horizon + 1))
-    (goes : after ≡ record start { state = state }) where
-  pub circuit-fresh : after.circuit ≡ circuit
-  circuit-fresh = ap (λ (r : Run). r.circuit) goes ∙ ap (λ (r : Run). r.circuit) is
-
-  end-fresh : after.end ≡ horizon + 1
-  end-fresh = ap (λ (r : Run). r.end) goes ∙ ap (λ (r : Run). r.end) is
-
-  pub waves_up_to-fresh : (nets : List ℕ) → map (λ net. wave_of (value_of after.circuit net) 0 after.end) nets ≡ waves_up_to circuit horizon nets
-  waves_up_to-fresh nets =
-      ap (λ c. map (λ net. wave_of (value_of c net) 0 after.end) nets) circuit-fresh
-      ∙ ap (λ end. map (λ net. wave_of (value_of circuit net) 0 end) nets) end-fresh
+-- what a run's kernel knows at its end are the waveforms up to the horizon
+pub waves_up_to-known : (run : RunView) (kernel : Run) → kernel.circuit ≡ run.design.circuit → kernel.end ≡ run.horizon + 1 → (nets : List ℕ) →
+    map (λ net. wave_of (value_of kernel.circuit net) 0 kernel.end) nets ≡ waves_up_to run.design.circuit run.horizon nets
+waves_up_to-known run kernel circuit end nets =
+    ap (λ c. map (λ net. wave_of (value_of c net) 0 kernel.end) nets) circuit
+    ∙ ap (λ to. map (λ net. wave_of (value_of run.design.circuit net) 0 to) nets) end

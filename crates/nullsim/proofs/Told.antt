@@ -6,7 +6,7 @@ use Rattle.nullsim.specs.declared.deck_run.DeckFault.{DeckFault}
 use Rattle.nullsim.specs.declared.deck_run.DeckFault.TheVariants.{Sim}
 use Rattle.nullsim.specs.declared.simulation.Report.{Report}
 use Rattle.nullsim.specs.declared.program_fault.ProgramFault.{ProgramFault}
-use Rattle.nullsim.specs.declared.program_fault.ProgramFault.TheVariants.{Read, Run, Flush}
+use Rattle.nullsim.specs.declared.program_fault.ProgramFault.TheVariants.{Read, Run, Second, Flush}
 use Rattle.nullsim.specs.DeckRun.{dump_of_deck}
 use Rattle.nullsim.specs.Ends.{WritesPart, DeckEndsBy}
 use Rattle.nullsim.specs.Simulated.{dump_in}
@@ -42,3 +42,4 @@ TellEndsBy-part None old new fault ends = tt
 TellEndsBy-part (Some deck) old new (Read name) ends = WritesPart-kept (dump_of_deck deck) old new ends
 TellEndsBy-part (Some deck) old new Flush ends = WritesPart-done (dump_of_deck deck) old new ends
 TellEndsBy-part (Some deck) old new (Run fault) ends = part_of_end (dump_of_deck deck) old new fault ends
+TellEndsBy-part (Some deck) old new (Second _) ends = absurd ends

@@ -1,75 +1,123 @@
 -- What an order asks for, and how the program with words ends.
-use Rattle.std.specs.Prelude.{◌≡◌, ◌⊎◌, ◌+◌, ℕ, Bool, List, [], ◌∷◌, take, unwrap_or, Option, None, Some, IfSome, IsOkAnd, IsTrue, Result, String, codes, bytes_eq, string_bytes}
+use Rattle.std.specs.Prelude.{◌≡◌, ◌⊎◌, ℕ, Bool, List, [], ◌∷◌, Option, None, IfSome, IsTrue, Result, Ok, Err, String, codes, bytes_eq, string_bytes}
+use Rattle.std.specs.Bool.{then_some}
 use Rattle.std.specs.List.{list_any}
+use Rattle.std.specs.Result.{result_map_both}
 use Rattle.std.specs.Io.KnownBytes.{Appends, Keeps}
 use Rattle.std.specs.declared.alloc.Global.{Global}
-use denote.Ref.{Bor}
-use Rattle.bench_text.specs.Text.{longest_text}
+use Rattle.bench_text.specs.Seen.{seen_names}
+use Rattle.cmb_kernel.specs.declared.counts.Counts.{Counts}
 use Rattle.vcd_dump.specs.Bytes.{AppendsPrefix}
 use Rattle.nullsim.specs.declared.deck_run.DeckFault.TheVariants.{Sim}
 use Rattle.nullsim.specs.declared.fault.SimFault.{SimFault}
-use Rattle.nullsim.specs.declared.order.CircuitOptions.{CircuitOptions}
+use Rattle.nullsim.specs.declared.fault.SimFault.TheVariants as sim
 use Rattle.nullsim.specs.declared.order.NoOrder.{NoOrder}
 use Rattle.nullsim.specs.declared.order.NoOrder.TheVariants.{Help, Usage, Memory}
 use Rattle.nullsim.specs.declared.order.Order.{Order}
-use Rattle.nullsim.specs.declared.order.Order.TheVariants.{Plain}
-use Rattle.nullsim.specs.declared.order_run.CircuitTexts.{CircuitTexts}
+use Rattle.nullsim.specs.declared.order.Order.TheVariants.{Run, Plain, Cone, Twin, Check}
+use Rattle.nullsim.specs.declared.order.SourceOptions.{SourceOptions}
 use Rattle.nullsim.specs.declared.program_fault.ProgramFault.{ProgramFault}
-use Rattle.nullsim.specs.declared.program_fault.ProgramFault.TheVariants.{Read, Run, Flush}
-use Rattle.nullsim.specs.Ends.{EndsBy}
+use Rattle.nullsim.specs.declared.program_fault.ProgramFault.TheVariants as program
+use Rattle.nullsim.specs.declared.simulation.Report.{Report}
+use Rattle.nullsim.specs.declared.twin_run.Side.{Side}
+use Rattle.nullsim.specs.declared.twin_run.Side.TheVariants.{First, Second}
+use Rattle.nullsim.specs.declared.twin_run.TwinAnswer.{TwinAnswer}
+use Rattle.nullsim.specs.declared.twin_run.TwinFault.{TwinFault}
+use Rattle.nullsim.specs.AnswerText.{check_text, twin_text}
+use Rattle.nullsim.specs.Checked.{checked}
+use Rattle.nullsim.specs.ConeText.{IsConeAnswer}
+use Rattle.nullsim.specs.Options.{IsSourceOf, KnownTexts}
 use Rattle.nullsim.specs.Run.{SourceView, dump_of_source}
+use Rattle.nullsim.specs.Simulated.{run_of_source, simulated}
+use Rattle.nullsim.specs.Twins.{IsComparison, Twins, on, twins_of}
 
 -- ---- the answer to an order
 
--- the text under each name, where it is known
-abbrev pub KnownTexts : Type 0
-KnownTexts = List ℕ → Option (List ℕ)
+-- what goes out, and the counts where they are asked for
+pub record Answer : Type 0 where
+  pub text : List ℕ
+  pub counts : Option Counts
 
--- the text of a file, where it is known; that of no file is empty
-abbrev pub text_named : KnownTexts → Option (Bor (List ℕ)) → Option (List ℕ)
-text_named known None = Some []
-text_named known (Some name) = known name.now
+-- a text alone
+abbrev pub just : List ℕ → Answer
+just text = record { text = text; counts = None }
 
--- the numbers are those of the options, and the texts those of their files, where they are known
-pub record IsSourceOf (known : KnownTexts) (circuit : CircuitOptions) (source : SourceView) : Type 0 where
-  pub bench : IfSome (known circuit.bench.now) (λ text. source.bench ≡ text)
-  pub delays : IfSome (text_named known circuit.delays) (λ text. source.delays ≡ text)
-  pub stimuli : IfSome (text_named known circuit.stimuli) (λ text. source.stimuli ≡ text)
-  pub delay : source.default_delay ≡ circuit.delay
-  pub period : source.period ≡ circuit.period
+-- the dump of a run, and its counts at the end where they are asked for
+abbrev pub with_counts : Bool → List ℕ × Report → Answer
+with_counts counts done = record { text = done.0; counts = then_some counts (done.1).total }
 
--- the answer to the order is such
-abbrev pub ForAnswer : KnownTexts → Order → (Result (List ℕ) SimFault → Type 0) → Type 0
-ForAnswer known (Plain circuit view) P = (source : SourceView) × IsSourceOf known circuit source × P (dump_of_source source view)
+-- the answer of an order of one run, which is that on the first side
+abbrev pub answered : {A : Type 0} → (A → Answer) → Result A SimFault → Result Answer TwinFault
+answered answer_of result = result_map_both answer_of (on First) result
 
--- the answer to some order is such
-abbrev pub ForSomeAnswer : KnownTexts → (Result (List ℕ) SimFault → Type 0) → Type 0
-ForSomeAnswer known P = (order : Order) × ForAnswer known order P
+-- the lines of a comparison, or the fault of one side
+abbrev pub IsTwinAnswer : Result Twins TwinFault → List ℕ → ℕ → Result Answer TwinFault → Type 0
+IsTwinAnswer (Ok twins) name horizon answer =
+    (comparison : TwinAnswer) × IsComparison twins name horizon comparison × (answer ≡ Ok (just (twin_text comparison)))
+IsTwinAnswer (Err fault) name horizon answer = answer ≡ Err fault
+
+-- it is so for a source of these options
+abbrev pub ForSource : KnownTexts → SourceOptions → (SourceView → Type 0) → Type 0
+ForSource known options P = (source : SourceView) × IsSourceOf known options source × P source
+
+-- the answer to an order, or the first fault
+abbrev pub IsAnswer : KnownTexts → Order → Result Answer TwinFault → Type 0
+IsAnswer known (Run options view counts) answer =
+    ForSource known options (λ source. answer ≡ answered (with_counts counts) (simulated source view))
+IsAnswer known (Plain options view) answer =
+    ForSource known options (λ source. answer ≡ answered just (dump_of_source source view))
+IsAnswer known (Cone bench names) answer =
+    (text : List ℕ) × IfSome (known bench.now) (λ all. text ≡ all)
+    × ((found : Result (List ℕ) SimFault) × IsConeAnswer text (seen_names names.items) found × (answer ≡ answered just found))
+IsAnswer known (Twin first second net horizon) answer =
+    ForSource known first (λ one. ForSource known second (λ other. IsTwinAnswer (twins_of one other net.now horizon) net.now horizon answer))
+IsAnswer known (Check options horizon) answer =
+    ForSource known options (λ source. answer ≡ answered (λ run. just (check_text (checked run))) (run_of_source source horizon))
 
 -- ---- how an order ends
 
--- just the answer to the order went out
-abbrev pub Answered : KnownTexts → Order → Option (List ℕ) → Option (List ℕ) → Type 0
-Answered known order old new = ForAnswer known order (λ answer. IsOkAnd answer (Appends old new))
+-- the answer to the order is such a one
+abbrev pub ForAnswer : KnownTexts → Order → (Answer → Type 0) → Type 0
+ForAnswer known order P = (answer : Answer) × IsAnswer known order (Ok answer) × P answer
 
--- the same before the flush failed, nothing where a file could not be read; a fault of the run ends the order as it ends the run
+-- just the answer to the order went out, and its counts are handed on
+abbrev pub Answered : KnownTexts → Order → Option (List ℕ) → Option (List ℕ) → Option Counts → Type 0
+Answered known order old new counts =
+    ForAnswer known order (λ answer. Appends old new answer.text × (counts ≡ answer.counts))
+
+-- nothing went out, or a first part of the answer to the order
+abbrev pub PartAnswered : KnownTexts → Order → Option (List ℕ) → Option (List ℕ) → Type 0
+PartAnswered known order old new = Keeps old new ⊎ ForAnswer known order (λ answer. AppendsPrefix old new answer.text)
+
+-- the order is refused, and nothing went out
+abbrev pub Refused : KnownTexts → Order → Option (List ℕ) → Option (List ℕ) → TwinFault → Type 0
+Refused known order old new fault = IsAnswer known order (Err fault) × Keeps old new
+
+-- a failed write or a want of memory breaks the order off, and any other fault of a run is its answer
+abbrev pub RunEndsBy : KnownTexts → Order → Option (List ℕ) → Option (List ℕ) → Side → SimFault → Type 0
+RunEndsBy known order old new side (sim.Dump fault) = PartAnswered known order old new
+RunEndsBy known order old new side sim.Memory = PartAnswered known order old new
+RunEndsBy known order old new side fault = Refused known order old new (on side fault)
+
+-- nothing went out where a file could not be read, and the whole answer before the flush failed
 abbrev pub OrderEndsBy : KnownTexts → Order → Option (List ℕ) → Option (List ℕ) → ProgramFault → Type 0
-OrderEndsBy known order old new (Read name) = Keeps old new
-OrderEndsBy known order old new Flush = Answered known order old new
-OrderEndsBy known order old new (Run (Sim fault)) = ForAnswer known order (λ answer. EndsBy answer old new fault)
-OrderEndsBy known order old new (Run fault) = ⊥
+OrderEndsBy known order old new (program.Read name) = Keeps old new
+OrderEndsBy known order old new program.Flush = ForAnswer known order (λ answer. Appends old new answer.text)
+OrderEndsBy known order old new (program.Run (Sim fault)) = RunEndsBy known order old new First fault
+OrderEndsBy known order old new (program.Run fault) = ⊥
+OrderEndsBy known order old new (program.Second fault) = RunEndsBy known order old new Second fault
 
--- ---- the reading of the files
+-- ---- how the program with words ends, where they are some order
 
--- the text of a file as it is read: whole, or its first 16,777,217 bytes
-abbrev pub IsRead : Option (List ℕ) → List ℕ → Type 0
-IsRead known text = text ≡ take (longest_text + 1) (unwrap_or known text)
+abbrev pub AnsweredSome : KnownTexts → Option (List ℕ) → Option (List ℕ) → Type 0
+AnsweredSome known old new = (order : Order) × ForAnswer known order (λ answer. Appends old new answer.text)
 
--- the texts of the files of the options, each so
-pub record ReadsCircuit (known : KnownTexts) (circuit : CircuitOptions) (texts : CircuitTexts) : Type 0 where
-  pub bench : IsRead (known circuit.bench.now) texts.bench.items
-  pub delays : IsRead (text_named known circuit.delays) texts.delays.items
-  pub stimuli : IsRead (text_named known circuit.stimuli) texts.stimuli.items
+abbrev pub RefusedSome : KnownTexts → Option (List ℕ) → Option (List ℕ) → Type 0
+RefusedSome known old new = (order : Order) × ((fault : TwinFault) × Refused known order old new fault)
+
+abbrev pub PartAnsweredSome : KnownTexts → Option (List ℕ) → Option (List ℕ) → Type 0
+PartAnsweredSome known old new =
+    Keeps old new ⊎ ((order : Order) × ForAnswer known order (λ answer. AppendsPrefix old new answer.text))
 
 -- ---- words that are no order
 

@@ -7,10 +7,12 @@ use Rattle.design.specs.declared.fault.DelayFault.TheVariants as delay
 use Rattle.design.specs.declared.fault.StimulusFault.TheVariants as stimulus
 use Rattle.cmb_kernel.specs.declared.schedule_fault.ScheduleFault.{ScheduleFault}
 use Rattle.cmb_kernel.specs.declared.schedule_fault.ScheduleFault.TheVariants as schedule
+use Rattle.fanin_cone.specs.declared.fault.ConeFault.{ConeFault}
+use Rattle.fanin_cone.specs.declared.fault.ConeFault.TheVariants as cone
 use Rattle.vcd_dump.specs.declared.fault.DumpFault.{DumpFault}
 use Rattle.vcd_dump.specs.declared.fault.DumpFault.TheVariants as dump
 use Rattle.nullsim.specs.declared.fault.SimFault.{SimFault}
-use Rattle.nullsim.specs.declared.fault.SimFault.TheVariants.{Setting, Bench, Timing, Stimulus, Schedule, Dump, Memory}
+use Rattle.nullsim.specs.declared.fault.SimFault.TheVariants.{Setting, Bench, Timing, Stimulus, Schedule, UnknownNet, Dump, Memory}
 use Rattle.nullsim.specs.declared.sections.DeckTextFault.{DeckTextFault}
 use Rattle.nullsim.specs.declared.sections.DeckTextFault.TheVariants as text
 use Rattle.nullsim.specs.declared.deck_run.DeckFault.{DeckFault}
@@ -31,6 +33,10 @@ sim_of_build build.Memory = Memory
 abbrev pub sim_of_schedule : ScheduleFault → SimFault
 sim_of_schedule schedule.Memory = Memory
 sim_of_schedule fault = Schedule fault
+
+abbrev pub sim_of_cone : ConeFault → SimFault
+sim_of_cone (cone.UnknownNet at) = UnknownNet
+sim_of_cone cone.Memory = Memory
 
 abbrev pub sim_of_dump : DumpFault → SimFault
 sim_of_dump dump.Memory = Memory

@@ -1,4 +1,7 @@
+pub mod AnswerText
+pub mod Checked
 pub mod Command
+pub mod ConeText
 pub mod Deck
 pub mod DeckRun
 pub mod Ends
@@ -6,10 +9,12 @@ pub mod Events
 pub mod Faults
 pub mod Isolation
 pub mod Known
+pub mod Options
 pub mod Program
 pub mod Run
 pub mod Seen
 pub mod Shown
 pub mod Simulated
 pub mod Tell
+pub mod Twins
 pub mod Viewed

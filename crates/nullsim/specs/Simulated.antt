@@ -8,6 +8,7 @@ use Rattle.cmb_kernel.specs.declared.event.Event.{Event}
 use Rattle.cmb_kernel.specs.State.{Run, State, started, frontier_at, least_frontier, most_rounds}
 use Rattle.cmb_kernel.specs.Step.{steps, completed_within}
 use Rattle.nullsim.specs.declared.fault.SimFault.{SimFault}
+use Rattle.nullsim.specs.declared.preparation.Run as code
 use Rattle.nullsim.specs.declared.simulation.Report.{Report}
 use Rattle.nullsim.specs.declared.view.View.{View}
 use Rattle.nullsim.specs.Events.{events_of_picks}
@@ -19,6 +20,9 @@ pub record RunView : Type 0 where
   pub horizon : ℕ
   pub design : DesignView
   pub events : List Event
+
+abbrev pub seen_run : code.Run → RunView
+seen_run run = record { horizon = run.horizon; design = run.design; events = run.schedule }
 
 -- the run that settings, texts and picks make, or the first fault
 unfoldable pub run_of_source : SourceView → ℕ → Result RunView SimFault

@@ -2,7 +2,7 @@
 use Rattle.std.specs.Prelude.{ℕ, List, Option, IfSome, IsOkAnd}
 use Rattle.std.specs.Io.KnownBytes.{Appends, Keeps}
 use Rattle.nullsim.specs.declared.program_fault.ProgramFault.{ProgramFault}
-use Rattle.nullsim.specs.declared.program_fault.ProgramFault.TheVariants.{Read, Run, Flush}
+use Rattle.nullsim.specs.declared.program_fault.ProgramFault.TheVariants.{Read, Run, Second, Flush}
 use Rattle.nullsim.specs.DeckRun.{dump_of_deck}
 use Rattle.nullsim.specs.Ends.{DeckEndsBy}
 
@@ -15,3 +15,4 @@ abbrev pub TellEndsBy : Option (List ℕ) → Option (List ℕ) → Option (List
 TellEndsBy bytes old new (Read name) = Keeps old new
 TellEndsBy bytes old new Flush = Told bytes old new
 TellEndsBy bytes old new (Run fault) = IfSome bytes (λ deck. DeckEndsBy (dump_of_deck deck) old new fault)
+TellEndsBy bytes old new (Second fault) = ⊥

@@ -1,10 +1,11 @@
 ghost use Rattle.std.specs.Prelude.{◌≡◌};
 ghost use Rattle.nullsim.specs.declared.fault.SimFault.TheVariants as sim;
-ghost use Rattle.nullsim.specs.Faults.{sim_of_bench, sim_of_build, sim_of_dump, sim_of_schedule};
+ghost use Rattle.nullsim.specs.Faults.{sim_of_bench, sim_of_build, sim_of_cone, sim_of_dump, sim_of_schedule};
 
 use bench_text::BenchFault;
 use cmb_kernel::{KernelFault, ScheduleFault};
 use design::{BuildFault, DelayFault, OptionFault, StimulusFault};
+use fanin_cone::ConeFault;
 use std::alloc::AllocError;
 use thiserror::Error;
 use vcd_dump::DumpFault;
@@ -12,7 +13,7 @@ use vcd_dump::DumpFault;
 /// Why a run ended early.
 ///
 /// The first fault decides: the settings (default delay, period, horizon), the netlist, the delays,
-/// the stimuli, the schedule. A want of memory of any layer is [`Memory`](Self::Memory).
+/// the stimuli, the schedule, the names of nets. A want of memory of any layer is [`Memory`](Self::Memory).
 #[derive(Clone, Copy, Debug, PartialEq, Eq, Error)]
 pub enum SimFault {
     #[error("{0}")]
@@ -25,6 +26,9 @@ pub enum SimFault {
     Stimulus(StimulusFault),
     #[error("{0}")]
     Schedule(ScheduleFault),
+    /// No net has a name that was asked for.
+    #[error("UnknownNet")]
+    UnknownNet,
     /// The dump broke off.
     #[error("{0}")]
     Dump(DumpFault),
@@ -92,6 +96,17 @@ impl From<KernelFault> for SimFault {
 
     fn from(_fault: KernelFault) -> SimFault {
         SimFault::Memory
+    }
+}
+
+impl From<ConeFault> for SimFault {
+    ghost from_gives = { λ fault e. e ≡ sim_of_cone fault };
+
+    fn from(fault: ConeFault) -> SimFault {
+        match fault {
+            ConeFault::UnknownNet { .. } => SimFault::UnknownNet,
+            ConeFault::Memory => SimFault::Memory,
+        }
     }
 }
 

@@ -10,9 +10,6 @@ use std::alloc::{AllocError, Global};
 use std::io::Read;
 use thiserror::Error;
 
-#[cfg(test)]
-mod tests;
-
 /// Why a text could not be read.
 #[derive(Clone, Copy, Debug, PartialEq, Eq, Error)]
 pub enum ReadFault {

@@ -1,10 +1,13 @@
 //! Facts about the definitions alone.
-ghost use Rattle.std.specs.Prelude.{◌≡◌, ℕ, List, [], ◌∷◌, IsOkAnd, Ok};
+ghost use Rattle.std.specs.Prelude.{◌≡◌, ℕ, List, [], ◌∷◌, IsOkAnd, Some, Result, Ok};
 ghost use Rattle.design.specs.Equations.{value_of};
 ghost use Rattle.fanin_cone.specs.Agreement.{AgreesOn};
 ghost use Rattle.fanin_cone.specs.Cone.{InCone};
+ghost use Rattle.nullsim.specs.declared.order.Order.{Order};
 ghost use Rattle.nullsim.specs.declared.view.View.{View};
 ghost use Rattle.nullsim.specs.declared.simulation.Report.{Report};
+ghost use Rattle.nullsim.specs.declared.twin_run.TwinFault.{TwinFault};
+ghost use Rattle.nullsim.specs.Command.{Answer, IsAnswer};
 ghost use Rattle.nullsim.specs.Run.{SourceView, design_of_source, dump_of_source};
 ghost use Rattle.nullsim.specs.Isolation.{EndsShowing, IsShown};
 ghost use Rattle.nullsim.specs.Simulated.{RunView, run_of_source, simulated};
@@ -37,4 +40,10 @@ pub fn isolation()
         IsShown one a.design name m → IsShown other b.design name n →
         IsOkAnd (simulated first one) (EndsShowing one a name (value_of a.design.circuit m))
         × IsOkAnd (simulated second other) (EndsShowing other b name (value_of a.design.circuit m)) }
+{}
+
+/// Where the text of every file is known, an order has one answer at most.
+pub fn one_answer()
+    ensures { (texts : List ℕ → List ℕ) (order : Order) (a b : Result Answer TwinFault) →
+        IsAnswer (λ name. Some (texts name)) order a → IsAnswer (λ name. Some (texts name)) order b → a ≡ b }
 {}

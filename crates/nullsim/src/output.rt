@@ -1,8 +1,7 @@
 //! Texts that go out whole.
-ghost use Rattle.std.specs.Prelude.{◌≡◌, IfErr, OnErr, OnOk};
+ghost use Rattle.std.specs.Prelude.{◌≡◌, IfErr, OnOk};
 ghost use Rattle.std.specs.Io.KnownBytes.{Appends, Keeps};
-ghost use Rattle.vcd_dump.specs.Bytes.{AppendsPrefix};
-ghost use Rattle.nullsim.specs.Program.{status_of};
+ghost use Rattle.nullsim.specs.Program.{TextEndsBy};
 ghost use Rattle.nullsim.specs.declared.program_fault.ProgramFault.TheVariants.{Flush};
 
 use crate::fault::SimFault;
@@ -11,12 +10,14 @@ use std::io::Write;
 use vcd_dump::write_all_bytes;
 
 /// Writes a text and flushes once.
-pub(crate) fn write_text<W: Write>(out: &mut W, text: &str) -> Result<(), ProgramFault<'static>>
+///
+/// # Errors
+/// A failed write, when a first part of the text went out, or a failed flush, when all of it did.
+pub(crate) fn write_text<W: Write>(out: &mut W, text: &[u8]) -> Result<(), ProgramFault<'static>>
     ensures ok { OnOk result (Appends (W.contents out.old) (W.contents out.new) text.now) }
-    ensures err { OnErr result (AppendsPrefix (W.contents out.old) (W.contents out.new) text.now) }
-    ensures status { IfErr result (λ fault. status_of fault ≡ 3) }
+    ensures err { IfErr result (TextEndsBy (W.contents out.old) (W.contents out.new) text.now) }
 {
-    match write_all_bytes(out, text.as_bytes()) {
+    match write_all_bytes(out, text) {
         Ok(()) => flush(out),
         Err(fault) => Err(ProgramFault::from(SimFault::from(fault))),
     }

@@ -38,7 +38,7 @@ pub fn plain<W: Write>(
     ensures err { IfErr result (EndsBy (dump_of_source (seen_source source.now) view.now)
         (W.contents out.old) (W.contents out.new)) }
 {
-    let (design, horizon) = prepare(alloc, source, view)?;
+    let (design, horizon) = prepare(alloc, source, view.horizon)?;
     let nets = shown_nets(alloc, &design, view.show)?;
     let waves = shown_waves(alloc, &design, horizon, view.show, nets.as_slice())?;
     let (nets, waves) = (nets.as_slice(), waves.as_slice());

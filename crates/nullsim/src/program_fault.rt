@@ -2,14 +2,17 @@
 ghost use Rattle.std.specs.Prelude.{◌≡◌};
 ghost use Rattle.nullsim.specs.declared.program_fault.ProgramFault.TheVariants.{Run};
 ghost use Rattle.nullsim.specs.declared.deck_run.DeckFault.TheVariants.{Sim};
-ghost use Rattle.nullsim.specs.Program.{fault_of_read, place_of, status_of};
+ghost use Rattle.nullsim.specs.declared.fault.SimFault.TheVariants.{Memory};
+ghost use Rattle.nullsim.specs.Program.{fault_of_read, fault_of_twin, place_of, run_place, run_status, status_of};
 
 use crate::deck_run::DeckFault;
 use crate::fault::SimFault;
 use crate::input::ReadFault;
+use crate::twin_run::{Side, TwinFault};
 use bench_text::BenchFault;
 use cmb_kernel::ScheduleFault;
 use design::{DelayFault, StimulusFault};
+use std::alloc::AllocError;
 use std::fmt::InlineText;
 use std::io::Write;
 use thiserror::Error;
@@ -21,15 +24,27 @@ pub enum ProgramFault<'a> {
     /// The text of this name could not be read.
     #[error("Read")]
     Read(&'a str),
-    /// The run ended early. That of an order does so by [`DeckFault::Sim`] alone.
+    /// The run, or the first of two, ended early. That of an order does so by [`DeckFault::Sim`]
+    /// alone.
     #[error("{0}")]
     Run(DeckFault),
+    /// The second of two runs ended early.
+    #[error("{0}")]
+    Second(SimFault),
     /// The whole answer was written, and then the writer could not be flushed.
     #[error("Write")]
     Flush,
 }
 
 impl<'a> ProgramFault<'a> {
+    /// The side of the run that ended early.
+    pub(crate) fn side(&self) -> Side {
+        match self {
+            ProgramFault::Second(_) => Side::Second,
+            _ => Side::First,
+        }
+    }
+
     /// The fault of reading the text of this name.
     pub(crate) fn of_read(fault: ReadFault, name: &'a str) -> ProgramFault<'a>
         ensures { result ≡ fault_of_read name.entry fault }
@@ -38,6 +53,14 @@ impl<'a> ProgramFault<'a> {
             ReadFault::Read => ProgramFault::Read(name),
             ReadFault::Memory => ProgramFault::Run(DeckFault::Sim(SimFault::Memory)),
         }
+    }
+}
+
+impl From<AllocError> for ProgramFault<'_> {
+    ghost from_gives = { λ _ e. e ≡ Run (Sim Memory) };
+
+    fn from(_fault: AllocError) -> Self {
+        ProgramFault::Run(DeckFault::Sim(SimFault::Memory))
     }
 }
 
@@ -54,6 +77,17 @@ impl From<SimFault> for ProgramFault<'_> {
 
     fn from(fault: SimFault) -> Self {
         ProgramFault::Run(DeckFault::Sim(fault))
+    }
+}
+
+impl From<TwinFault> for ProgramFault<'_> {
+    ghost from_gives = { λ fault e. e ≡ fault_of_twin fault };
+
+    fn from(fault: TwinFault) -> Self {
+        match fault.side {
+            Side::First => ProgramFault::Run(DeckFault::Sim(fault.fault)),
+            Side::Second => ProgramFault::Second(fault.fault),
+        }
     }
 }
 
@@ -92,16 +126,26 @@ pub(crate) fn report<E: Write>(err: &mut E, fault: ProgramFault<'_>, names: Text
     status(fault)
 }
 
-/// The exit status of a fault: 1 where the input is refused, 3 where a read or a write failed, 4
-/// for want of memory.
+/// The exit status of a fault.
 fn status(fault: ProgramFault<'_>) -> u8
     ensures { result ≡ status_of fault.entry }
 {
     match fault {
         ProgramFault::Read(_) | ProgramFault::Flush => 3,
-        ProgramFault::Run(DeckFault::Sim(SimFault::Dump(_))) => 3,
-        ProgramFault::Run(DeckFault::Sim(SimFault::Memory)) => 4,
+        ProgramFault::Run(DeckFault::Sim(fault)) | ProgramFault::Second(fault) => run_status(fault),
         ProgramFault::Run(_) => 1,
+    }
+}
+
+/// The exit status of a run that ended early: 1 where the input is refused, 3 where a write failed,
+/// 4 for want of memory.
+fn run_status(fault: SimFault) -> u8
+    ensures { result ≡ run_status fault }
+{
+    match fault {
+        SimFault::Dump(_) => 3,
+        SimFault::Memory => 4,
+        _ => 1,
     }
 }
 
@@ -112,16 +156,25 @@ fn place<'a>(fault: ProgramFault<'a>, names: TextNames<'a>) -> &'a str
     match fault {
         ProgramFault::Read(name) => name,
         ProgramFault::Flush => "stdout",
-        ProgramFault::Run(DeckFault::Sim(fault)) => match fault {
-            SimFault::Setting(_) => "options",
-            SimFault::Bench(_) => names.bench,
-            SimFault::Timing(_) => names.delays,
-            SimFault::Stimulus(_) => names.stimuli,
-            SimFault::Schedule(_) => names.schedule,
-            SimFault::Dump(_) => "stdout",
-            SimFault::Memory => "memory",
-        },
+        ProgramFault::Run(DeckFault::Sim(fault)) | ProgramFault::Second(fault) => run_place(
+            fault, names,
+        ),
         ProgramFault::Run(_) => "deck",
+    }
+}
+
+/// The name of the text at which a run ended early, or what else is at fault.
+fn run_place<'a>(fault: SimFault, names: TextNames<'a>) -> &'a str
+    ensures { result.now ≡ run_place names.entry fault }
+{
+    match fault {
+        SimFault::Setting(_) => "options",
+        SimFault::Bench(_) | SimFault::UnknownNet => names.bench,
+        SimFault::Timing(_) => names.delays,
+        SimFault::Stimulus(_) => names.stimuli,
+        SimFault::Schedule(_) => names.schedule,
+        SimFault::Dump(_) => "stdout",
+        SimFault::Memory => "memory",
     }
 }
 
@@ -129,11 +182,18 @@ fn place<'a>(fault: ProgramFault<'a>, names: TextNames<'a>) -> &'a str
 fn line(fault: ProgramFault<'_>) -> u64 {
     match fault {
         ProgramFault::Run(DeckFault::BadDeck { line }) => line,
-        ProgramFault::Run(DeckFault::Sim(SimFault::Bench(fault))) => bench_line(fault),
-        ProgramFault::Run(DeckFault::Sim(SimFault::Timing(fault))) => delay_line(fault),
-        ProgramFault::Run(DeckFault::Sim(SimFault::Stimulus(fault))) => stimulus_line(fault),
-        ProgramFault::Run(DeckFault::Sim(SimFault::Schedule(fault))) => schedule_line(fault),
+        ProgramFault::Run(DeckFault::Sim(fault)) | ProgramFault::Second(fault) => run_line(fault),
         _ => 0,
+    }
+}
+
+fn run_line(fault: SimFault) -> u64 {
+    match fault {
+        SimFault::Bench(fault) => bench_line(fault),
+        SimFault::Timing(fault) => delay_line(fault),
+        SimFault::Stimulus(fault) => stimulus_line(fault),
+        SimFault::Schedule(fault) => schedule_line(fault),
+        SimFault::Setting(_) | SimFault::UnknownNet | SimFault::Dump(_) | SimFault::Memory => 0,
     }
 }
 

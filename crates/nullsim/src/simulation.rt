@@ -1,5 +1,5 @@
 //! A run by the kernel.
-ghost use Rattle.std.specs.Prelude.{◌≡◌, ◌≢◌, ◌<◌, ◌≤◌, ◌+◌, false, [], map, length, All, Some, IfOk, IfErr, IfSome, OnOk, IsOkAnd};
+ghost use Rattle.std.specs.Prelude.{◌≡◌, ◌<◌, ◌≤◌, ◌+◌, false, [], map, length, All, Some, IfOk, IfErr, IfSome, OnOk, IsOkAnd};
 ghost use Rattle.std.specs.Io.KnownBytes.{Appends};
 ghost use Rattle.logic3.specs.Wave.{wave_of};
 ghost use Rattle.design.specs.Equations.{value_of};
@@ -9,18 +9,16 @@ ghost use Rattle.cmb_kernel.specs.Schedule.{most_events};
 ghost use Rattle.cmb_kernel.specs.Sound.{Exists};
 ghost use Rattle.nullsim.specs.Run.{seen_source};
 ghost use Rattle.nullsim.specs.Ends.{EndsBy};
-ghost use Rattle.nullsim.specs.Events.{events_of_picks, seen_picks};
-ghost use Rattle.nullsim.specs.Simulated.{IsKnown, dump_in, reported, run_of_source, simulated};
+ghost use Rattle.nullsim.specs.Simulated.{IsKnown, dump_in, report_of, reported, run_of_source, seen_run, simulated};
 ghost use Rattle.nullsim.specs.Viewed.{ShowsValues};
 
 use crate::dumping::{shown_nets, write_dump};
 use crate::fault::SimFault;
-use crate::preparation::prepare;
-use crate::source::{Picks, Source};
+use crate::preparation::{Run, prepare_run};
+use crate::source::Source;
 use crate::view::View;
 use cmb_channels::Queues;
-use cmb_kernel::{Counts, Event, Kernel, KernelFault, Schedule, ScheduleFault};
-use design::Design;
+use cmb_kernel::{Counts, Event, Kernel, KernelFault};
 use logic3::Waveform;
 use std::alloc::{AllocError, Global};
 use std::io::Write;
@@ -62,28 +60,32 @@ pub fn simulate<W: Write>(
     ensures err { IfErr result (EndsBy (dump_in (simulated (seen_source source.now) view.now))
         (W.contents out.old) (W.contents out.new)) }
 {
-    let (design, horizon) = prepare(alloc, source, view)?;
-    let schedule = picked(alloc, source.picks, &design)?;
-    let mut kernel = Kernel::<Queues>::new(alloc, &design, horizon)?;
-    let report = run_to_end(&mut kernel, schedule.events())?;
-    let nets = shown_nets(alloc, &design, view.show)?;
+    let run = prepare_run(alloc, source, view.horizon)?;
+    let (kernel, report) = complete(alloc, &run)?;
+    let nets = shown_nets(alloc, &run.design, view.show)?;
     let waves = known_waves(alloc, &kernel, nets.as_slice())?;
     let (nets, waves) = (nets.as_slice(), waves.as_slice());
-    write_dump(alloc, &design, horizon, view, nets, waves, out)?;
+    write_dump(alloc, &run.design, run.horizon, view, nets, waves, out)?;
     Ok(report)
 }
 
-/// The events that are picked.
-fn picked(alloc: Global, picks: Picks<'_>, design: &Design) -> Result<Schedule, ScheduleFault>
-    ensures exact { result ≢ Err ScheduleFault.Memory → result ≡ events_of_picks design.now.circuit (seen_picks picks.entry) }
-    ensures exist { IfOk result (λ schedule. All (Exists design.now.circuit) schedule) }
-    ensures few { IfOk result (λ schedule. length schedule ≤ most_events) }
+/// A run's kernel at the end, where it knows each net up to the horizon, and the run's report.
+pub(crate) fn complete<'r>(
+    alloc: Global,
+    run: &'r Run,
+) -> Result<(Kernel<'r, Queues>, Report), SimFault>
+    requires exist { All (Exists run.now.design.circuit) run.now.schedule }
+    requires few { length run.now.schedule ≤ most_events }
+    ensures running { IfOk result (λ done. (done.0).failed ≡ false) }
+    ensures circuit { IfOk result (λ done. (done.0).circuit ≡ run.now.design.circuit) }
+    ensures end { IfOk result (λ done. (done.0).end ≡ run.now.horizon + 1) }
+    ensures known { IfOk result (λ done. IsKnown done.0) }
+    ensures report { IfOk result (λ done. done.1 ≡ report_of (seen_run run.now)) }
+    ensures err { IfErr result (λ fault. fault ≡ SimFault.Memory) }
 {
-    match picks {
-        Picks::Nothing => Schedule::read(alloc, b"", design),
-        Picks::Text(text) => Schedule::read(alloc, text, design),
-        Picks::Seeded { seed, picks } => Schedule::seeded(alloc, seed, picks, design),
-    }
+    let mut kernel = Kernel::<Queues>::new(alloc, &run.design, run.horizon)?;
+    let report = run_to_end(&mut kernel, run.schedule.events())?;
+    Ok((kernel, report))
 }
 
 /// Applies the events, and then completes the run.

@@ -12,9 +12,6 @@ use crate::program_fault::{ProgramFault, SECTIONS, report};
 use std::alloc::Global;
 use std::io::{Read, Write};
 
-#[cfg(test)]
-mod tests;
-
 /// Reads a deck, writes the dump of its run and flushes once; answers the exit status.
 ///
 /// 0 says that this is done, 1 that the deck is refused, 3 that a read or a write failed, and 4 that

@@ -1,5 +1,5 @@
 use Rattle.nullsim.specs.Events.{events_of_picks}
-use Rattle.nullsim.proofs.simulation.picked.Goals as goal
+use Rattle.nullsim.proofs.preparation.picked.Goals as goal
 
 pub returns-in-Nothing-clause-exact : goal.returns-in-Nothing-clause-exact
 unfolding events_of_picks

@@ -1,8 +1,8 @@
 use Rattle.std.proofs.Common.{◌≡◌, ◌+◌, ◌≤◌, ℕ, List, length, take, Option, Some, None, IfSome, Bor, sym, subst}
 use Rattle.std.proofs.lemmas.List.{take_all}
 use Rattle.bench_text.specs.Text.{longest_text}
-use Rattle.nullsim.specs.Command.{IsRead, KnownTexts, text_named}
-use Rattle.nullsim.proofs.order_run.text_of.Goals as goal
+use Rattle.nullsim.specs.Options.{IsRead, KnownTexts, text_named}
+use Rattle.nullsim.proofs.source_texts.text_of.Goals as goal
 
 IsRead-bound : (known : Option (List ℕ)) (text : List ℕ) → IfSome known (λ all. text ≡ take (longest_text + 1) all) → length text ≤ longest_text + 1 →
     IsRead known text
