@@ -1,22 +1,30 @@
-//! Command lines through `command`: dumps byte for byte, exit statuses, fault lines, help.
+//! Command lines through `command`: `plain`, and what all tests of command lines share.
 ghost use Rattle.std.specs.Prelude.{◌≡◌, option_map};
 ghost use Rattle.nullsim_tests.specs.Shelf.{text_under};
 
+use crate::files::{FILES, Named};
 use crate::telling::{INVERTER_DUMP, Narrow};
 use nullsim::{ReadFault, Texts, command};
 use std::alloc::{AllocError, Global};
 use std::process::Abort;
 use std::test::Fail;
 
-/// A text with its name.
-type Named = (&'static str, &'static [u8]);
-
 /// Texts by name, and how often one was asked for.
 #[derive(Drop)]
-struct Shelf {
+pub(crate) struct Shelf {
     alloc: Global,
     texts: &'static [Named],
     asked: u32,
+}
+
+impl Shelf {
+    pub(crate) fn new(alloc: Global) -> Shelf {
+        Shelf {
+            alloc,
+            texts: FILES.as_slice(),
+            asked: 0,
+        }
+    }
 }
 
 /// The most bytes that are handed out of a text.
@@ -42,22 +50,7 @@ fn text_under(shelf: &[Named], name: &str) -> Option<&'static [u8]>
     Some(named.1)
 }
 
-static SHELF: [(&str, &[u8]); 9] = [
-    ("inv.bench", b"INPUT(a)\nOUTPUT(y)\ny = NOT(a)\n"),
-    ("inv.stim", b"0 a 0\n3 a 1\n"),
-    ("slow.delays", b"y 9\n"),
-    ("flop.bench", b"INPUT(d)\nq = DFF(d)\n"),
-    ("flop.stim", b"4 d 1\n5 d 0\n"),
-    ("bad.bench", b"INPUT(a)\nx y\n"),
-    ("bad.delays", b"# none\nzz 2\n"),
-    ("bad.stim", b"3 y 1\n"),
-    (
-        "a/folder/whose/name/is/long/in/a/folder/whose/name/is/long/and/then/a/file/whose/name/is/long.bench",
-        b"y = NOT(z)\n",
-    ),
-];
-
-fn words_of(alloc: Global, line: &str) -> Result<Vec<String>, AllocError> {
+pub(crate) fn words_of(alloc: Global, line: &str) -> Result<Vec<String>, AllocError> {
     let mut words = Vec::new(alloc);
     for word in line.split_whitespace() {
         words.push(word.to_string(alloc)?)?;
@@ -67,20 +60,16 @@ fn words_of(alloc: Global, line: &str) -> Result<Vec<String>, AllocError> {
 
 // The exit status, the bytes on the two streams, and how many texts were asked for.
 #[derive(Drop)]
-struct Answer {
-    status: u8,
-    out: Vec<u8>,
-    err: Vec<u8>,
-    asked: u32,
+pub(crate) struct Answer {
+    pub(crate) status: u8,
+    pub(crate) out: Vec<u8>,
+    pub(crate) err: Vec<u8>,
+    pub(crate) asked: u32,
 }
 
-fn answer_to(alloc: Global, line: &str) -> Result<Answer, AllocError> {
+pub(crate) fn answer_to(alloc: Global, line: &str) -> Result<Answer, AllocError> {
     let words = words_of(alloc, line)?;
-    let mut shelf = Shelf {
-        alloc,
-        texts: SHELF.as_slice(),
-        asked: 0,
-    };
+    let mut shelf = Shelf::new(alloc);
     let (mut out, mut err) = (Vec::new(alloc), Vec::new(alloc));
     let status = command(alloc, words.as_slice(), &mut shelf, &mut out, &mut err);
     Ok(Answer {
@@ -91,7 +80,95 @@ fn answer_to(alloc: Global, line: &str) -> Result<Answer, AllocError> {
     })
 }
 
-const AT_OUTPUTS: &[u8] =
+// The line is carried out: this goes out, and these lines to standard error.
+pub(crate) fn tells(
+    rt: &impl Abort,
+    alloc: Global,
+    line: &str,
+    text: &[u8],
+    told: &str,
+) -> Result<(), Fail> {
+    let answer = answer_to(alloc, line)?;
+    assert_eq!(rt; answer.status, 0, "at {line}");
+    assert!(rt; answer.out.as_slice() == text, "at {line}");
+    assert!(rt; answer.err.as_slice() == told.as_bytes(), "at {line}");
+    Ok(())
+}
+
+// The line is refused with this status and this fault line, after so many texts were asked for.
+pub(crate) fn refuses(
+    rt: &impl Abort,
+    alloc: Global,
+    line: &str,
+    status: u8,
+    fault: &str,
+    asked: u32,
+) -> Result<(), Fail> {
+    let answer = answer_to(alloc, line)?;
+    assert_eq!(rt; answer.status, status, "at {line}");
+    assert!(rt; answer.err.as_slice() == fault.as_bytes(), "at {line}");
+    assert!(rt; answer.out.is_empty(), "at {line}");
+    assert_eq!(rt; answer.asked, asked, "at {line}");
+    Ok(())
+}
+
+// The words are wrong: nothing goes out, standard error says why, and no text is asked for.
+pub(crate) fn misuses(rt: &impl Abort, alloc: Global, line: &str) -> Result<(), Fail> {
+    let answer = answer_to(alloc, line)?;
+    assert_eq!(rt; answer.status, 2, "at {line}");
+    assert!(rt; answer.out.is_empty(), "at {line}");
+    assert!(rt; !answer.err.is_empty(), "at {line}");
+    assert_eq!(rt; answer.asked, 0, "at {line}");
+    Ok(())
+}
+
+// The line is carried out on a writer that takes a few bytes a call, which is flushed once.
+pub(crate) fn goes_out(
+    rt: &impl Abort,
+    alloc: Global,
+    line: &str,
+    text: &[u8],
+) -> Result<(), Fail> {
+    let words = words_of(alloc, line)?;
+    let mut shelf = Shelf::new(alloc);
+    let mut out = Narrow::new(alloc, text.len(), 7);
+    let mut err = Narrow::new(alloc, 0, 7);
+    let status = command(alloc, words.as_slice(), &mut shelf, &mut out, &mut err);
+    assert_eq!(rt; status, 0, "at {line}");
+    assert!(rt; out.taken.as_slice() == text, "at {line}");
+    assert_eq!(rt; out.flushes, 1, "at {line}");
+    Ok(())
+}
+
+// The writer fails after so many bytes, and after the whole text at the flush: status 3.
+pub(crate) fn breaks_off(
+    rt: &impl Abort,
+    alloc: Global,
+    line: &str,
+    text: &[u8],
+    room: usize,
+) -> Result<(), Fail> {
+    let words = words_of(alloc, line)?;
+    let mut shelf = Shelf::new(alloc);
+    let mut out = Narrow::new(alloc, room, 7);
+    out.flush_fails = true;
+    let mut err = Narrow::new(alloc, 99, 1);
+    let status = command(alloc, words.as_slice(), &mut shelf, &mut out, &mut err);
+    assert_eq!(rt; status, 3, "at {room} of {line}");
+    assert!(rt;
+        err.taken.as_slice() == b"stdout:0: Write\n".as_slice(),
+        "at {room} of {line}"
+    );
+    assert_eq!(rt; out.taken.len(), room, "at {line}");
+    assert!(rt;
+        text.starts_with(out.taken.as_slice()),
+        "at {room} of {line}"
+    );
+    assert_eq!(rt; out.flushes, u32::from(room == text.len()), "at {line}");
+    Ok(())
+}
+
+pub(crate) const AT_OUTPUTS: &[u8] =
     b"$version nullsim 1 $end\n$timescale 1 ps $end\n$scope module top $end\n$var wire 1 ! y $end\n$upscope $end\n$enddefinitions $end\n#0\n$dumpvars\nx!\n$end\n#1\n1!\n#4\n0!\n#5\n";
 
 const SLOW: &[u8] =
@@ -151,71 +228,6 @@ fn units(rt: HostRuntime) -> Result<(), Fail> {
         dump.extend_from_slice(&INVERTER_DUMP[39..])?;
         let answer = answer_to(rt.alloc(), line.as_str())?;
         assert!(rt; answer.out.as_slice() == dump.as_slice(), "in {unit}");
-    }
-    Ok(())
-}
-
-#[test]
-fn wrong_words(rt: HostRuntime) -> Result<(), Fail> {
-    for line in [
-        "",
-        "run",
-        "plain",
-        "plain --horizon 5",
-        "plain --bench inv.bench",
-        "plain --bench inv.bench --horizon x",
-        "plain --bench inv.bench --horizon -1",
-        "plain --bench inv.bench --horizon 18446744073709551616",
-        "plain --bench inv.bench --horizon",
-        "plain --bench inv.bench --horizon 5 --delay 1.5",
-        "plain --bench inv.bench --horizon 5 --show some",
-        "plain --bench inv.bench --horizon 5 --unit NS",
-        "plain --bench inv.bench --horizon 5 --horizon 6",
-        "plain --bench inv.bench --horizon 5 --seed 1",
-        "plain --bench inv.bench --horizon 5 inv.stim",
-        "plain --bench inv.bench --horizon 5 -hx",
-    ] {
-        let answer = answer_to(rt.alloc(), line)?;
-        assert_eq!(rt; answer.status, 2, "at {line}");
-        assert!(rt;
-            answer.out.is_empty() && !answer.err.is_empty(),
-            "at {line}"
-        );
-        assert_eq!(rt; answer.asked, 0, "at {line}");
-    }
-    Ok(())
-}
-
-fn contains(text: &[u8], part: &str) -> bool {
-    let part = part.as_bytes();
-    !part.is_empty() && text.windows(part.len()).any(|window| window == part)
-}
-
-#[test]
-fn help(rt: HostRuntime) -> Result<(), Fail> {
-    for (line, part) in [
-        ("--help", "\nUsage: nullsim <COMMAND> [OPTIONS]\n"),
-        ("-h", "  plain  Simulates a circuit tick by tick"),
-        ("help", "\nExit status: 0 done"),
-        (
-            "plain --help",
-            "\nUsage: nullsim plain --bench <FILE> --horizon <N> [OPTIONS]\n",
-        ),
-        (
-            "plain -h",
-            "  --period <N>      The period of all flip-flops",
-        ),
-        ("help plain", "1 to 10000000 ticks [default: 10]\n"),
-        (
-            "plain --bench inv.bench --horizon 5 --help",
-            "  --stimuli <FILE>  What drives the inputs",
-        ),
-    ] {
-        let answer = answer_to(rt.alloc(), line)?;
-        assert_eq!(rt; answer.status, 0, "at {line}");
-        assert!(rt; contains(answer.out.as_slice(), part), "at {line}");
-        assert!(rt; answer.err.is_empty());
-        assert_eq!(rt; answer.asked, 0, "at {line}");
     }
     Ok(())
 }
@@ -309,11 +321,7 @@ fn faulty_writers(rt: HostRuntime) -> Result<(), Fail> {
         ("--halp", 0, false, 6, 2, "error:"),
     ] {
         let words = words_of(rt.alloc(), line)?;
-        let mut shelf = Shelf {
-            alloc: rt.alloc(),
-            texts: SHELF.as_slice(),
-            asked: 0,
-        };
+        let mut shelf = Shelf::new(rt.alloc());
         let mut out = Narrow::new(rt.alloc(), room, 7);
         out.flush_fails = flush_fails;
         let mut err = Narrow::new(rt.alloc(), err_room, 7);

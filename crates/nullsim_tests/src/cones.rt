@@ -1,4 +1,5 @@
 //! Cones, agreement and extraction on worked circuits.
+use crate::files::S27;
 use bench_text::{Netlist, read, write};
 use design::{Design, Horizon};
 use fanin_cone::{ConeFault, agree, cone, extract};
@@ -130,12 +131,6 @@ fn cone_of_y(rt: HostRuntime) -> Result<(), Fail> {
         &[(b"y", &[0, 1]), (b"z", &[0, 2, 3])],
     )
 }
-
-const S27: &[u8] = b"INPUT(G0)\nINPUT(G1)\nINPUT(G2)\nINPUT(G3)\nOUTPUT(G17)\n\
-      G5 = DFF(G10)\nG6 = DFF(G11)\nG7 = DFF(G13)\n\
-      G14 = NOT(G0)\nG17 = NOT(G11)\nG8 = AND(G14, G6)\n\
-      G15 = OR(G12, G8)\nG16 = OR(G3, G8)\nG9 = NAND(G16, G15)\n\
-      G10 = NOR(G14, G11)\nG11 = NOR(G5, G9)\nG12 = NOR(G1, G7)\nG13 = NOR(G2, G12)\n";
 
 // The cone of G12 goes through the flip-flop G7, and round its loop with G13.
 #[test]

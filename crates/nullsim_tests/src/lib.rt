@@ -4,9 +4,19 @@
 #[cfg(test)]
 mod channels;
 #[cfg(test)]
+mod checking;
+#[cfg(test)]
 mod commanding;
 #[cfg(test)]
+mod comparing;
+#[cfg(test)]
 mod cones;
+#[cfg(test)]
+mod files;
+#[cfg(test)]
+mod helping;
+#[cfg(test)]
+mod inputs;
 #[cfg(test)]
 mod kernels;
 #[cfg(test)]
@@ -15,6 +25,10 @@ mod plain_engine;
 mod processes;
 #[cfg(test)]
 mod reading;
+#[cfg(test)]
+mod refusals;
+#[cfg(test)]
+mod running;
 #[cfg(test)]
 mod schedules;
 #[cfg(test)]
@@ -25,3 +39,5 @@ mod telling;
 mod texts;
 #[cfg(test)]
 mod timing;
+#[cfg(test)]
+mod twins;

@@ -25,7 +25,7 @@ const EDGE: Source<'static> = Source {
     ..INVERTER
 };
 
-const EDGE_DUMP: &[u8] =
+pub(crate) const EDGE_DUMP: &[u8] =
     b"$version nullsim 1 $end\n$timescale 1 ns $end\n$scope module top $end\n$var wire 1 ! a $end\n$var wire 1 \" b $end\n$var wire 1 # y $end\n$upscope $end\n$enddefinitions $end\n#0\n$dumpvars\n0!\nx\"\nx#\n$end\n#1\n0\"\n#2\n0#\n#5\n1!\n#6\n1\"\n1#\n#7\n0#\n#8\n";
 
 fn counts(events: u64, changes: u64, nulls: u64, rounds: u64) -> Counts {

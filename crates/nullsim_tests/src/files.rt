@@ -1,0 +1,89 @@
+//! The texts that the command lines of the tests name.
+
+/// A text with its name.
+pub(crate) type Named = (&'static str, &'static [u8]);
+
+pub(crate) static FILES: [Named; 41] = [
+    ("inv.bench", b"INPUT(a)\nOUTPUT(y)\ny = NOT(a)\n"),
+    ("inv.stim", b"0 a 0\n3 a 1\n"),
+    ("slow.delays", b"y 9\n"),
+    ("flop.bench", b"INPUT(d)\nq = DFF(d)\n"),
+    ("flop.stim", b"4 d 1\n5 d 0\n"),
+    ("bad.bench", b"INPUT(a)\nx y\n"),
+    ("bad.delays", b"# none\nzz 2\n"),
+    ("bad.stim", b"3 y 1\n"),
+    (
+        "a/folder/whose/name/is/long/in/a/folder/whose/name/is/long/and/then/a/file/whose/name/is/long.bench",
+        b"y = NOT(z)\n",
+    ),
+    // A buffer and a gate that compares its two sides, and what may happen there first.
+    ("edge.bench", b"INPUT(a)\nb = BUFF(a)\ny = XOR(a, b)\n"),
+    ("edge.stim", b"0 a 0\n5 a 1\n"),
+    ("none.sched", b"# nothing\n"),
+    (
+        "fifty.sched",
+        b"advance y\nadvance y\nadvance y\nadvance y\nadvance y\n\
+          advance y\nadvance y\nadvance y\nadvance y\nadvance y\n\
+          advance y\nadvance y\nadvance y\nadvance y\nadvance y\n\
+          advance y\nadvance y\nadvance y\nadvance y\nadvance y\n\
+          advance y\nadvance y\nadvance y\nadvance y\nadvance y\n\
+          advance y\nadvance y\nadvance y\nadvance y\nadvance y\n\
+          advance y\nadvance y\nadvance y\nadvance y\nadvance y\n\
+          advance y\nadvance y\nadvance y\nadvance y\nadvance y\n\
+          advance y\nadvance y\nadvance y\nadvance y\nadvance y\n\
+          advance y\nadvance y\nadvance y\nadvance y\nadvance y\n",
+    ),
+    (
+        "deliveries.sched",
+        b"deliver b 0\ndeliver y 0\ndeliver y 1\n",
+    ),
+    ("ahead.sched", b"advance a\ndeliver b 0\nadvance b\n"),
+    // The events that the seed 7 picks first, as the test of seeded picks has them.
+    (
+        "seven.sched",
+        b"advance y\ndeliver y 1\ndeliver y 0\ndeliver b 0\n\
+          deliver b 0\nadvance a\ndeliver y 1\nadvance b\n",
+    ),
+    ("pin.sched", b"deliver y 1\n"),
+    ("line.sched", b"Advance y\n"),
+    ("net.sched", b"advance zz\n"),
+    ("late.sched", b"# fine\nadvance y\n\ndeliver a 0\nAdvance\n"),
+    // Two circuits with the same net y, in other places and beside other nets.
+    (
+        "one.bench",
+        b"INPUT(a)\nOUTPUT(y)\ny = NOT(a)\nINPUT(b)\nz = AND(a, b)\n",
+    ),
+    (
+        "other.bench",
+        b"INPUT(c)\nk = BUF(c)\nm = NOT(k)\nz = XOR(a, b)\nINPUT(b)\nINPUT(a)\ny = NOT(a)\n",
+    ),
+    ("both.stim", b"0 a 0\n3 a 1\n0 b 1\n"),
+    ("more.stim", b"0 a 0\n3 a 1\n0 b 1\n6 a 0\n"),
+    ("unknown.stim", b"0 a 0\n3 a x\n"),
+    ("capital.stim", b"0 a 0\n3 a X\n0 b 0\n"),
+    ("unit.delays", b"y 1 # as without this line\n"),
+    ("beside.delays", b"z 7\nm 3\n"),
+    ("ahead-of-y.sched", b"advance a\ndeliver y 0\nadvance y\n"),
+    ("beside-y.sched", b"advance z\nadvance k\n"),
+    // What is wrong with a first run, and with a second one.
+    ("first-bad.bench", b"INPUT(a)\nx y\n"),
+    ("first-bad.delays", b"zz 2\n"),
+    ("first-bad.stim", b"3 y 1\n"),
+    ("first-bad.sched", b"deliver y 1\n"),
+    ("second-bad.bench", b"y = NOT(z)\n"),
+    ("second-bad.delays", b"# none\na 2\n"),
+    ("second-bad.stim", b"\n0 a z\n"),
+    ("second-bad.sched", b"\n\nAdvance y\n"),
+    ("s27.bench", S27),
+    (
+        "s27.stim",
+        b"0 G0 1\n0 G1 1\n0 G2 0\n0 G3 0\n12 G0 0\n12 G2 1\n22 G1 0\n22 G3 1\n",
+    ),
+    ("dash.bench", b"INPUT(-a)\n-y = NOT(-a)\n"),
+];
+
+pub(crate) const S27: &[u8] = b"INPUT(G0)\nINPUT(G1)\nINPUT(G2)\nINPUT(G3)\nOUTPUT(G17)\n\
+      G5 = DFF(G10)\nG6 = DFF(G11)\nG7 = DFF(G13)\n\
+      G14 = NOT(G0)\nG17 = NOT(G11)\nG8 = AND(G14, G6)\n\
+      G15 = OR(G12, G8)\nG16 = OR(G3, G8)\nG9 = NAND(G16, G15)\n\
+      G10 = NOR(G14, G11)\nG11 = NOR(G5, G9)\nG12 = NOR(G1, G7)\nG13 = NOR(G2, G12)\n";

@@ -1,0 +1,128 @@
+//! Readers through `read_text` and `tell`: those that fail, that don't end, that give few bytes a call.
+use nullsim::{ReadFault, read_text, tell};
+use std::io::{self, ErrorKind, Read, Write};
+use std::test::Fail;
+
+// The most bytes that are read: one more than a text may have.
+const MOST_READ: usize = 16_777_217;
+
+/// Gives `z`s, at most so many a call: so many and then a fault, or for ever.
+#[derive(Drop)]
+struct Source {
+    left: Option<usize>,
+    a_call: usize,
+}
+
+impl Read for Source {
+    fn read(&mut self, buf: &mut [u8]) -> io::Result<usize> {
+        let mut count = buf.len().min(self.a_call);
+        if let Some(left) = self.left {
+            if left == 0 {
+                return Err(io::Error::from(ErrorKind::Interrupted));
+            }
+            count = count.min(left);
+            self.left = Some(left - count);
+        }
+        for byte in &mut buf[..count] {
+            *byte = b'z';
+        }
+        Ok(count)
+    }
+}
+
+/// Gives one byte of a text a call.
+#[derive(Drop)]
+struct Drops<'a> {
+    text: &'a [u8],
+}
+
+impl<'a> Read for Drops<'a> {
+    fn read(&mut self, buf: &mut [u8]) -> io::Result<usize> {
+        match (self.text.split_first(), buf.first_mut()) {
+            (Some((byte, rest)), Some(place)) => {
+                *place = *byte;
+                self.text = rest;
+                Ok(1)
+            }
+            _ => Ok(0),
+        }
+    }
+}
+
+#[test]
+fn a_fault_ends_the_reading(rt: HostRuntime) {
+    let mut input = Source {
+        left: Some(10),
+        a_call: 4,
+    };
+    let answer = read_text(rt.alloc(), &mut input);
+    assert!(rt; matches!(&answer, Err(ReadFault::Read)));
+    assert_eq!(rt; input.left, Some(0));
+}
+
+#[test]
+fn an_endless_reader_is_left_at_the_limit(rt: HostRuntime) -> Result<(), Fail> {
+    let mut input = Source {
+        left: None,
+        a_call: 5000,
+    };
+    let text = read_text(rt.alloc(), &mut input).map_err(|_| "a fault")?;
+    assert_eq!(rt; text.len(), MOST_READ);
+    Ok(())
+}
+
+#[test]
+fn a_byte_a_call_makes_the_whole_text(rt: HostRuntime) -> Result<(), Fail> {
+    let mut input = Drops {
+        text: b"a few bytes".as_slice(),
+    };
+    let text = read_text(rt.alloc(), &mut input).map_err(|_| "a fault")?;
+    assert!(rt; text.as_slice() == b"a few bytes".as_slice());
+    assert!(rt; input.text.is_empty());
+    Ok(())
+}
+
+#[test]
+fn long_pieces_make_the_whole_text(rt: HostRuntime) -> Result<(), Fail> {
+    let mut all = Vec::new(rt.alloc());
+    for number in 0..9000u16 {
+        all.push((number % 251) as u8)?;
+    }
+    let mut input = all.as_slice();
+    let text = read_text(rt.alloc(), &mut input).map_err(|_| "a fault")?;
+    assert!(rt; text.as_slice() == all.as_slice());
+    Ok(())
+}
+
+/// Fails at every call.
+#[derive(Clone, Copy)]
+struct Broken {
+    kind: ErrorKind,
+}
+
+impl Read for Broken {
+    fn read(&mut self, _buf: &mut [u8]) -> io::Result<usize> {
+        Err(io::Error::from(self.kind))
+    }
+}
+
+impl Write for Broken {
+    fn write(&mut self, _buf: &[u8]) -> io::Result<usize> {
+        Err(io::Error::from(self.kind))
+    }
+
+    fn flush(&mut self) -> io::Result<()> {
+        Err(io::Error::from(self.kind))
+    }
+}
+
+#[test]
+fn a_failed_reader_and_a_failed_writer_of_faults(rt: HostRuntime) {
+    for kind in [ErrorKind::Other, ErrorKind::Interrupted] {
+        let broken = Broken { kind };
+        let (mut input, mut err) = (broken, broken);
+        let mut out = Vec::new(rt.alloc());
+        assert_eq!(rt; tell(rt.alloc(), &mut input, &mut out, &mut err), 3);
+        assert!(rt; out.is_empty());
+    }
+}

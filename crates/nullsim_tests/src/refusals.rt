@@ -1,0 +1,137 @@
+//! Each fault of a deck through `tell`: the place and the line that it names, and the exit status.
+use crate::telling::Narrow;
+use nullsim::tell;
+use std::alloc::Global;
+use std::process::Abort;
+use std::test::Fail;
+
+// The deck is refused: this line goes to standard error, a byte a call, and nothing goes out.
+fn refuses(rt: &impl Abort, alloc: Global, deck: &str, fault: &str) {
+    let mut input = deck.as_bytes();
+    let mut out = Narrow::new(alloc, 99, 7);
+    let mut err = Narrow::new(alloc, 99, 1);
+    assert_eq!(rt; tell(alloc, &mut input, &mut out, &mut err), 1);
+    assert!(rt; err.taken.as_slice() == fault.as_bytes(), "not {fault}");
+    assert!(rt; out.taken.is_empty(), "at {fault}");
+    assert_eq!(rt; out.flushes, 0, "at {fault}");
+}
+
+#[test]
+fn decks(rt: HostRuntime) {
+    for (deck, fault) in [
+        ("", "deck:1: BadDeck\n"),
+        ("\n%nullsim 5\n", "deck:1: BadDeck\n"),
+        ("%nullsim x\n%bench\n", "deck:1: BadDeck\n"),
+        ("%nullsim 5\n\nx\n%bench\n", "deck:3: BadDeck\n"),
+        (
+            "%nullsim 5\n%bench\n%stimuli\n%bench\n",
+            "deck:4: BadDeck\n",
+        ),
+        (
+            "%nullsim 10000001\n%bench\nx y\n",
+            "options:0: BadHorizon\n",
+        ),
+    ] {
+        refuses(&rt, rt.alloc(), deck, fault);
+    }
+}
+
+#[test]
+fn netlists(rt: HostRuntime) -> Result<(), Fail> {
+    for (bench, fault) in [
+        ("", "bench:0: NoNets\n"),
+        ("INPUT(a)\nINPUT(b\x0B)\n", "bench:2: BadByte\n"),
+        ("\n\nINPUT(a) b\n", "bench:3: BadLine\n"),
+        ("INPUT(a)\ny = MUX(a)\n", "bench:2: UnknownGate\n"),
+        ("INPUT(a)\n\n\ny = NOT(a, a)\n", "bench:4: BadArity\n"),
+        (
+            "INPUT(a)\nb = NOT(a)\na = NOT(b)\n",
+            "bench:3: DefinedTwice\n",
+        ),
+        ("INPUT(a)\ny = NOT(a)\nOUTPUT(z)\n", "bench:3: Undefined\n"),
+        (
+            "INPUT(a)\nOUTPUT(a)\nINPUT(\
+             nnnnnnnnnnnnnnnnnnnnnnnnnnnnnnnnnnnnnnnnnnnnnnnnnnnnnnnnnnnnnnnn\
+             nnnnnnnnnnnnnnnnnnnnnnnnnnnnnnnnnnnnnnnnnnnnnnnnnnnnnnnnnnnnnnnn\
+             nnnnnnnnnnnnnnnnnnnnnnnnnnnnnnnnnnnnnnnnnnnnnnnnnnnnnnnnnnnnnnnn\
+             nnnnnnnnnnnnnnnnnnnnnnnnnnnnnnnnnnnnnnnnnnnnnnnnnnnnnnnnnnnnnnnn)\n",
+            "bench:3: NameTooLong\n",
+        ),
+    ] {
+        let deck = format!(in rt.alloc(); "%nullsim 5\n%bench\n{bench}")?;
+        refuses(&rt, rt.alloc(), deck.as_str(), fault);
+    }
+    Ok(())
+}
+
+#[test]
+fn delays(rt: HostRuntime) -> Result<(), Fail> {
+    for (delays, fault) in [
+        ("y 2 3\n", "delays:1: BadLine\n"),
+        ("# none\nzz 2\n", "delays:2: UnknownNet\n"),
+        ("\n\na 2\n", "delays:3: IsInput\n"),
+        ("\ny 0\n", "delays:2: BadTicks\n"),
+        ("y 1000001\n", "delays:1: BadTicks\n"),
+        ("y 2\n\n\ny 2\n", "delays:4: Twice\n"),
+    ] {
+        let deck = format!(in rt.alloc();
+            "%nullsim 5\n%bench\nINPUT(a)\ny = NOT(a)\n%delays\n{delays}"
+        )?;
+        refuses(&rt, rt.alloc(), deck.as_str(), fault);
+    }
+    Ok(())
+}
+
+#[test]
+fn stimuli(rt: HostRuntime) -> Result<(), Fail> {
+    for (stimuli, fault) in [
+        ("0 a\n", "stimuli:1: BadLine\n"),
+        ("\n0 zz 1\n", "stimuli:2: UnknownNet\n"),
+        ("0 a 1\n\n3 y 1\n", "stimuli:3: NotAnInput\n"),
+        ("0 a 1\n10000001 a 0\n", "stimuli:2: TickTooLarge\n"),
+        ("0 a z\n", "stimuli:1: BadValue\n"),
+        ("3 a 1\n# again\n\n3 a 1\n", "stimuli:4: NotRising\n"),
+    ] {
+        let deck = format!(in rt.alloc();
+            "%nullsim 5\n%bench\nINPUT(a)\ny = NOT(a)\n%stimuli\n{stimuli}"
+        )?;
+        refuses(&rt, rt.alloc(), deck.as_str(), fault);
+    }
+    Ok(())
+}
+
+#[test]
+fn schedules(rt: HostRuntime) -> Result<(), Fail> {
+    for (schedule, fault) in [
+        ("advance y 0\n", "schedule:1: BadLine\n"),
+        ("advance y\nadvance zz\n", "schedule:2: UnknownNet\n"),
+        ("\n\ndeliver y 1\n", "schedule:3: BadPin\n"),
+        (
+            "deliver y 9999999999999999999999999999999999999999\n",
+            "schedule:1: BadPin\n",
+        ),
+    ] {
+        let deck = format!(in rt.alloc();
+            "%nullsim 5\n%bench\nINPUT(a)\ny = NOT(a)\n%schedule\n{schedule}"
+        )?;
+        refuses(&rt, rt.alloc(), deck.as_str(), fault);
+    }
+    Ok(())
+}
+
+// Lines count from 1 within their section, however many there are.
+#[test]
+fn a_line_far_down(rt: HostRuntime) -> Result<(), Fail> {
+    let mut deck = String::from_str(rt.alloc(), "%nullsim 5\n%bench\nINPUT(a)\n%stimuli\n")?;
+    for _ in 0..123_455 {
+        deck.push('\n')?;
+    }
+    deck.push_str("0 b 0\n")?;
+    refuses(
+        &rt,
+        rt.alloc(),
+        deck.as_str(),
+        "stimuli:123456: UnknownNet\n",
+    );
+    Ok(())
+}
