@@ -1,8 +1,17 @@
--- Whether a name is among others, and where.
-use Rattle.std.proofs.Common.{◌≡◌, [], suc, ◌+◌, ◌||◌, not, Bool, true, false, cond, ltb, List, ◌∷◌, length, position, Some, None, refl, arith}
+-- Whether a name is another, or among others, and where.
+use Rattle.std.proofs.Common.{◌≡◌, ◌≢◌, ℕ, [], suc, ◌+◌, ◌||◌, not, Bool, true, false, cond, ltb, List, ◌∷◌, length, position, bytes_eq, Some, None, refl, arith}
 use Rattle.std.specs.List.{list_any, position_or_len}
 use Rattle.std.specs.Option.{is_some}
+use Rattle.std.proofs.lemmas.Bool.{false_from_ne_true}
 use Rattle.std.proofs.lemmas.Bool.Decides.{nat_tests}
+use Rattle.std.proofs.lemmas.Slice.Eq.{bytes_eq-Decides}
+
+-- a name is the same as itself alone
+pub bytes_eq-same : (name : List ℕ) → bytes_eq name name ≡ true
+bytes_eq-same name = (bytes_eq-Decides name name).1 refl
+
+pub bytes_eq-other : (name other : List ℕ) → name ≢ other → bytes_eq name other ≡ false
+bytes_eq-other name other apart = false_from_ne_true (bytes_eq name other) (λ same. apart ((bytes_eq-Decides name other).0 same))
 
 -- an element passes where the place of the first is within the list
 pub list_any-place : {X : Type 0} (p : X → Bool) (xs : List X) → list_any p xs ≡ ltb (position_or_len p xs) (length xs)

@@ -1,13 +1,15 @@
 -- What the lines of a canonical text say.
-use Rattle.std.proofs.Common.{◌≡◌, ℕ, ◌+◌, ◌==◌, not, Bool, true, false, cond, List, [], ◌∷◌, ◌++◌, map, codes, All, Result, Ok, append_assoc, refl, ap, ◌∙◌, one-add, arith}
+use Rattle.std.proofs.Common.{◌≡◌, ℕ, ◌+◌, ◌==◌, not, Bool, true, false, cond, List, [], ◌∷◌, ◌++◌, map, codes, All, Ok, append_assoc, refl, sym, ap, ◌∙◌, one-add, arith}
 use Rattle.std.specs.List.{filter, enumerate_from}
 use Rattle.std.proofs.lemmas.Bool.Decides.{nat_tests}
+use Rattle.std.proofs.lemmas.List.{append-nil}
 use Rattle.std.proofs.lemmas.List.Elements.{All-head, All-tail, All-weaker}
 use Rattle.std.proofs.lemmas.List.Splits.{slice_split_at}
-use Rattle.bench_text.specs.declared.fault.BenchFault.{BenchFault}
-use Rattle.bench_text.specs.Text.{◌>>=◌, all_or_fault, lines_of, code_of, code_lines_from, words_of, is_empty}
-use Rattle.bench_text.specs.Line.{Statement, statement_of}
+use Rattle.bench_text.specs.Text.{◌>>=◌, lines_of, code_of, code_lines_from, words_of, is_empty}
+use Rattle.bench_text.specs.Fold.{fold_lines, one_a_line}
+use Rattle.bench_text.specs.Line.{Statement}
 use Rattle.bench_text.specs.Name.{IsStatement}
+use Rattle.bench_text.specs.Netlist.{numbered_statement}
 use Rattle.bench_text.specs.Canonical.{canonical_line, canonical_lines}
 use Rattle.bench_text.proofs.LineBytes.{is_line_byte, IsLine}
 use Rattle.bench_text.proofs.LineSaid.{IsCodeLine, IsCodeLine-canonical_line, statement_of-canonical_line}
@@ -40,15 +42,18 @@ code_lines_from-line number line rest code =
     ∙ ap (λ none. cond (not none) ((number, line) ∷ code_lines_from (number + 1) rest) (code_lines_from (number + 1) rest)) code.has_words
 
 -- each line says its statement
-pub said-canonical_lines : (number : ℕ) (statements : List Statement) → All IsStatement statements →
-    all_or_fault (map (λ (line, code). statement_of line code >>= λ said. Ok (line, said)) (code_lines_from number (canonical_lines statements)))
-    ≡ Ok (enumerate_from number statements)
-said-canonical_lines number [] proper = refl
-said-canonical_lines number (said ∷ statements) proper =
+said_from : (given : List (ℕ × Statement)) (number : ℕ) (statements : List Statement) → All IsStatement statements →
+    fold_lines (one_a_line numbered_statement) given (code_lines_from number (canonical_lines statements)) ≡ Ok (given ++ enumerate_from number statements)
+said_from given number [] proper = ap Ok (sym (append-nil given))
+said_from given number (said ∷ statements) proper =
     let this = All-head IsStatement said statements proper in
-    let say : ℕ × List ℕ → Result (ℕ × Statement) BenchFault = λ (entry : ℕ × List ℕ). statement_of entry.0 entry.1 >>= λ said. Ok (entry.0, said) in
     let rest = canonical_lines statements in
-    ap (λ lines. all_or_fault (map say lines)) (code_lines_from-line number (canonical_line said) rest (IsCodeLine-canonical_line said this))
-    ∙ ap (λ first. all_or_fault ((first >>= λ said. Ok (number, said)) ∷ map say (code_lines_from (number + 1) rest)))
-    (statement_of-canonical_line number said this)
-    ∙ ap (λ more. more >>= λ xs. Ok ((number, said) ∷ xs)) (said-canonical_lines (number + 1) statements (All-tail IsStatement said statements proper))
+    ap (fold_lines (one_a_line numbered_statement) given) (code_lines_from-line number (canonical_line said) rest (IsCodeLine-canonical_line said this))
+    ∙ ap (λ first. first >>= (λ now. Ok (number, now)) >>= (λ thing. Ok (given ++ thing ∷ []))
+    >>= λ more. fold_lines (one_a_line numbered_statement) more (code_lines_from (number + 1) rest)) (statement_of-canonical_line number said this)
+    ∙ said_from (given ++ (number, said) ∷ []) (number + 1) statements (All-tail IsStatement said statements proper)
+    ∙ ap Ok (append_assoc given ((number, said) ∷ []) (enumerate_from (number + 1) statements))
+
+pub said-canonical_lines : (number : ℕ) (statements : List Statement) → All IsStatement statements →
+    fold_lines (one_a_line numbered_statement) [] (code_lines_from number (canonical_lines statements)) ≡ Ok (enumerate_from number statements)
+said-canonical_lines number statements proper = said_from [] number statements proper

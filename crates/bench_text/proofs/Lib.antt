@@ -1,28 +1,30 @@
-pub mod Among
-pub mod CanonicalLines
-pub mod Distinct
-pub mod FirstWord
-pub mod Joined
-pub mod Limit
-pub mod LineBytes
-pub mod LineSaid
-pub mod LineTokens
-pub mod Lines
-pub mod LinesLeft
-pub mod Named
-pub mod NewName
-pub mod NoFault
-pub mod Numbers
-pub mod Picked
-pub mod Places
-pub mod ProperNames
-pub mod ReadBack
-pub mod ReadNetlist
-pub mod Rising
-pub mod Rows
-pub mod Scan
-pub mod SeenNames
-pub mod WellFormed
-pub mod Whole
-pub mod Wired
-pub mod Words
+mod Among
+pub mod CallerLemmas
+mod CanonicalLines
+mod Distinct
+mod FirstWord
+mod FoldLemmas
+mod Joined
+mod Limit
+mod LineBytes
+mod LineSaid
+mod LineTokens
+mod Lines
+mod LinesLeft
+mod Named
+mod NewName
+mod NoFault
+mod Numbers
+mod Picked
+mod Places
+mod ProperNames
+mod ReadBack
+mod ReadNetlist
+mod Rising
+mod Rows
+mod Scan
+mod SeenNames
+mod WellFormed
+mod Whole
+mod Wired
+mod Words

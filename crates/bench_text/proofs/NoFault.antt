@@ -1,25 +1,16 @@
 -- Definitions without a fault.
-use Rattle.std.proofs.Common.{◌≡◌, ◌≢◌, [], ℕ, ◌<◌, ◌≤◌, true, false, cond, List, ◌∷◌, ◌++◌, length, get_or, AllPairs, None, Err, Ok, bytes_eq, append_assoc, length-append, refl, sym, subst, ap, ◌∙◌, arith}
+use Rattle.std.proofs.Common.{◌≡◌, ◌≢◌, [], ℕ, ◌<◌, ◌≤◌, false, cond, List, ◌∷◌, ◌++◌, length, get_or, AllPairs, None, Err, Ok, bytes_eq, append_assoc, length-append, refl, sym, subst, ap, ◌∙◌, arith}
 use Rattle.std.specs.List.{sum_by}
 use Rattle.std.proofs.Math.Seq.{get_or-append_seam}
-use Rattle.std.proofs.lemmas.Bool.{false_from_ne_true}
 use Rattle.std.proofs.lemmas.Bool.Decides.{nat_tests}
 use Rattle.std.proofs.lemmas.List.{append-nil, get_or_append_left}
 use Rattle.std.proofs.lemmas.List.Folds.{list_any_none}
-use Rattle.std.proofs.lemmas.Slice.Eq.{bytes_eq-Decides}
 use Rattle.bench_text.specs.declared.fault.BenchFault.TheVariants.{DefinedTwice}
 use Rattle.bench_text.specs.Netlist.{Definition, defined_names, is_among, repeated_fault, is_over_limit, size_fault}
+use Rattle.bench_text.proofs.Among.{bytes_eq-other}
 use Rattle.bench_text.proofs.Named.{named_from, named_from-all}
 use Rattle.bench_text.proofs.Whole.{is_empty-some}
 use Rattle.bench_text.proofs.Wired.{unless-Ok}
-
--- ---- names
-
-pub other_bytes : (first second : List ℕ) → first ≢ second → bytes_eq first second ≡ false
-other_bytes first second other = false_from_ne_true (bytes_eq first second) (λ e. other ((bytes_eq-Decides first second).0 e))
-
-pub own_bytes : (bytes : List ℕ) → bytes_eq bytes bytes ≡ true
-own_bytes bytes = (bytes_eq-Decides bytes bytes).1 refl
 
 -- ---- definitions
 
@@ -29,7 +20,7 @@ AreDistinct names = AllPairs (λ (earlier later : List ℕ). earlier ≢ later) 
 is_among-before : (before rest : List (List ℕ)) (name : List ℕ) → AreDistinct (before ++ name ∷ rest) → is_among before name ≡ false
 is_among-before before rest name pairs =
     list_any_none (bytes_eq name) before
-    (λ k d inside. other_bytes name (get_or before k d)
+    (λ k d inside. bytes_eq-other name (get_or before k d)
     (λ same. pairs k (length before) d inside (omega (arith, length-append before (name ∷ rest)))
     (get_or_append_left before (name ∷ rest) d k inside ∙ sym same ∙ sym (get_or-append_seam before name rest d))))
 

@@ -5,6 +5,7 @@ use Rattle.std.proofs.Math.Seq.{take-append_seam}
 use Rattle.std.proofs.lemmas.List.{get_or-map, get_or-take, get_or_default, length-map, length-take-le}
 use Rattle.std.proofs.lemmas.List.Elements.{All-map, All-weaker}
 use Rattle.std.proofs.lemmas.List.Folds.{list_any_none}
+use Rattle.logic3.specs.Rising.{Rises}
 use Rattle.bench_text.specs.declared.netlist.Net.{Net}
 use Rattle.bench_text.specs.declared.part.Part.TheVariants.{Input}
 use Rattle.bench_text.specs.Line.{takes_pins}
@@ -16,8 +17,8 @@ use Rattle.bench_text.specs.Joined.{netlist_view}
 use Rattle.bench_text.specs.Stages.{seen_net}
 use Rattle.bench_text.proofs.Among.{list_any-place}
 use Rattle.bench_text.proofs.Joined.{named_nets-wired}
-use Rattle.bench_text.proofs.NoFault.{other_bytes}
-use Rattle.bench_text.proofs.Rising.{Rises, place_in-within, AllPairs-places, length-rising, sum_by-rising}
+use Rattle.bench_text.proofs.Among.{bytes_eq-other}
+use Rattle.bench_text.proofs.Rising.{place_in-within, AllPairs-places, length-rising, sum_by-rising}
 use Rattle.bench_text.proofs.WellFormed.{sum_by-map}
 
 -- the stored parts make the netlist, where the places of the outputs were written over the outputs
@@ -48,7 +49,7 @@ module _ (netlist : NetlistView) (known : IsNetlist netlist) (keep : List ℕ) (
       All-map (λ name. own name ≡ false) (name_at netlist) (take i keep)
       (λ k d within.
       let before : k < i = omega arith in
-      rw (get_or-take i keep k d before, get_or_default keep k d 0 (omega arith)) (other_bytes _ _ (λ same. names-differ k i before inside (sym same)))) in
+      rw (get_or-take i keep k d before, get_or_default keep k d 0 (omega arith)) (bytes_eq-other _ _ (λ same. names-differ k i before inside (sym same)))) in
       ap (λ found. cond found (Some (position_or_len own names)) None) (sym (list_any-place own names) ∙ list_any_none own names others)
 
   pins-few : (outputs : List ℕ) → pin_count (picked netlist keep outputs) ≤ pin_count netlist

@@ -1,8 +1,7 @@
 -- The canonical text of a netlist gives the netlist back.
-use Rattle.std.proofs.Common.{◌≡◌, ◌≢◌, [], ℕ, suc, ◌+◌, ◌<◌, ◌≤◌, not, true, false, cond, List, ◌∷◌, ◌++◌, map, length, get_or, All, AllPairs, Some, None, option_map, Err, Ok, bytes_eq, refl, sym, ap, ◌∙◌, arith}
+use Rattle.std.proofs.Common.{◌≡◌, ◌≢◌, [], ℕ, suc, ◌+◌, ◌<◌, ◌≤◌, not, true, false, cond, List, ◌∷◌, ◌++◌, map, length, get_or, All, AllPairs, Some, None, option_map, Ok, bytes_eq, refl, sym, ap, ◌∙◌, arith}
 use Rattle.std.specs.List.{filter_map, flat_map, enumerate_from, sum_by}
 use Rattle.std.specs.Option.{option_or}
-use Rattle.std.proofs.lemmas.Bool.{le-ltb}
 use Rattle.std.proofs.lemmas.List.{length-map, get_or-map}
 use Rattle.std.proofs.lemmas.List.Elements.{All-head, All-tail, All-map, All-append, All-weaker}
 use Rattle.std.proofs.lemmas.List.Folds.{list_any_at}
@@ -13,9 +12,11 @@ use Rattle.bench_text.specs.Line.{Statement}
 use Rattle.bench_text.specs.Name.{IsName, IsStatement}
 use Rattle.bench_text.specs.Netlist.{NetView, NetlistView, Definition, definition_in, uses_in, output_in, defined_names, is_among, undefined_fault, size_fault, fault_of, unless, place_of, distinct, netlist_with, netlist_of_statements, statements_of, netlist_of, IsNetlist}
 use Rattle.bench_text.specs.Canonical.{name_at, net_statement, output_statement, canonical_statements, canonical}
+use Rattle.bench_text.proofs.Among.{bytes_eq-other, bytes_eq-same}
 use Rattle.bench_text.proofs.CanonicalLines.{said-canonical_lines}
 use Rattle.bench_text.proofs.Distinct.{distinct-same}
-use Rattle.bench_text.proofs.NoFault.{other_bytes, own_bytes, repeated_fault-distinct, size_fault-within}
+use Rattle.bench_text.proofs.FoldLemmas.{unless_too_long-short}
+use Rattle.bench_text.proofs.NoFault.{repeated_fault-distinct, size_fault-within}
 use Rattle.bench_text.proofs.Wired.{undefined_fault-append}
 
 AllPairs-map : {X Y : Type 0} (R : Y → Y → Type 0) (f : X → Y) (xs : List X) → AllPairs (λ a b. R (f a) (f b)) xs → AllPairs R (map f xs)
@@ -45,12 +46,12 @@ module _ (netlist : NetlistView) (good : IsNetlist netlist) where
   get_or-names number d inside = get_or-map (λ (net : NetView). net.name) netlist.nets number _ d inside
 
   own_name : (number : ℕ) (d : List ℕ) → Below number → bytes_eq (name_at netlist number) (get_or names number d) ≡ true
-  own_name number d inside = ap (bytes_eq (name_at netlist number)) (get_or-names number d inside) ∙ own_bytes (name_at netlist number)
+  own_name number d inside = ap (bytes_eq (name_at netlist number)) (get_or-names number d inside) ∙ bytes_eq-same (name_at netlist number)
 
   earlier_name : (number earlier : ℕ) (d : List ℕ) → Below number → earlier < number → bytes_eq (name_at netlist number) (get_or names earlier d) ≡ false
   earlier_name number earlier d inside before =
       ap (bytes_eq (name_at netlist number)) (get_or-names earlier d (omega arith))
-      ∙ other_bytes (name_at netlist number) (name_at netlist earlier) (λ same. good.distinct earlier number _ before inside (sym same))
+      ∙ bytes_eq-other (name_at netlist number) (name_at netlist earlier) (λ same. good.distinct earlier number _ before inside (sym same))
 
   place_of-name_at : (number : ℕ) → Below number → place_of names (name_at netlist number) ≡ number
   place_of-name_at number inside =
@@ -218,6 +219,6 @@ module _ (netlist : NetlistView) (good : IsNetlist netlist) where
   pub netlist_of-canonical : length (canonical netlist) ≤ longest_text → netlist_of (canonical netlist) ≡ Ok netlist
   unfolding canonical
   netlist_of-canonical short =
-      ap (λ long. cond long (Err TooLong) (statements_of (canonical netlist) >>= netlist_of_statements)) (le-ltb longest_text (length (canonical netlist)) short)
+      unless_too_long-short TooLong (λ text. statements_of text >>= netlist_of_statements) (canonical netlist) short
       ∙ ap (λ said. said >>= netlist_of_statements) (said-canonical_lines 1 (canonical_statements netlist) proper)
       ∙ netlist_of_statements-back

@@ -1,16 +1,17 @@
 -- The netlist of a text is well-formed.
-use Rattle.std.proofs.Common.{◌≡◌, [], ℕ, ◌+◌, ◌<◌, ◌≤◌, ◌^◌, Bool, true, false, cond, List, ◌∷◌, ◌++◌, length, Option, Some, None, Result, Ok, Err, position, bytes_eq, refl, ◌∙◌, subst, arith, nat_lt}
+use Rattle.std.proofs.Common.{◌≡◌, [], ℕ, ◌+◌, ◌<◌, ◌≤◌, ◌^◌, Bool, true, false, cond, List, ◌∷◌, ◌++◌, length, Option, Some, None, Result, Ok, Err, position, bytes_eq, refl, ◌∙◌, subst, arith}
 use Rattle.std.specs.List.{filter_map, flat_map, sum_by}
 use Rattle.std.specs.Option.{is_some}
 use Rattle.std.proofs.lemmas.Bool.Decides.{nat_tests}
 use Rattle.std.proofs.lemmas.List.{length_push}
 use Rattle.bench_text.specs.declared.fault.BenchFault.{BenchFault}
 use Rattle.bench_text.specs.declared.fault.BenchFault.TheVariants.{TooLong, DefinedTwice, TooMany}
-use Rattle.bench_text.specs.Text.{◌>>=◌, longest_text}
+use Rattle.bench_text.specs.Text.{◌>>=◌}
 use Rattle.bench_text.specs.Line.{Statement}
 use Rattle.bench_text.specs.Names.{IsNames}
 use Rattle.bench_text.specs.Netlist.{NetlistView, Definition, definition_in, uses_in, output_in, defined_names, is_among, repeated_fault, is_over_limit, size_fault, fault_of, unless, netlist_with, netlist_of, netlist_of_statements, statements_of, IsNetlist}
 use Rattle.bench_text.proofs.Among.{is_some-position}
+use Rattle.bench_text.proofs.FoldLemmas.{bind-Ok, unless_too_long-Ok}
 use Rattle.bench_text.proofs.LinesLeft.{IsStatement-statements_of}
 use Rattle.bench_text.proofs.Named.{named_from, named_from-all}
 use Rattle.bench_text.proofs.NewName.{IsNames-push}
@@ -80,12 +81,7 @@ IsNetlist-statements text statements netlist said e = go (fault_of definitions (
 
 -- what a text is read as is well-formed
 pub IsNetlist-netlist_of : (text : List ℕ) (netlist : NetlistView) → netlist_of text ≡ Ok netlist → IsNetlist netlist
-IsNetlist-netlist_of text netlist e = go (nat_lt longest_text (length text)) e
-  where
-    of_statements : (said : Result (List (ℕ × Statement)) BenchFault) → statements_of text ≡ said → (said >>= netlist_of_statements) ≡ Ok netlist → IsNetlist netlist
-    of_statements (Ok statements) is e = IsNetlist-statements text statements netlist is e
-    of_statements (Err fault) is e = cc
-
-    go : (long : Bool) → cond long (Err TooLong) (statements_of text >>= netlist_of_statements) ≡ Ok netlist → IsNetlist netlist
-    go true e = cc
-    go false e = of_statements (statements_of text) refl e
+IsNetlist-netlist_of text netlist e =
+    let said = bind-Ok (statements_of text) netlist_of_statements netlist
+    (unless_too_long-Ok TooLong (λ text. statements_of text >>= netlist_of_statements) text netlist e) in
+    IsNetlist-statements text said.0 netlist said.1 said.2

@@ -1,26 +1,15 @@
 -- Places among numbers that rise.
 use Rattle.std.proofs.Common.{◌≡◌, ◌≢◌, ℕ, zero, suc, ◌+◌, ◌-◌, ◌==◌, ◌<◌, ◌≤◌, nat_lt, true, false, List, [], ◌∷◌, length, get_or, drop, map, All, AllPairs, Contains, ◌⊎◌, inl, inr, sym, ap, ◌∙◌, arith}
 use Rattle.std.specs.List.{sum_by}
-use Rattle.std.specs.List.Sorted.{IsPartitionPoint, IsNonDecreasing}
+use Rattle.std.specs.List.Sorted.{IsPartitionPoint}
 use Rattle.std.proofs.lemmas.Bool.{cases_lt}
 use Rattle.std.proofs.lemmas.Bool.Decides.{nat_tests}
 use Rattle.std.proofs.lemmas.List.{get_or-map, get_or_default, length-map, drop-drop}
 use Rattle.std.proofs.lemmas.List.Elements.{All-head, All-tail, All-weaker}
 use Rattle.std.proofs.lemmas.List.Sums.{position_or_len_is, sum_by-cons, sum_by-drop_more, sum_by-take-drop}
+use Rattle.logic3.specs.Rising.{Rises}
 use Rattle.bench_text.specs.Pick.{place_in}
 use Rattle.bench_text.proofs.Distinct.{AllPairs-head, AllPairs-tail}
-
-abbrev pub Rises : List ℕ → Type 0
-Rises numbers = AllPairs (λ (earlier later : ℕ). earlier < later) numbers
-
-pub Rises-ascends : (keep : List ℕ) → Rises keep → IsNonDecreasing keep
-Rises-ascends keep rising i j d le inside = go (cases_lt i j)
-  where
-    go : (i < j) ⊎ (j ≤ i) → get_or keep i d ≤ get_or keep j d
-    go (inl less) =
-        let below : get_or keep i d < get_or keep j d = rising i j d less inside in
-        omega arith
-    go (inr same) = let e : i ≡ j = omega arith in rw e (omega arith)
 
 -- a number is no less than its place
 place-le : (keep : List ℕ) → Rises keep → (k : ℕ) → k < length keep → k ≤ get_or keep k 0

@@ -13,7 +13,7 @@ use Rattle.bench_text.specs.Netlist.{NetView, Definition, definition_in, uses_in
 use Rattle.bench_text.specs.Name.{IsStatement}
 use Rattle.bench_text.specs.Names.{IsNames}
 use Rattle.bench_text.specs.Joined.{named_nets, netlist_view}
-use Rattle.bench_text.specs.Stages.{seen_net, net_of, WiringView, wiring}
+use Rattle.bench_text.specs.Stages.{seen_net, net_wiring, WiringView, wiring}
 use Rattle.bench_text.proofs.Joined.{named_nets-wired}
 use Rattle.bench_text.proofs.Wired.{unless-Ok}
 use Rattle.bench_text.proofs.WellFormed.{HasPlace-outputs, IsNetlist-with, sum_by-map}
@@ -31,7 +31,7 @@ module _ (lines : List (ℕ × Statement)) (names : List (List ℕ)) (nets : Lis
   names-is : names ≡ defined_names definitions
   names-is = (unless-Ok _ _ _ named).1
 
-  nets-is : map seen_net nets ≡ map (net_of names) definitions
+  nets-is : map seen_net nets ≡ map (net_wiring names) definitions
   nets-is = ap (λ (found : WiringView). found.nets) (unless-Ok _ _ _ wired).1
 
   outputs-is : outputs ≡ map (place_of names) (filter_map output_in lines)
@@ -41,13 +41,13 @@ module _ (lines : List (ℕ × Statement)) (names : List (List ℕ)) (nets : Lis
   undefined-none = (unless-Ok _ _ _ wired).0
 
   length-nets : length nets ≡ length definitions
-  length-nets = sym (length-map nets seen_net) ∙ ap length nets-is ∙ length-map definitions (net_of names)
+  length-nets = sym (length-map nets seen_net) ∙ ap length nets-is ∙ length-map definitions (net_wiring names)
 
   pins-nets : sum_by (λ (net : Net). length net.pins.items) nets ≡ sum_by (λ (d : Definition). length d.pins) definitions
   pins-nets =
       sym (sum_by-map (λ (connected : Part × List ℕ). length connected.1) seen_net nets)
       ∙ ap (sum_by (λ (connected : Part × List ℕ). length connected.1)) nets-is
-      ∙ sum_by-map (λ (connected : Part × List ℕ). length connected.1) (net_of names) definitions
+      ∙ sum_by-map (λ (connected : Part × List ℕ). length connected.1) (net_wiring names) definitions
       ∙ simp length-map
 
   -- only the limits are left to be a fault
@@ -73,7 +73,7 @@ module _ (lines : List (ℕ × Statement)) (names : List (List ℕ)) (nets : Lis
       let outs = filter_map output_in lines in
       ap (λ kept. netlist_view names nets (distinct kept)) outputs-is
       ∙ ap (λ (all : List NetView). record { nets = all; outputs = distinct (map (place_of names) outs) })
-      (ap (λ names. named_nets names nets) names-is ∙ named_nets-wired (λ (d : Definition). d.name) (net_of names) definitions nets nets-is)
+      (ap (λ names. named_nets names nets) names-is ∙ named_nets-wired (λ (d : Definition). d.name) (net_wiring names) definitions nets nets-is)
       ∙ ap
       (λ names. record {
         nets = map (λ (d : Definition). record { name = d.name; part = d.part; pins = map (place_of names) d.pins }) definitions;

@@ -1,12 +1,12 @@
 -- The canonical text of a netlist.
-use Rattle.std.specs.Prelude.{ℕ, nat_lt, if◌then◌else◌, List, ◌++◌, length, map, flat_map, Result, Ok, Err, codes}
+use Rattle.std.specs.Prelude.{ℕ, List, ◌++◌, map, flat_map, Result, Ok, codes}
 use Rattle.std.specs.List.{join_by}
 use Rattle.logic3.specs.declared.gates.GateKind.TheVariants.{And, Nand, Or, Nor, Xor, Xnor, Not, Buf}
 use Rattle.bench_text.specs.declared.part.Part.{Part}
 use Rattle.bench_text.specs.declared.part.Part.TheVariants.{Input, Gate, Flop}
 use Rattle.bench_text.specs.declared.fault.BenchFault.{BenchFault}
 use Rattle.bench_text.specs.declared.fault.BenchFault.TheVariants.{TooLong}
-use Rattle.bench_text.specs.Text.{longest_text}
+use Rattle.bench_text.specs.Text.{unless_too_long}
 use Rattle.bench_text.specs.Line.{Statement, defines, names_output}
 use Rattle.bench_text.specs.Netlist.{NetView, NetlistView, net_at}
 
@@ -68,4 +68,4 @@ canonical netlist = canonical_lines (canonical_statements netlist)
 
 -- a text, unless it is too long to be read
 abbrev pub within_limit : List ℕ → Result (List ℕ) BenchFault
-within_limit text = if nat_lt longest_text (length text) then Err TooLong else Ok text
+within_limit text = unless_too_long TooLong Ok text

@@ -1,6 +1,8 @@
 pub use Rattle.logic3.specs.Value
 pub use Rattle.logic3.specs.Gate
+pub use Rattle.logic3.specs.Rising
 pub mod Text
+pub mod Fold
 pub mod Line
 pub mod Name
 pub mod Seen

@@ -6,7 +6,8 @@ use Rattle.bench_text.specs.declared.part.Part.{Part}
 use Rattle.bench_text.specs.declared.part.Part.TheVariants.{Input}
 use Rattle.bench_text.specs.declared.fault.BenchFault.{BenchFault}
 use Rattle.bench_text.specs.declared.fault.BenchFault.TheVariants.{TooLong, DefinedTwice, Undefined, NoNets, TooMany}
-use Rattle.bench_text.specs.Text.{◌>>=◌, all_or_fault, code_lines, longest_text, is_empty}
+use Rattle.bench_text.specs.Text.{◌>>=◌, unless_too_long, is_empty}
+use Rattle.bench_text.specs.Fold.{fold_text, one_a_line}
 use Rattle.bench_text.specs.Name.{IsName}
 use Rattle.bench_text.specs.Line.{Statement, defines, names_output, statement_of, takes_pins}
 
@@ -28,10 +29,13 @@ pub record Definition : Type 0 where
   pub part : Part
   pub pins : List (List ℕ)
 
+-- what a line says, with its number, or its first fault
+abbrev pub numbered_statement : ℕ × List ℕ → Result (ℕ × Statement) BenchFault
+numbered_statement (line, code) = statement_of line code >>= λ said. Ok (line, said)
+
 -- what the lines of a text say, by number, or the first fault of a line
 abbrev pub statements_of : List ℕ → Result (List (ℕ × Statement)) BenchFault
-statements_of text =
-    all_or_fault (map (λ (line, code). statement_of line code >>= λ said. Ok (line, said)) (code_lines text))
+statements_of text = fold_text (one_a_line numbered_statement) [] text
 
 abbrev pub definition_in : ℕ × Statement → Option Definition
 definition_in (line, defines name part pins) = Some (record { line = line; name = name; part = part; pins = pins })
@@ -68,9 +72,16 @@ first_undefined names uses = find (λ (line, name). not (is_among names name)) u
 abbrev pub undefined_fault : List (List ℕ) → List (ℕ × List ℕ) → Option BenchFault
 undefined_fault names uses = option_map (λ (used : ℕ × List ℕ). Undefined used.0) (first_undefined names uses)
 
--- more than 100,000 nets, or more than 1,000,000 pins in all
+-- the most nets that a netlist may have, and the most pins that they may have in all
+abbrev pub most_nets : ℕ
+most_nets = 100_000
+
+abbrev pub most_pins : ℕ
+most_pins = 1_000_000
+
+-- more nets than that, or more pins
 abbrev pub is_over_limit : ℕ → ℕ → Bool
-is_over_limit nets pins = nat_lt 100_000 nets || nat_lt 1_000_000 pins
+is_over_limit nets pins = nat_lt most_nets nets || nat_lt most_pins pins
 
 abbrev pub is_too_many : List Definition → Bool
 is_too_many definitions = is_over_limit (length definitions) (sum_by (λ (d : Definition). length d.pins) definitions)
@@ -115,8 +126,7 @@ netlist_of_statements statements =
 
 -- the netlist of a text, or its first fault
 abbrev pub netlist_of : List ℕ → Result NetlistView BenchFault
-netlist_of text =
-    if nat_lt longest_text (length text) then Err TooLong else statements_of text >>= netlist_of_statements
+netlist_of text = unless_too_long TooLong (λ text. statements_of text >>= netlist_of_statements) text
 
 -- ---- what every netlist keeps
 
@@ -132,8 +142,8 @@ pub record IsNetlist (netlist : NetlistView) : Type 0 where
   pub outputs : All (λ output. output < length netlist.nets) netlist.outputs
   pub outputs_once : AllPairs (λ (earlier later : ℕ). earlier ≢ later) netlist.outputs
   pub some_net : 0 < length netlist.nets
-  pub net_limit : length netlist.nets ≤ 100_000
-  pub pin_limit : pin_count netlist ≤ 1_000_000
+  pub net_limit : length netlist.nets ≤ most_nets
+  pub pin_limit : pin_count netlist ≤ most_pins
 
 -- the number of the net of this name
 abbrev pub net_named : NetlistView → List ℕ → Option ℕ

@@ -19,8 +19,8 @@ seen_lines lines = map seen_line lines
 abbrev pub seen_net : Net → Part × List ℕ
 seen_net net = (net.part, net.pins.items)
 
-abbrev pub net_of : List (List ℕ) → Definition → Part × List ℕ
-net_of names definition = (definition.part, map (place_of names) definition.pins)
+abbrev pub net_wiring : List (List ℕ) → Definition → Part × List ℕ
+net_wiring names definition = (definition.part, map (place_of names) definition.pins)
 
 -- the nets, and the outputs with repeats, by number
 pub record WiringView : Type 0 where
@@ -33,6 +33,6 @@ seen_wiring found = record { nets = map seen_net found.nets.items; outputs = fou
 -- the nets in order of definition, and the outputs in order, by the places of names
 abbrev pub wiring : List (List ℕ) → List (ℕ × line.Statement) → WiringView
 wiring names lines = record {
-  nets = map (net_of names) (filter_map definition_in lines);
+  nets = map (net_wiring names) (filter_map definition_in lines);
   outputs = map (place_of names) (filter_map output_in lines);
 }

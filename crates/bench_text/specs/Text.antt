@@ -1,5 +1,5 @@
 -- Texts, lines, words and numbers.
-use Rattle.std.specs.Prelude.{ℕ, ◌==◌, ◌||◌, ◌&&◌, not, Bool, if◌then◌else◌, List, [], ◌∷◌, map, filter, Option, None, Some, Result, Ok, Err, true, false}
+use Rattle.std.specs.Prelude.{ℕ, ◌==◌, ◌||◌, ◌&&◌, not, nat_lt, Bool, if◌then◌else◌, List, [], ◌∷◌, length, map, filter, Option, None, Some, Result, Ok, Err, true, false}
 use Rattle.std.specs.List.{slice_split, before_first, list_all, enumerate_from}
 use Rattle.std.specs.Char.{is_ascii_graphic}
 use Rattle.std.specs.Str.{all_ascii_digits}
@@ -11,15 +11,13 @@ abbrev pub ◌>>=◌ : {A B E : Type 0} → Result A E → (A → Result B E) �
 Ok x >>= f = f x
 Err e >>= f = Err e
 
--- all the values, or the first fault
-abbrev pub all_or_fault : {A E : Type 0} → List (Result A E) → Result (List A) E
-all_or_fault [] = Ok []
-all_or_fault (Ok x ∷ results) = all_or_fault results >>= λ xs. Ok (x ∷ xs)
-all_or_fault (Err e ∷ results) = Err e
-
 -- the most bytes that a text may have
 abbrev pub longest_text : ℕ
 longest_text = 16_777_216
+
+-- what a text means, unless it is too long to be read
+abbrev pub unless_too_long : {A E : Type 0} → E → (List ℕ → Result A E) → List ℕ → Result A E
+unless_too_long fault meaning text = if nat_lt longest_text (length text) then Err fault else meaning text
 
 -- white space: space, tab and carriage return
 abbrev pub is_white : ℕ → Bool

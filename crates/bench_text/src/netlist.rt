@@ -1,4 +1,5 @@
-ghost use Rattle.std.specs.Prelude.{◌≡◌, ℕ, ◌<◌, length, map, All, AllPairs, IfOk};
+ghost use Rattle.std.specs.Prelude.{◌≡◌, ◌<◌, length, map, All, IfOk};
+ghost use Rattle.logic3.specs.Rising.{Rises};
 ghost use Rattle.bench_text.specs.Netlist.{IsNetlist, net_at, net_named};
 ghost use Rattle.bench_text.specs.Joined.{netlist_view};
 ghost use Rattle.bench_text.specs.Canonical.{name_at};
@@ -103,7 +104,7 @@ impl Netlist {
 
     /// The names of nets whose numbers rise, in order.
     pub(crate) fn names_of(&self, alloc: Global, nets: &[u32]) -> Result<Names, AllocError>
-        requires rising { AllPairs (λ (earlier later : ℕ). earlier < later) nets.now }
+        requires rising { Rises nets.now }
         requires nets { All (λ net. net < length self.now.nets) nets.now }
         ensures names { IfOk result (λ names. names ≡ map (name_at self.now) nets.now) }
         ensures well_formed { IsNetlist self.now }

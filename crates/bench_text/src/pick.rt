@@ -1,5 +1,6 @@
 //! Some nets of a netlist as a netlist of their own.
 ghost use Rattle.std.specs.Prelude.{◌≡◌, ◌≢◌, ℕ, ◌<◌, length, map, All, AllPairs, Contains, IfOk};
+ghost use Rattle.logic3.specs.Rising.{Rises};
 ghost use Rattle.bench_text.specs.Netlist.{net_at};
 ghost use Rattle.bench_text.specs.Pick.{place_in, picked, picked_wiring};
 ghost use Rattle.bench_text.specs.Stages.{seen_net};
@@ -20,7 +21,7 @@ impl Netlist {
     /// output logarithmic time. It is an `AllocError` where memory is refused.
     pub fn pick(&self, alloc: Global, keep: &[u32], outputs: &[u32]) -> Result<Netlist, AllocError>
         requires some { 0 < length keep.now }
-        requires rising { AllPairs (λ (earlier later : ℕ). earlier < later) keep.now }
+        requires rising { Rises keep.now }
         requires nets { All (λ number. number < length self.now.nets) keep.now }
         requires pins { All (λ number. All (Contains keep.now) (net_at self.now number).pins) keep.now }
         requires outputs { All (Contains keep.now) outputs.now }
@@ -37,7 +38,7 @@ impl Netlist {
 
 /// What drives these nets, in order, and their pins by the new numbers.
 fn nets_of(alloc: Global, netlist: &Netlist, keep: &[u32]) -> Result<Vec<Net>, AllocError>
-    requires rising { AllPairs (λ (earlier later : ℕ). earlier < later) keep.now }
+    requires rising { Rises keep.now }
     requires nets { All (λ number. number < length netlist.now.nets) keep.now }
     requires pins { All (λ number. All (Contains keep.now) (net_at netlist.now number).pins) keep.now }
     ensures { IfOk result (λ nets. map seen_net nets.items ≡ map (picked_wiring netlist.now keep.now) keep.now) }
@@ -56,7 +57,7 @@ fn nets_of(alloc: Global, netlist: &Netlist, keep: &[u32]) -> Result<Vec<Net>, A
 
 /// Makes each number its place among those that are kept.
 fn renumber(numbers: &mut [u32], keep: &[u32])
-    requires rising { AllPairs (λ (earlier later : ℕ). earlier < later) keep.now }
+    requires rising { Rises keep.now }
     requires kept { All (Contains keep.now) numbers.old }
     ensures { numbers.new ≡ map (place_in keep.now) numbers.old }
 {
@@ -67,7 +68,7 @@ fn renumber(numbers: &mut [u32], keep: &[u32])
 
 /// The place of a number among those that are kept. Takes logarithmic time.
 fn place_in(number: u32, keep: &[u32]) -> u32
-    requires rising { AllPairs (λ (earlier later : ℕ). earlier < later) keep.now }
+    requires rising { Rises keep.now }
     requires kept { Contains keep.now number }
     ensures { result ≡ place_in keep.now number }
 {

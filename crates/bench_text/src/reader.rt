@@ -1,10 +1,10 @@
 //! A .bench text as a netlist: its lines, the names that they define, and what is at each pin.
-ghost use Rattle.std.specs.Prelude.{◌≡◌, ◌≢◌, ℕ, ◌<◌, ◌≤◌, ◌^◌, ◌∷◌, [], List, length, map, filter_map, flat_map, sum_by, All, IfOk};
+ghost use Rattle.std.specs.Prelude.{◌≡◌, ◌≢◌, ℕ, ◌≤◌, ◌^◌, ◌∷◌, [], List, length, map, filter_map, flat_map, sum_by, All};
 ghost use Rattle.std.specs.Result.{result_map_both};
 ghost use Rattle.bench_text.specs.declared.fault.BenchFault.TheVariants.{Memory};
 ghost use Rattle.bench_text.specs.declared.netlist.Net.{Net as TheNet};
 ghost use Rattle.bench_text.specs.Line.{Statement as TheStatement};
-ghost use Rattle.bench_text.specs.Netlist.{statements_of, definition_in, uses_in, defined_names, repeated_fault, undefined_fault, is_over_limit, unless, place_of, distinct, netlist_of_statements, netlist_of};
+ghost use Rattle.bench_text.specs.Netlist.{statements_of, definition_in, uses_in, defined_names, repeated_fault, undefined_fault, is_over_limit, unless, place_of, netlist_of_statements, netlist_of};
 ghost use Rattle.bench_text.specs.Name.{IsStatement};
 ghost use Rattle.bench_text.specs.Seen.{seen_names};
 ghost use Rattle.bench_text.specs.Stages.{seen_lines, seen_wiring, wiring};
@@ -12,10 +12,11 @@ ghost use Rattle.bench_text.specs.Stages.{seen_lines, seen_wiring, wiring};
 use crate::fault::BenchFault;
 use crate::names::Names;
 use crate::netlist::{Net, Netlist};
+use crate::repeats::without_repeats;
 use crate::statement::{Statement, statement_of};
 use crate::text::{LONGEST_TEXT, code_lines};
 use smallvec::SmallVec;
-use std::alloc::{AllocError, Global};
+use std::alloc::Global;
 
 /// The most nets that a netlist may have.
 const MOST_NETS: usize = 100_000;
@@ -154,21 +155,4 @@ fn is_over_limit(nets: &[Net]) -> bool
         pins = pins.saturating_add(net.pins.len());
     }
     nets.len() > MOST_NETS || pins > MOST_PINS
-}
-
-/// Each of these numbers, which are below `bound`, where it stands first.
-fn without_repeats(alloc: Global, numbers: &[u32], bound: usize) -> Result<Vec<u32>, AllocError>
-    requires { All (λ number. number < bound) numbers.now }
-    ensures { IfOk result (λ kept. kept.items ≡ distinct numbers.now) }
-{
-    let mut is_kept = vec![in alloc; false; bound]?;
-    let mut kept = Vec::new(alloc);
-    for number in numbers {
-        let place = *number as usize;
-        if !is_kept[place] {
-            is_kept[place] = true;
-            kept.push(*number)?;
-        }
-    }
-    Ok(kept)
 }

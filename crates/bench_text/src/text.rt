@@ -1,10 +1,9 @@
 //! The words of every text format: lines, the part before a comment, words and numbers.
-ghost use Rattle.std.specs.Prelude.{◌≡◌, ◌==◌, ◌^◌, ◌+◌, ◌-◌, ◌<◌, ◌≤◌, not, [], ◌∷◌, length, map, min, option_map, IfOk, IfSome, MatchOption};
+ghost use Rattle.std.specs.Prelude.{◌≡◌, ◌==◌, ◌^◌, ◌+◌, ◌-◌, ◌<◌, ◌≤◌, not, [], ◌∷◌, length, min, option_map, IfSome, MatchOption};
 ghost use Rattle.std.specs.Option.{option_map_or};
 ghost use Rattle.std.specs.List.{position_or_len, prefix_len};
 ghost use Rattle.bench_text.specs.Text.{code_lines, code_of, is_empty, is_plain, is_white, lines_of, number_of, words_of};
 
-use std::alloc::{AllocError, Global};
 use std::marker::Model;
 
 /// The most bytes that a text may have.
@@ -112,13 +111,43 @@ pub(crate) fn is_white(byte: u8) -> bool
     byte == b' ' || byte == b'\t' || byte == b'\r'
 }
 
-/// The words of a line: the longest runs of bytes other than space, tab and carriage return.
-pub fn words(alloc: Global, line: &[u8]) -> Result<Vec<&[u8]>, AllocError>
-    ensures { IfOk result (λ words. map (λ word. word.now) words.items ≡ words_of line.now) }
+/// The words of a line that are left, in order: see [`words_of`].
+#[derive(Debug, Drop)]
+pub struct Words<'a> {
+    line: &'a [u8],
+}
+
+impl<'a> Model for Words<'a> {
+    ghost use Rattle.std.specs.Prelude.{ℕ, List};
+    ghost use Rattle.bench_text.specs.Text.{words_of};
+
+    ghost Value = { List (List ℕ) };
+
+    ghost view = { λ words. words_of words.line.now };
+}
+
+/// The words of a line, in order: the longest runs of bytes other than space, tab and carriage
+/// return. Takes no memory.
+pub fn words_of(line: &[u8]) -> Words<'_>
+    ensures { result ≡ words_of line.now }
 {
-    line.split(|byte| is_white(*byte))
-        .filter(|word| !word.is_empty())
-        .collect(alloc)
+    Words { line }
+}
+
+impl<'a> Iterator for Words<'a> {
+    ghost use Rattle.std.specs.Iterator.{YieldsFirstBy, item_count};
+
+    type Item = &'a [u8];
+
+    ghost next_gives = { YieldsFirstBy (λ word. word.now) (λ words. words) };
+
+    ghost remaining = { item_count (λ words. words) };
+
+    fn next(&mut self) -> Option<&'a [u8]> {
+        let (word, rest) = split_word(self.line)?;
+        self.line = rest;
+        Some(word)
+    }
 }
 
 /// The first word of a line, and what follows it.

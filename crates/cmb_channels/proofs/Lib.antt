@@ -1,3 +1,4 @@
-pub mod Places
-pub mod WaitingLemmas
-pub mod FedPins
+pub mod CallerLemmas
+mod FedPins
+mod Places
+mod WaitingLemmas

@@ -4,21 +4,21 @@ use Rattle.std.specs.List.{range_with_len}
 use Rattle.std.proofs.lemmas.Bool.{cases_lt}
 use Rattle.std.proofs.lemmas.List.{length-map, get_or_past}
 use Rattle.std.proofs.lemmas.Option.{slice_get_within, slice_get-get_or, get_or_from_slice_get}
-use Rattle.design.proofs.WellFormed.{timed_at}
+use Rattle.design.proofs.CallerLemmas.{timed_at}
 use Rattle.design.specs.Circuit.{Net, Circuit, IsCircuit}
 use Rattle.design.specs.Equations.{value_of}
 use Rattle.cmb_channels.specs.declared.message.Message.{Message}
 use Rattle.design.specs.Pins.{first_pin, net_of_pin, place_of_pin}
-use Rattle.cmb_channels.proofs.Places.{map-update, view_at, get_update_same, get_update_other}
+use Rattle.cmb_channels.proofs.CallerLemmas.{map-update, view_at, get_update_same, get_update_other}
 use Rattle.gate_process.specs.Knowledge.{Knowledge, Tells}
-use Rattle.gate_process.specs.Step.{ProcessState, least, frontier_of_part, advanced, heard}
-use Rattle.gate_process.proofs.Frontiers.{frontier-mono}
+use Rattle.gate_process.specs.Step.{ProcessState, least, frontier_of, advanced, heard}
+use Rattle.gate_process.proofs.CallerLemmas.{frontier-mono}
 use Rattle.cmb_kernel.specs.declared.event.Event.TheVariants.{Deliver, Advance}
 use Rattle.cmb_kernel.specs.State.{State, started, nets_of, frontier_at, IsComplete}
 use Rattle.cmb_kernel.specs.Step.{step, steps, after_deliver, deliveries_from, round_of, rounds}
 use Rattle.cmb_kernel.specs.Sound.{IsSound}
-use Rattle.cmb_kernel.proofs.Truth.{get_below, net_at, started_frontier, started_sound, steps_sound}
-use Rattle.cmb_kernel.proofs.Progress.{at_pin, steps-append, net_count, all_emptied, deliveries_exist, round_sound}
+use Rattle.cmb_kernel.proofs.Soundness.{get_below, net_at, started_frontier, started_sound, steps_sound}
+use Rattle.cmb_kernel.proofs.LeastFrontier.{at_pin, steps-append, net_count, all_emptied, deliveries_exist, round_sound}
 use Rattle.cmb_kernel.proofs.Completion.{frontier_within, rounds_sound}
 
 -- ---- deliveries leave the nets' frontiers
@@ -88,15 +88,15 @@ same_frontiers (known ∷ received) (pin ∷ pins) frontier e h =
 -- after a round a net's frontier follows from the frontiers that its sources had before
 pub round_frontier : (circuit : Circuit) → IsCircuit circuit → (last : ℕ) (state : State) → IsSound circuit last state →
     (number : ℕ) (net : Net) → slice_get circuit number ≡ Some net →
-    frontier_at (round_of state) number ≡ frontier_of_part net.part net last (least last (map (frontier_at state) net.pins))
+    frontier_at (round_of state) number ≡ frontier_of net last (least last (map (frontier_at state) net.pins))
 round_frontier circuit ok last state sound number net at =
     ap (λ s. frontier_at s number) (steps-append state (deliveries_from 0 state.lists) (map Advance (range_with_len 0 (length state.processes))))
     ∙ view_at (λ (p : ProcessState). p.known.frontier)
     (steps delivered (map Advance (range_with_len 0 (length state.processes)))).processes number (advanced process.0)
     (advanced_once delivered 0 (length state.processes) number process.0 process.1 (omega arith) (omega (arith, within)))
-    ∙ ap (λ ns. frontier_of_part (process.0).net.part (process.0).net (process.0).end (least (process.0).end ns)) heard_all
-    ∙ ap (λ n. frontier_of_part (process.0).net.part (process.0).net n (least n (map (frontier_at state) (process.0).net.pins))) end
-    ∙ ap (λ (n : Net). frontier_of_part n.part n last (least last (map (frontier_at state) n.pins))) is
+    ∙ ap (λ ns. frontier_of (process.0).net (process.0).end (least (process.0).end ns)) heard_all
+    ∙ ap (λ n. frontier_of (process.0).net n (least n (map (frontier_at state) (process.0).net.pins))) end
+    ∙ ap (λ (n : Net). frontier_of n last (least last (map (frontier_at state) n.pins))) is
   where
     delivered : State
     delivered = steps state (deliveries_from 0 state.lists)
@@ -149,7 +149,7 @@ round_ahead circuit ok last old new sound_old sound_new ahead number = go (cases
         let net = get_below circuit number there in
         let a = round_frontier circuit ok last old sound_old number net.0 net.1 in
         let b = round_frontier circuit ok last new sound_new number net.0 net.1 in
-        let more = frontier-mono (net.0).part net.0 last (least last (map (frontier_at old) (net.0).pins)) (least last (map (frontier_at new) (net.0).pins))
+        let more = frontier-mono net.0 last (least last (map (frontier_at old) (net.0).pins)) (least last (map (frontier_at new) (net.0).pins))
         (timed_at circuit ok number net.0 net.1).period.0 (least_map-mono last last (net.0).pins (frontier_at old) (frontier_at new) (omega arith) ahead) in
         omega arith
     go (inr past) =

@@ -15,30 +15,28 @@ use Rattle.design.specs.Circuit.{pin_count}
 use Rattle.design.specs.Design.{DesignView}
 use Rattle.design.specs.Equations.{value_of}
 use Rattle.design.specs.Pins.{sources_of, net_of_pin, place_of_pin}
-use Rattle.design.proofs.Numbers.{net_of_pin_below}
-use Rattle.design.proofs.Stored.{net_limit}
-use Rattle.design.proofs.WellFormed.{All-slice_get}
+use Rattle.design.proofs.CallerLemmas.{net_of_pin_below, net_limit, All-slice_get}
 use Rattle.cmb_channels.specs.declared.message.Message.{Message}
 use Rattle.cmb_channels.specs.declared.message.Message.TheVariants.{Change as Changes, Null}
 use Rattle.cmb_channels.specs.Lists.{update, sent, taken}
-use Rattle.cmb_channels.proofs.Places.{update-set, taken_at}
+use Rattle.cmb_channels.proofs.CallerLemmas.{update-set, taken_at}
 use Rattle.gate_process.specs.Knowledge.{news_of, Tells}
 use Rattle.gate_process.specs.Step.{ProcessState, ProcessView, running, safe_of, next_frontier, reckoned, advanced, news, heard}
 use Rattle.gate_process.specs.Truth.{CanHear}
-use Rattle.gate_process.proofs.Frontiers.{frontier-end}
-use Rattle.gate_process.proofs.Reckoned.{news_true}
+use Rattle.gate_process.proofs.CallerLemmas.{frontier-end, news_true}
 use Rattle.cmb_kernel.specs.declared.counts.Counts.{Counts}
 use Rattle.cmb_kernel.specs.declared.event.Event.{Event}
 use Rattle.cmb_kernel.specs.declared.event.Event.TheVariants.{Deliver, Advance}
 use Rattle.cmb_kernel.specs.State.{State, nets_of}
-use Rattle.cmb_kernel.specs.Step.{is_change, is_null, counted, news_at, after_deliver, step, is_useful}
+use Rattle.cmb_kernel.specs.Step.{is_change, is_null, counted, news_at, after_deliver, step}
+use Rattle.cmb_kernel.specs.Useful.{is_useful}
 use Rattle.cmb_kernel.specs.Sound.{IsSound}
 use Rattle.cmb_kernel.specs.Running.{state_of, IsRunning}
-use Rattle.cmb_kernel.proofs.Truth.{net_at, meets_at, step_sound}
-use Rattle.cmb_kernel.proofs.Progress.{net_count}
+use Rattle.cmb_kernel.proofs.Soundness.{net_at, meets_at, step_sound}
+use Rattle.cmb_kernel.proofs.LeastFrontier.{net_count}
 use Rattle.cmb_kernel.proofs.Completion.{frontier_within}
 use Rattle.cmb_kernel.proofs.Consequences.{can_hear}
-use Rattle.cmb_kernel.proofs.Useful.{sum_by-update, deliver_useful, deliver_useless, advance_useful, advance_useless}
+use Rattle.cmb_kernel.proofs.UsefulEvents.{sum_by-update, deliver_useful, deliver_useless, advance_useful, advance_useless}
 use Rattle.cmb_kernel.proofs.Running.{circuit_ok, runs_at}
 
 -- ---- messages
@@ -130,7 +128,7 @@ module _ {design : DesignView} {end : ℕ} {processes : List ProcessView} {sourc
       let raised = news_raise net process below is in
       let at = (runs_at all net process below is).at in
       let next : next_frontier process.state ≤ process.state.end =
-      frontier-end process.state.net.part process.state.net process.state.end (safe_of process.state) in
+      frontier-end process.state.net process.state.end (safe_of process.state) in
       let last = all.sound.ends net process.state at in
       let bound = message_bound in
       let within = all.within in

@@ -6,13 +6,13 @@ use Rattle.std.proofs.lemmas.Option.{slice_get-get_or, get_or_from_slice_get}
 use Rattle.std.proofs.Math.Nat.{suc-mul}
 use Rattle.design.specs.Circuit.{Circuit, IsCircuit}
 use Rattle.gate_process.specs.Step.{ProcessState, next_frontier, safe_of}
-use Rattle.gate_process.proofs.Frontiers.{frontier-end, least-bound}
-use Rattle.cmb_channels.proofs.Places.{view_at}
+use Rattle.gate_process.proofs.CallerLemmas.{frontier-end, least-bound}
+use Rattle.cmb_channels.proofs.CallerLemmas.{view_at}
 use Rattle.cmb_kernel.specs.State.{State, frontier_at, least_frontier, least_delay, IsComplete, is_complete}
 use Rattle.cmb_kernel.specs.Step.{round_of, rounds, completed_within}
 use Rattle.cmb_kernel.specs.Sound.{IsSound}
-use Rattle.cmb_kernel.proofs.Truth.{get_below}
-use Rattle.cmb_kernel.proofs.Progress.{net_count, least_frontier-le, least_frontier_greatest, round_sound, round_raises}
+use Rattle.cmb_kernel.proofs.Soundness.{get_below}
+use Rattle.cmb_kernel.proofs.LeastFrontier.{net_count, least_frontier-le, least_frontier_greatest, round_sound, round_raises}
 
 pub rounds_sound : (circuit : Circuit) → IsCircuit circuit → (last : ℕ) (count : ℕ) (state : State) → IsSound circuit last state →
     IsSound circuit last (rounds count state)
@@ -44,7 +44,7 @@ pub frontier_within : (circuit : Circuit) (last number : ℕ) (state : State) (p
 frontier_within circuit last number state process sound e =
     let ahead = (sound.processes number process e).ahead in
     let end = sound.ends number process e in
-    let within : next_frontier process ≤ process.end = frontier-end process.net.part process.net process.end (safe_of process) in
+    let within : next_frontier process ≤ process.end = frontier-end process.net process.end (safe_of process) in
     omega arith
 
 -- the frontier that none is below is the least one
@@ -124,29 +124,6 @@ least_tells circuit last state sound = go (least_frontier last state == last) re
         let complete = is_complete-from state (complete_from_least circuit last state sound (omega arith)) in
         cc
     go false e true h = absurd (eqb-false _ _ e (least_when_complete circuit last state sound (is_complete-true state h)))
-
--- the fewest rounds that complete are no more than that
-pub completed_is_complete : (circuit : Circuit) → IsCircuit circuit → (last : ℕ) (count : ℕ) (state : State) → IsSound circuit last state →
-    last ≤ least_frontier last state + count * least_delay last circuit → IsComplete (completed_within count state)
-completed_is_complete circuit ok last zero state sound enough =
-    complete_from_least circuit last state sound (none last (least_frontier last state) (least_delay last circuit) enough)
-  where
-    none : (a b c : ℕ) → a ≤ b + 0 * c → a ≤ b
-    none a b c h = omega arith
-completed_is_complete circuit ok last (suc count) state sound enough =
-    go (is_complete state) refl
-    (completed_is_complete circuit ok last count (round_of state) (round_sound circuit ok last state sound)
-    (more last (least_frontier last state) (least_frontier last (round_of state)) (least_delay last circuit)
-    (count * least_delay last circuit) (suc count * least_delay last circuit)
-    (round_raises circuit ok last state sound) enough (suc-mul count (least_delay last circuit))))
-  where
-    more : (last a b d m n : ℕ) → min last (a + d) ≤ b → last ≤ a + n → n ≡ m + d → last ≤ b + m
-    more last a b d m n h k e = omega arith
-
-    go : (complete : Bool) → is_complete state ≡ complete → IsComplete (completed_within count (round_of state)) →
-        IsComplete (cond complete state (completed_within count (round_of state)))
-    go true e rest = is_complete-true state e
-    go false e rest = rest
 
 -- ---- rounds one after another
 

@@ -1,20 +1,18 @@
 -- What soundness says of nets and pins.
-use Rattle.std.proofs.Common.{◌≡◌, ℕ, ◌+◌, ◌<◌, ◌≤◌, List, [], ◌∷◌, length, All, Some, slice_get, slice_index_or, ap, sym, subst, ◌∙◌, arith}
+use Rattle.std.proofs.Common.{◌≡◌, ℕ, ◌+◌, ◌<◌, ◌≤◌, List, [], ◌∷◌, length, Some, slice_get, slice_index_or, ap, sym, subst, ◌∙◌, arith}
 use Rattle.logic3.specs.Wave.{value_at, IsWave}
-use Rattle.logic3.proofs.Waves.{value_at-wave_of}
+use Rattle.logic3.proofs.CallerLemmas.{value_at-wave_of}
 use Rattle.design.specs.Circuit.{Circuit, IsCircuit}
 use Rattle.design.specs.Equations.{value_of}
 use Rattle.cmb_channels.specs.declared.message.Message.{Message}
 use Rattle.design.specs.Pins.{first_pin, net_of_pin, place_of_pin}
-use Rattle.gate_process.specs.Knowledge.{Knowledge, told, kept_from}
-use Rattle.gate_process.specs.Step.{ProcessState}
+use Rattle.gate_process.specs.Knowledge.{Knowledge, told}
+use Rattle.gate_process.specs.Step.{ProcessState, kept_from}
 use Rattle.gate_process.specs.Truth.{CanHear}
-use Rattle.gate_process.proofs.Told.{Tells-le, HeardTruth, heard_truth}
-use Rattle.cmb_kernel.specs.declared.event.Event.{Event}
-use Rattle.cmb_kernel.specs.State.{State, started, nets_of, frontier_at}
-use Rattle.cmb_kernel.specs.Step.{steps}
-use Rattle.cmb_kernel.specs.Sound.{Exists, IsSound, KnowsNet, HearsSource}
-use Rattle.cmb_kernel.proofs.Truth.{started_sound, steps_sound, hears_truth, pin_tells}
+use Rattle.gate_process.proofs.CallerLemmas.{Tells-le, HeardTruth, heard_truth}
+use Rattle.cmb_kernel.specs.State.{State, nets_of, frontier_at}
+use Rattle.cmb_kernel.specs.Sound.{IsSound, KnowsNet, HearsSource}
+use Rattle.cmb_kernel.proofs.Soundness.{hears_truth, pin_tells}
 use Rattle.cmb_kernel.proofs.Completion.{frontier_within}
 use Rattle.cmb_kernel.proofs.Measure.{feeder_within}
 
@@ -34,7 +32,7 @@ pub hears_source : (circuit : Circuit) → IsCircuit circuit → (last : ℕ) (s
     (number place source : ℕ) (process : ProcessState) (received : Knowledge) →
     slice_get state.processes number ≡ Some process → slice_get process.net.pins place ≡ Some source →
     slice_get process.received place ≡ Some received →
-    HearsSource circuit source (frontier_at state source) (kept_from process.known.frontier process.net.delay received.frontier) received
+    HearsSource circuit source (frontier_at state source) (kept_from process place received.frontier) received
     (slice_index_or state.lists (first_pin circuit number + place) [])
 hears_source circuit ok last state sound number place source process received a b c =
     let all = hears_truth circuit ok last state sound number place source process received a b c in
@@ -42,7 +40,7 @@ hears_source circuit ok last state sound number place source process received a 
       frontier = ap (λ (k : Knowledge). k.frontier) all;
       values = λ tick from below.
           ap (λ (k : Knowledge). value_at k.wave tick) all
-          ∙ value_at-wave_of (value_of circuit source) (kept_from process.known.frontier process.net.delay received.frontier)
+          ∙ value_at-wave_of (value_of circuit source) (kept_from process place received.frontier)
           (frontier_at state source) tick from below;
     }
 
@@ -55,8 +53,8 @@ can_hear circuit ok last state sound pin message messages waiting exists process
     let tells = pin_tells circuit ok last state sound pin message messages waiting exists process at in
     let same : known ≡ tells.1 = (let x = tells.3 in cc) in
     let so_far = (sound.processes (net_of_pin (nets_of state) pin) process at).heard (place_of_pin (nets_of state) pin) tells.0 tells.1 tells.2 tells.3 in
-    let truth : HeardTruth (value_of circuit tells.0) process.known.frontier process.net.delay (frontier_at state tells.0) tells.1 (told tells.1 message) messages =
-    heard_truth (value_of circuit tells.0) process.known.frontier process.net.delay (frontier_at state tells.0) tells.1 message messages so_far tells.4 in
+    let truth : HeardTruth (value_of circuit tells.0) process (place_of_pin (nets_of state) pin) (frontier_at state tells.0) tells.1 (told tells.1 message) messages =
+    heard_truth (value_of circuit tells.0) process (place_of_pin (nets_of state) pin) (frontier_at state tells.0) tells.1 message messages so_far tells.4 in
     let rest : (told tells.1 message).frontier ≤ frontier_at state tells.0 =
     Tells-le (value_of circuit tells.0) (told tells.1 message).frontier (frontier_at state tells.0) messages truth.rest_tells in
     let high = feeder_within circuit ok last state sound (net_of_pin (nets_of state) pin) (place_of_pin (nets_of state) pin) tells.0 process at tells.2 in
@@ -64,9 +62,3 @@ can_hear circuit ok last state sound pin message messages waiting exists process
     let raised : (tells.1).frontier < (told tells.1 message).frontier = truth.raised in
     subst (λ (k : Knowledge). (k.frontier < (told k message).frontier) × ((told k message).frontier ≤ process.end) × IsWave (told k message).wave) (sym same)
     (raised, omega arith, truth.is_wave)
-
--- every state that events reach from the start is sound
-pub reached_sound : (circuit : Circuit) → IsCircuit circuit → (last : ℕ) (events : List Event) → All (Exists circuit) events →
-    IsSound circuit last (steps (started circuit last) events)
-reached_sound circuit ok last events exist =
-    steps_sound circuit ok last (started circuit last) events (started_sound circuit last) exist

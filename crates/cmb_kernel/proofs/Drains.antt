@@ -1,14 +1,13 @@
 -- Taking out changes keeps a state sound.
 use Rattle.std.proofs.Common.{◌≡◌, ℕ, ◌+◌, ◌≤◌, [], refl, Some, slice_get, slice_index_or, ap, sym, subst, ◌∙◌, inl, inr}
-use Rattle.logic3.specs.Wave.{changes_between}
 use Rattle.design.specs.Circuit.{Circuit}
 use Rattle.design.specs.Equations.{value_of}
 use Rattle.design.specs.Pins.{first_pin}
-use Rattle.cmb_channels.proofs.Places.{map-update, IsUpdated, get_of_update}
+use Rattle.cmb_channels.proofs.CallerLemmas.{map-update, IsUpdated, get_of_update}
 use Rattle.gate_process.specs.Knowledge.{Knowledge, Tells}
-use Rattle.gate_process.specs.Step.{ProcessState, drained, drained_changes}
+use Rattle.gate_process.specs.Step.{ProcessState, drained}
 use Rattle.gate_process.specs.Truth.{KnowsTruth}
-use Rattle.gate_process.proofs.Events.{drained_knows, drained_true}
+use Rattle.gate_process.proofs.CallerLemmas.{drained_knows}
 use Rattle.cmb_kernel.specs.State.{State, frontier_at}
 use Rattle.cmb_kernel.specs.Step.{after_drain}
 use Rattle.cmb_kernel.specs.Sound.{IsSound}
@@ -52,9 +51,3 @@ module _ (circuit : Circuit) (last : ℕ) (state : State) (sound : IsSound circu
           (subst (λ (p : ProcessState). slice_get p.net.pins place ≡ Some source) same.1.2 b)
           (subst (λ (p : ProcessState). slice_get p.received place ≡ Some received) same.1.2 c)
       waits number place source process received b c (inr other) = sound.waiting number place source process received other.1 b c
-
-  -- what is taken out is what the equations give the net from its floor up to the bound
-  pub drain_true : (process : ProcessState) → slice_get state.processes net ≡ Some process →
-      drained_changes bound process ≡ changes_between (value_of circuit net) process.floor bound
-  drain_true process e =
-      drained_true (value_of circuit) net bound process (sound.processes net process e) (allowed process e).0 (allowed process e).1

@@ -4,13 +4,13 @@ use Rattle.std.proofs.lemmas.Bool.{cases_lt, eqb-false}
 use Rattle.std.proofs.Math.Nat.{mul_comm}
 use Rattle.design.specs.Circuit.{Circuit, IsCircuit}
 use Rattle.gate_process.specs.Step.{ProcessState}
-use Rattle.gate_process.proofs.Frontiers.{least-bound}
-use Rattle.cmb_kernel.specs.State.{State, Run, least_frontier, least_delay, most_rounds, IsComplete, is_complete}
+use Rattle.gate_process.proofs.CallerLemmas.{least-bound}
+use Rattle.cmb_kernel.specs.State.{State, KernelView, least_frontier, least_delay, most_rounds, IsComplete, is_complete}
 use Rattle.cmb_kernel.specs.Step.{round_of, rounds, completed_within}
 use Rattle.cmb_kernel.specs.Sound.{IsSound}
-use Rattle.cmb_kernel.proofs.Progress.{round_sound, round_raises}
+use Rattle.cmb_kernel.proofs.LeastFrontier.{round_sound, round_raises}
 use Rattle.cmb_kernel.proofs.Completion.{rounds_sound, complete_from_least, least_tells, rounds_complete, LeadsTo, leads_on, led}
-use Rattle.cmb_kernel.proofs.Useful.{least_delay-positive}
+use Rattle.cmb_kernel.proofs.UsefulEvents.{least_delay-positive}
 
 -- a round raises the least frontier where it isn't the end
 pub falls : (circuit : Circuit) → IsCircuit circuit → (last : ℕ) (state : State) (after : ℕ) → IsSound circuit last state →
@@ -48,29 +48,29 @@ most_rounds_complete circuit ok last state sound = go (cases_lt 0 last)
 -- ---- rounds until a run is complete
 
 -- rounds lead from the one run to the other
-pub record RoundsTo (start now : Run) : Type 0 where
+pub record RoundsTo (start now : KernelView) : Type 0 where
   pub run : now ≡ record start { state = now.state }
   pub sound : IsSound now.circuit now.end now.state
   pub leads : LeadsTo start.state now.state
 
-module _ (start now : Run) (ok : IsCircuit start.circuit) (so_far : RoundsTo start now) where
+module _ (start now : KernelView) (ok : IsCircuit start.circuit) (so_far : RoundsTo start now) where
   now_ok : IsCircuit now.circuit
-  now_ok = subst IsCircuit (sym (ap (λ (r : Run). r.circuit) so_far.run)) ok
+  now_ok = subst IsCircuit (sym (ap (λ (r : KernelView). r.circuit) so_far.run)) ok
 
-  module _ (next : Run) (goes : next ≡ record now { state = round_of now.state }) (incomplete : is_complete now.state ≡ false) where
+  module _ (next : KernelView) (goes : next ≡ record now { state = round_of now.state }) (incomplete : is_complete now.state ≡ false) where
     pub one_more_round : RoundsTo start next
     one_more_round = record {
-      run = goes ∙ ap (λ (r : Run). record r { state = round_of now.state }) so_far.run
-          ∙ ap (λ s. record start { state = s }) (sym (ap (λ (r : Run). r.state) goes));
-      sound = subst (λ (r : Run). IsSound r.circuit r.end r.state) (sym goes)
+      run = goes ∙ ap (λ (r : KernelView). record r { state = round_of now.state }) so_far.run
+          ∙ ap (λ s. record start { state = s }) (sym (ap (λ (r : KernelView). r.state) goes));
+      sound = subst (λ (r : KernelView). IsSound r.circuit r.end r.state) (sym goes)
           (round_sound now.circuit now_ok now.end now.state so_far.sound);
-      leads = subst (LeadsTo start.state) (sym (ap (λ (r : Run). r.state) goes)) (leads_on start.state now.state incomplete so_far.leads);
+      leads = subst (LeadsTo start.state) (sym (ap (λ (r : KernelView). r.state) goes)) (leads_on start.state now.state incomplete so_far.leads);
     }
 
     -- and less is left to the end
     pub less_left : next.end - least_frontier next.end next.state < now.end - least_frontier now.end now.state
     less_left =
-        subst (λ (r : Run). r.end - least_frontier r.end r.state < now.end - least_frontier now.end now.state) (sym goes)
+        subst (λ (r : KernelView). r.end - least_frontier r.end r.state < now.end - least_frontier now.end now.state) (sym goes)
         (falls now.circuit now_ok now.end now.state (least_frontier now.end (round_of now.state)) so_far.sound incomplete
         (round_raises now.circuit now_ok now.end now.state so_far.sound))
 

@@ -1,11 +1,12 @@
 -- How many events a text can give: no more than a list of events may have.
-use Rattle.std.proofs.Common.{◌≡◌, ℕ, suc, ◌+◌, ◌*◌, ◌≤◌, Bool, true, false, cond, not, ◌==◌, List, [], ◌∷◌, length, map, filter, Result, Ok, Err, refl, ap, ◌∙◌, arith}
+use Rattle.std.proofs.Common.{◌≡◌, ℕ, suc, ◌+◌, ◌*◌, ◌≤◌, Bool, true, false, cond, not, ◌==◌, List, [], ◌∷◌, length, map, filter, Ok, refl, arith}
 use Rattle.std.specs.List.{enumerate_from, onto_first}
-use Rattle.std.proofs.lemmas.List.{length-map}
-use Rattle.bench_text.specs.Text.{◌>>=◌, all_or_fault, code_lines, code_of, is_empty, lines_of, longest_text, words_of}
+use Rattle.bench_text.specs.Fold.{fold_text}
+use Rattle.bench_text.proofs.CallerLemmas.{length-one_a_line}
+use Rattle.bench_text.specs.Text.{code_lines, code_of, is_empty, lines_of, longest_text, words_of}
 use Rattle.design.specs.Circuit.{Circuit}
 use Rattle.cmb_kernel.specs.declared.event.Event.{Event}
-use Rattle.cmb_kernel.specs.Schedule.{event_or_fault, events_in, most_events}
+use Rattle.cmb_kernel.specs.Schedule.{event_or_fault, events_after, most_events}
 
 -- the bytes of lines, each with its line feed
 abbrev bytes_in : List (List ℕ) → ℕ
@@ -45,19 +46,7 @@ two_bytes_each number ((byte ∷ bytes) ∷ lines) =
     go true rest = omega arith
     go false rest = omega arith
 
--- where there is no fault, there are as many values as results
-length-all_or_fault : {A E : Type 0} (results : List (Result A E)) (xs : List A) → all_or_fault results ≡ Ok xs → length results ≡ length xs
-length-all_or_fault [] xs same = let none : [] ≡ xs = cc in ap length none
-length-all_or_fault {A = A} {E = E} (Ok x ∷ results) xs same = go (all_or_fault results) (length-all_or_fault results) same
-  where
-    go : (rest : Result (List A) E) → ((more : List A) → rest ≡ Ok more → length results ≡ length more) →
-        (rest >>= λ more. Ok (x ∷ more)) ≡ Ok xs → suc (length results) ≡ length xs
-    go (Ok more) count given = let all : x ∷ more ≡ xs = cc in ap suc (count more refl) ∙ ap length all
-    go (Err fault) count given = cc
-length-all_or_fault (Err fault ∷ results) xs same = cc
-
 pub few-events_of : (circuit : Circuit) (text : List ℕ) (events : List Event) → length text ≤ longest_text →
-    events_in circuit (code_lines text) ≡ Ok events → length events ≤ most_events
+    fold_text (events_after circuit) [] text ≡ Ok events → length events ≤ most_events
 few-events_of circuit text events short same =
-    let results = map (event_or_fault circuit) (code_lines text) in
-    omega (arith, two_bytes_each 1 (lines_of text), bytes_in-lines_of text, length-map (code_lines text) (event_or_fault circuit), length-all_or_fault results events same)
+    omega (arith, two_bytes_each 1 (lines_of text), bytes_in-lines_of text, length-one_a_line (event_or_fault circuit) (code_lines text) events same)

@@ -10,7 +10,7 @@ use Rattle.gate_process.specs.Step.{ProcessState, ProcessView, running, started_
 use Rattle.cmb_kernel.specs.declared.counts.Counts.{Counts}
 use Rattle.cmb_kernel.specs.State.{started}
 use Rattle.cmb_kernel.specs.Running.{state_of, IsRunning}
-use Rattle.cmb_kernel.proofs.Truth.{started_sound}
+use Rattle.cmb_kernel.proofs.Soundness.{started_sound}
 
 abbrev pub no_counts : Counts
 no_counts = record { events = 0; changes = 0; nulls = 0; rounds = 0 }

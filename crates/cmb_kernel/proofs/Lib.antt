@@ -1,18 +1,18 @@
-pub mod Ahead
-pub mod Applied
-pub mod Completion
-pub mod Consequences
-pub mod Drains
-pub mod Enough
-pub mod EventCount
-pub mod Fresh
-pub mod Measure
-pub mod Moved
-pub mod Picks
-pub mod Progress
-pub mod Refused
-pub mod Rows
-pub mod Running
-pub mod ScheduleRows
-pub mod Truth
-pub mod Useful
+mod Ahead
+mod Applied
+pub mod CallerLemmas
+mod Completion
+mod Consequences
+mod Drains
+mod Enough
+mod EventCount
+mod Fresh
+mod LeastFrontier
+mod Measure
+mod Moved
+mod Picks
+mod Refused
+mod RoundExamples
+mod Running
+mod Soundness
+mod UsefulEvents

@@ -9,25 +9,25 @@ use Rattle.std.proofs.lemmas.List.Elements.{All-get_or}
 use Rattle.std.proofs.Math.Nat.{suc-mul, add-mul}
 use Rattle.logic3.specs.declared.change.Change.{Change}
 use Rattle.logic3.specs.Wave.{changes_between}
-use Rattle.design.proofs.WellFormed.{pins_at}
+use Rattle.design.proofs.CallerLemmas.{pins_at, pin_count-cons}
 use Rattle.design.specs.Circuit.{Circuit, IsCircuit, pin_count}
 use Rattle.design.specs.Equations.{value_of}
 use Rattle.cmb_channels.specs.declared.message.Message.{Message}
 use Rattle.cmb_channels.specs.declared.message.Message.TheVariants.{Change as Changes, Null}
-use Rattle.cmb_channels.proofs.Places.{view_at}
-use Rattle.design.proofs.Numbers.{pin_count-cons}
+use Rattle.cmb_channels.proofs.CallerLemmas.{view_at}
 use Rattle.gate_process.specs.Knowledge.{Knowledge, news_of}
 use Rattle.gate_process.specs.Step.{ProcessState, next_frontier, reckoned, advanced, news}
-use Rattle.gate_process.proofs.Told.{Tells-le}
+use Rattle.gate_process.proofs.CallerLemmas.{Tells-le}
 use Rattle.cmb_kernel.specs.declared.event.Event.{Event}
 use Rattle.cmb_kernel.specs.declared.event.Event.TheVariants.{Deliver, Advance}
-use Rattle.cmb_kernel.specs.State.{State, frontier_at, progress_of, progress}
-use Rattle.cmb_kernel.specs.Step.{is_null, step, steps, after_deliver, is_advance, is_useful, useful_count, useful_advances}
+use Rattle.cmb_kernel.specs.State.{State, frontier_at}
+use Rattle.cmb_kernel.specs.Useful.{progress_of, progress, is_advance, is_useful, useful_count, useful_advances}
+use Rattle.cmb_kernel.specs.Step.{is_null, step, steps, after_deliver}
 use Rattle.cmb_kernel.specs.Sound.{Exists, IsSound}
-use Rattle.cmb_kernel.proofs.Truth.{get_below, net_at, step_sound, steps_sound}
-use Rattle.cmb_kernel.proofs.Progress.{net_count}
+use Rattle.cmb_kernel.proofs.Soundness.{get_below, net_at, step_sound, steps_sound}
+use Rattle.cmb_kernel.proofs.LeastFrontier.{net_count}
 use Rattle.cmb_kernel.proofs.Completion.{frontier_within}
-use Rattle.cmb_kernel.proofs.Useful.{sum_by-update, progress-advanced, advance_useful, deliver_useful}
+use Rattle.cmb_kernel.proofs.UsefulEvents.{sum_by-update, progress-advanced, advance_useful, deliver_useful}
 
 -- no event lowers the measure
 pub progress_rises : (circuit : Circuit) → IsCircuit circuit → (last : ℕ) (state : State) (event : Event) → IsSound circuit last state →

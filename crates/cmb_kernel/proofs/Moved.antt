@@ -4,19 +4,19 @@ use Rattle.std.specs.List.{range_with_len}
 use Rattle.std.proofs.lemmas.List.{take_more, drop-set-lt}
 use Rattle.std.proofs.lemmas.List.FromFn.{map-range_with_len_more}
 use Rattle.cmb_channels.specs.declared.message.Message.{Message}
-use Rattle.cmb_channels.proofs.Places.{length-update, length-taken}
+use Rattle.cmb_channels.proofs.CallerLemmas.{length-update, length-taken}
 use Rattle.design.specs.Pins.{net_of_pin, place_of_pin}
 use Rattle.gate_process.specs.Step.{advanced, heard}
 use Rattle.cmb_kernel.specs.declared.event.Event.{Event}
 use Rattle.cmb_kernel.specs.declared.event.Event.TheVariants.{Deliver, Advance}
-use Rattle.cmb_kernel.specs.State.{State, Run, nets_of}
+use Rattle.cmb_kernel.specs.State.{State, KernelView, nets_of}
 use Rattle.cmb_kernel.specs.Step.{after_deliver, step, steps, deliveries_from, round_events}
-use Rattle.cmb_kernel.proofs.Progress.{steps-append}
+use Rattle.cmb_kernel.proofs.LeastFrontier.{steps-append}
 
 -- a run that came this far goes on
-pub moved_on : {now next : Run} {reached after : State} (run : Run) (change : State → State) → now ≡ record run { state = reached } →
+pub moved_on : {now next : KernelView} {reached after : State} (run : KernelView) (change : State → State) → now ≡ record run { state = reached } →
     next ≡ record now { state = change now.state } → change reached ≡ after → next ≡ record run { state = after }
-moved_on run change came goes is = goes ∙ ap (λ (r : Run). record r { state = change r.state }) came ∙ ap (λ s. record run { state = s }) is
+moved_on run change came goes is = goes ∙ ap (λ (r : KernelView). record r { state = change r.state }) came ∙ ap (λ s. record run { state = s }) is
 
 -- one more event of a list
 pub steps_more : (state : State) (events : List Event) (at : ℕ) (d : Event) → at < length events →
@@ -74,18 +74,18 @@ deliveries_more pin state below =
     drop_more at lists h = drop-cons lists at [] h ∙ ap (λ n. slice_index_or lists at [] ∷ drop n lists) (let e : suc at ≡ at + 1 = omega arith in e)
 
 -- pins took what waited, up to this one; what is left of the deliveries leads where all of them do
-pub record DeliveredTo (start now : Run) (pin : ℕ) : Type 0 where
+pub record DeliveredTo (start now : KernelView) (pin : ℕ) : Type 0 where
   pub run : now ≡ record start { state = now.state }
   pub lists : length now.state.lists ≡ length start.state.lists
   pub left : steps now.state (deliveries_from pin (drop pin now.state.lists)) ≡ steps start.state (deliveries_from 0 start.state.lists)
 
-pub delivered_more : (start now next : Run) (pin : ℕ) → pin < length now.state.lists → DeliveredTo start now pin →
+pub delivered_more : (start now next : KernelView) (pin : ℕ) → pin < length now.state.lists → DeliveredTo start now pin →
     next ≡ record now { state = steps now.state (replicate (length (slice_index_or now.state.lists pin [])) (Deliver pin)) } →
     DeliveredTo start next (pin + 1)
 delivered_more start now next pin below so_far goes =
-    let came : next.state ≡ steps now.state (replicate (length (slice_index_or now.state.lists pin [])) (Deliver pin)) = ap (λ (r : Run). r.state) goes in
+    let came : next.state ≡ steps now.state (replicate (length (slice_index_or now.state.lists pin [])) (Deliver pin)) = ap (λ (r : KernelView). r.state) goes in
     record {
-      run = goes ∙ ap (λ (r : Run). record r { state = steps now.state (replicate (length (slice_index_or now.state.lists pin [])) (Deliver pin)) }) so_far.run
+      run = goes ∙ ap (λ (r : KernelView). record r { state = steps now.state (replicate (length (slice_index_or now.state.lists pin [])) (Deliver pin)) }) so_far.run
           ∙ ap (λ s. record start { state = s }) (sym came);
       lists = ap (λ (s : State). length s.lists) came ∙ length-delivered pin (length (slice_index_or now.state.lists pin [])) now.state ∙ so_far.lists;
       left = ap (λ (s : State). steps s (deliveries_from (pin + 1) (drop (pin + 1) s.lists))) came

@@ -9,17 +9,16 @@ use Rattle.design.specs.Circuit.{Net, Circuit, IsCircuit, pin_count}
 use Rattle.design.specs.Design.{DesignView}
 use Rattle.design.specs.Equations.{value_of, waves_of}
 use Rattle.design.specs.Pins.{first_pin, net_of_pin, place_of_pin}
-use Rattle.design.proofs.Numbers.{pin_is}
-use Rattle.design.proofs.WellFormed.{All-slice_get, IsCircuit-from_IsDesign}
+use Rattle.design.proofs.CallerLemmas.{pin_is, All-slice_get, IsCircuit-from_IsDesign}
 use Rattle.cmb_channels.specs.declared.message.Message.{Message}
-use Rattle.cmb_channels.proofs.Places.{view_at}
+use Rattle.cmb_channels.proofs.CallerLemmas.{view_at}
 use Rattle.gate_process.specs.Knowledge.{Knowledge}
 use Rattle.gate_process.specs.Step.{ProcessState, ProcessView, running}
 use Rattle.cmb_kernel.specs.declared.counts.Counts.{Counts}
-use Rattle.cmb_kernel.specs.State.{State, Run, nets_of, frontier_at, received_of, received_at, IsComplete, waves_in}
+use Rattle.cmb_kernel.specs.State.{State, KernelView, nets_of, frontier_at, received_of, received_at, IsComplete, waves_in}
 use Rattle.cmb_kernel.specs.Running.{state_of, IsRunning}
-use Rattle.cmb_kernel.proofs.Truth.{net_at}
-use Rattle.cmb_kernel.proofs.Progress.{net_count}
+use Rattle.cmb_kernel.proofs.Soundness.{net_at}
+use Rattle.cmb_kernel.proofs.LeastFrontier.{net_count}
 use Rattle.cmb_kernel.proofs.Completion.{frontier_within}
 use Rattle.cmb_kernel.proofs.Consequences.{knows_net}
 
@@ -131,7 +130,7 @@ module _ {design : DesignView} {end : ℕ} {processes : List ProcessView} {sourc
 -- a run that goes on from one that hasn't failed
 pub goes_on : {circuit same_circuit : Circuit} {end same_end : ℕ} {failed : Bool} {new next : State} → same_circuit ≡ circuit → same_end ≡ end →
     failed ≡ false → new ≡ next →
-    ◌≡◌ {A = Run} (record { circuit = same_circuit; end = same_end; failed = false; state = new })
+    ◌≡◌ {A = KernelView} (record { circuit = same_circuit; end = same_end; failed = false; state = new })
     (record { circuit = circuit; end = end; failed = failed; state = next })
 goes_on same ends runs goes = λ i. record { circuit = same i; end = ends i; failed = sym runs i; state = goes i }
 

@@ -1,8 +1,10 @@
 pub mod State
 pub mod Step
+pub mod Useful
 pub mod Sound
 pub mod Schedule
 pub mod Refusals
+pub mod Calls
 pub mod Running
 pub use Rattle.logic3.specs.Gate
 pub use Rattle.logic3.specs.Wave

@@ -7,7 +7,7 @@ use Rattle.cmb_kernel.specs.declared.event.Event.TheVariants.{Deliver, Advance}
 use Rattle.cmb_kernel.specs.declared.fault.KernelFault.{KernelFault}
 use Rattle.cmb_kernel.specs.declared.fault.KernelFault.TheVariants.{NoSuchPin, NoSuchNet, TooManyEvents, Failed}
 use Rattle.cmb_kernel.specs.Schedule.{most_events}
-use Rattle.cmb_kernel.specs.State.{Run}
+use Rattle.cmb_kernel.specs.State.{KernelView}
 
 -- what is wrong with the event at this place of a list
 abbrev pub event_fault : Circuit → ℕ → Event → Option KernelFault
@@ -24,8 +24,8 @@ abbrev pub list_fault : Circuit → List Event → Option KernelFault
 list_fault circuit events = if nat_lt most_events (length events) then Some TooManyEvents else first_fault circuit 0 events
 
 -- what a kernel refuses a call with: one that has failed refuses each
-abbrev pub refusal : Run → Option KernelFault → Option KernelFault
-refusal run fault = if run.failed then Some Failed else fault
+abbrev pub refusal : KernelView → Option KernelFault → Option KernelFault
+refusal kernel fault = if kernel.failed then Some Failed else fault
 
 -- the answer of a call that is refused, or else has this to say
 abbrev pub answer : {A : Type 0} → Option KernelFault → A → Result A KernelFault

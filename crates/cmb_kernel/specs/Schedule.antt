@@ -4,7 +4,8 @@ use Rattle.std.specs.Option.{option_map_or, ok_or}
 use Rattle.rand_core.specs.Steps.{first_words}
 use Rattle.rand_core.specs.Pcg32Seed.{pcg32_seed}
 use Rattle.rand_pcg.specs.Pcg.{pcg32, pcg32_of_seed}
-use Rattle.bench_text.specs.Text.{◌>>=◌, all_or_fault, code_lines, words_of, number_of, is_plain, longest_text}
+use Rattle.bench_text.specs.Text.{◌>>=◌, words_of, number_of, is_plain, unless_too_long}
+use Rattle.bench_text.specs.Fold.{fold_text, one_a_line}
 use Rattle.design.specs.Circuit.{Net, Circuit, pin_count}
 use Rattle.design.specs.Pins.{first_pin}
 use Rattle.cmb_kernel.specs.declared.event.Event.{Event}
@@ -55,14 +56,13 @@ abbrev pub event_or_fault : Circuit → ℕ × List ℕ → Result Event Schedul
 event_or_fault circuit (line, code) =
     if is_plain code then event_of_words circuit line (words_of code) else Err (BadLine line)
 
--- the events that lines give, or the first fault
-abbrev pub events_in : Circuit → List (ℕ × List ℕ) → Result (List Event) ScheduleFault
-events_in circuit lines = all_or_fault (map (event_or_fault circuit) lines)
+-- the events of earlier lines and then that of this line, or its first fault
+abbrev pub events_after : Circuit → List Event → ℕ × List ℕ → Result (List Event) ScheduleFault
+events_after circuit = one_a_line (event_or_fault circuit)
 
--- the events that a text gives, or its first fault
+-- the events that a text gives, line after line, or its first fault
 abbrev pub events_of : Circuit → List ℕ → Result (List Event) ScheduleFault
-events_of circuit text =
-    if nat_lt longest_text (length text) then Err TooLong else events_in circuit (code_lines text)
+events_of circuit text = unless_too_long TooLong (fold_text (events_after circuit) []) text
 
 -- ---- from a seed
 

@@ -1,4 +1,4 @@
-use Rattle.std.specs.Prelude.{◌≡◌, ℕ, ◌+◌, ◌-◌, ◌/◌, ◌==◌, Bool, false, List, [], map, replicate, sum_by, All, slice_get, slice_index_or}
+use Rattle.std.specs.Prelude.{◌≡◌, ℕ, ◌+◌, ◌-◌, ◌/◌, ◌==◌, Bool, false, List, [], map, replicate, All, slice_get, slice_index_or}
 use Rattle.std.specs.List.{list_all}
 use Rattle.std.specs.Option.{option_map_or}
 use Rattle.logic3.specs.Wave.{Wave}
@@ -60,25 +60,17 @@ IsComplete state = All (λ (process : ProcessState). process.known.frontier ≡ 
 abbrev pub is_complete : State → Bool
 is_complete state = list_all (λ (process : ProcessState). process.known.frontier == process.end) state.processes
 
--- how far a process knows itself and its pins, in all
-abbrev pub progress_of : ProcessState → ℕ
-progress_of process = process.known.frontier + sum_by (λ (known : Knowledge). known.frontier) process.received
-
--- the sum of all frontiers, of the nets and of what the pins received
-abbrev pub progress : State → ℕ
-progress state = sum_by progress_of state.processes
-
 -- the waveforms of all nets
 abbrev pub waves_in : State → List Wave
 waves_in state = map (λ (process : ProcessState). process.known.wave) state.processes
 
 -- what a kernel is seen as
-pub record Run : Type 0 where
+pub record KernelView : Type 0 where
   pub circuit : Circuit
   pub end : ℕ
   pub failed : Bool
   pub state : State
 
 -- a kernel to which nothing happened yet
-abbrev pub fresh : Circuit → ℕ → Run
+abbrev pub fresh : Circuit → ℕ → KernelView
 fresh circuit end = record { circuit = circuit; end = end; failed = false; state = started circuit end }

@@ -1,4 +1,4 @@
-use Rattle.std.specs.Prelude.{ℕ, zero, suc, ◌+◌, min, nat_lt, if◌then◌else◌, Bool, true, false, List, [], ◌∷◌, ◌++◌, length, map, replicate, count_by, slice_get, slice_index_or}
+use Rattle.std.specs.Prelude.{ℕ, zero, suc, ◌+◌, min, if◌then◌else◌, Bool, true, false, List, [], ◌∷◌, ◌++◌, length, map, replicate, count_by, slice_get, slice_index_or}
 use Rattle.std.specs.List.{range_with_len}
 use Rattle.std.specs.Option.{option_map_or}
 use Rattle.cmb_kernel.specs.declared.counts.Counts.{Counts}
@@ -9,7 +9,7 @@ use Rattle.cmb_channels.specs.declared.message.Message.TheVariants.{Change as Ch
 use Rattle.cmb_channels.specs.Lists.{update, sent, taken}
 use Rattle.design.specs.Pins.{sources_of, net_of_pin, place_of_pin}
 use Rattle.gate_process.specs.Step.{advanced, news, heard, drained}
-use Rattle.cmb_kernel.specs.State.{State, nets_of, progress, is_complete}
+use Rattle.cmb_kernel.specs.State.{State, nets_of, is_complete}
 
 -- one more, but no more than a u64 holds
 abbrev pub one_more : ℕ → ℕ
@@ -69,25 +69,6 @@ after_drain state net bound = record state { processes = update (drained bound) 
 abbrev pub steps : State → List Event → State
 steps state [] = state
 steps state (event ∷ events) = steps (step state event) events
-
--- the event raises a frontier
-abbrev pub is_useful : State → Event → Bool
-is_useful state event = nat_lt (progress state) (progress (step state event))
-
--- how many of some events are useful when they come
-abbrev pub useful_count : State → List Event → ℕ
-useful_count state [] = 0
-useful_count state (event ∷ events) = (if is_useful state event then 1 else 0) + useful_count (step state event) events
-
-abbrev pub is_advance : Event → Bool
-is_advance (Deliver pin) = false
-is_advance (Advance net) = true
-
--- how many of some events are useful Advances
-abbrev pub useful_advances : State → List Event → ℕ
-useful_advances state [] = 0
-useful_advances state (event ∷ events) =
-    (if is_advance event then (if is_useful state event then 1 else 0) else 0) + useful_advances (step state event) events
 
 -- a delivery for each waiting message, of the pins from one on
 abbrev pub deliveries_from : ℕ → List (List Message) → List Event

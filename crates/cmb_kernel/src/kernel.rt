@@ -8,8 +8,9 @@ ghost use Rattle.cmb_kernel.specs.State.{fresh, frontier_at, received_at};
 ghost use Rattle.cmb_kernel.specs.Sound.{IsSound};
 
 mod events;
-mod progress;
+mod frontiers;
 mod rounds;
+mod useful;
 
 use crate::counts::Counts;
 use crate::fault::KernelFault;
@@ -38,10 +39,10 @@ pub struct Kernel<'d, F: Fabric> {
 
 impl<'d, F: Fabric> Model for Kernel<'d, F> {
     ghost use Rattle.std.specs.Prelude.{◌≡◌, false};
-    ghost use Rattle.cmb_kernel.specs.State.{Run};
+    ghost use Rattle.cmb_kernel.specs.State.{KernelView};
     ghost use Rattle.cmb_kernel.specs.Running.{state_of, IsRunning};
 
-    ghost Value = { Run };
+    ghost Value = { KernelView };
 
     ghost view = { λ k. record {
       circuit = k.design.now.circuit;

@@ -1,16 +1,16 @@
 //! Schedules: lists of events, from a text or from a seed.
-ghost use Rattle.std.specs.Prelude.{◌≡◌, ◌≢◌, ◌<◌, ◌≤◌, length, map, All, IfOk};
+ghost use Rattle.std.specs.Prelude.{◌≡◌, ◌≢◌, ◌<◌, ◌≤◌, [], length, All, IfOk};
 ghost use Rattle.cmb_kernel.specs.Schedule.{delivery_at, event_of_words, event_or_fault, events_of, most_events, net_in, pick_of, picks_of};
 ghost use Rattle.cmb_kernel.specs.Sound.{Exists};
 
 use crate::event::{Event, MOST_EVENTS};
 use crate::schedule_fault::ScheduleFault;
-use bench_text::text::{LONGEST_TEXT, code_lines, is_plain, number, words};
+use bench_text::text::{LONGEST_TEXT, Words, code_lines, is_plain, number, words_of};
 use design::Design;
 use rand_core::SeedableRng;
 use rand_core::utils::NextWord;
 use rand_pcg::Lcg64Xsh32;
-use std::alloc::{AllocError, Global};
+use std::alloc::Global;
 use std::marker::Model;
 
 /// A list of at most 10,000,000 events, each of a pin or a net that the design has.
@@ -29,6 +29,15 @@ impl Model for Schedule {
 }
 
 impl Schedule {
+    /// No events. Takes no memory.
+    pub fn empty(alloc: Global) -> Schedule
+        ensures { result ≡ [] }
+    {
+        Schedule {
+            events: Vec::new(alloc),
+        }
+    }
+
     /// The events that a text asks for, a line each: `advance NAME`, or `deliver NAME PLACE` for the
     /// net's pin at a place, counted from 0. Comments and lines without words are passed over.
     ///
@@ -45,7 +54,7 @@ impl Schedule {
         }
         let mut events = Vec::new(alloc);
         for (line, code) in code_lines(text) {
-            let event = event_of(alloc, design, line, code)?;
+            let event = event_of(design, line, code)?;
             events.push(event)?;
         }
         Ok(Schedule { events })
@@ -103,28 +112,27 @@ fn pick_of(design: &Design, word: u32) -> Event
 }
 
 /// The event of the line of this number, or its first fault; `code` is the line without its comment.
-fn event_of(alloc: Global, design: &Design, line: u64, code: &[u8]) -> Result<Event, ScheduleFault>
-    ensures event { result ≢ Err ScheduleFault.Memory → result ≡ event_or_fault design.now.circuit (line, code.now) }
+fn event_of(design: &Design, line: u64, code: &[u8]) -> Result<Event, ScheduleFault>
+    ensures event { result ≡ event_or_fault design.now.circuit (line, code.now) }
     ensures exists { IfOk result (Exists design.now.circuit) }
 {
     if !is_plain(code) {
         return Err(ScheduleFault::BadLine { line });
     }
-    let words = words(alloc, code)?;
-    event_of_words(design, line, words.as_slice())
+    event_of_words(design, line, words_of(code))
 }
 
 /// The event that the words of a line ask for.
-fn event_of_words(design: &Design, line: u64, words: &[&[u8]]) -> Result<Event, ScheduleFault>
-    ensures event { result ≡ event_of_words design.now.circuit line (map (λ word. word.now) words.now) }
+fn event_of_words(design: &Design, line: u64, mut words: Words<'_>) -> Result<Event, ScheduleFault>
+    ensures event { result ≡ event_of_words design.now.circuit line words.entry }
     ensures exists { IfOk result (Exists design.now.circuit) }
 {
-    match words {
-        [verb, name] if *verb == b"advance".as_slice() => {
+    match (words.next(), words.next(), words.next(), words.next()) {
+        (Some(verb), Some(name), None, None) if verb == b"advance".as_slice() => {
             let net = net_in(design, line, name)?;
             Ok(Event::Advance(net))
         }
-        [verb, name, word] if *verb == b"deliver".as_slice() => {
+        (Some(verb), Some(name), Some(word), None) if verb == b"deliver".as_slice() => {
             let place = number(word).ok_or(ScheduleFault::BadLine { line })?;
             let net = net_in(design, line, name)?;
             delivery_at(design, line, net, place)

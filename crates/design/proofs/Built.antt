@@ -1,5 +1,5 @@
 -- The design that a netlist makes with its texts and settings.
-use Rattle.std.proofs.Common.{◌≡◌, ◌≢◌, ℕ, ◌≤◌, Bool, true, false, cond, not, List, [], ◌∷◌, length, map, Option, None, Some, Result, Ok, Err, All, refl, ap, sym, subst, ◌∙◌}
+use Rattle.std.proofs.Common.{◌≡◌, ◌≢◌, ℕ, ◌≤◌, Bool, true, false, cond, not, List, [], ◌∷◌, length, get_or, map, Option, None, Some, Result, Ok, Err, All, refl, ap, sym, subst, ◌∙◌}
 use Rattle.std.specs.Result.{result_map_both}
 use Rattle.std.specs.Option.{option_map_or}
 use Rattle.std.proofs.lemmas.Bool.{and_parts, leb-true}
@@ -24,7 +24,8 @@ use Rattle.design.specs.Delays.{DelayLine, delays_of, net_delays, delay_of_net}
 use Rattle.design.specs.Stimuli.{NamedChange, stimuli_of, net_stimuli, stimuli_named}
 use Rattle.design.specs.Faults.{timing_fault, stimulus_fault}
 use Rattle.design.specs.Build.{circuit_with, circuit_of, design_of}
-use Rattle.design.proofs.Ranges.{HasDelay-delays_of, HasStimuli-stimuli_of}
+use Rattle.design.proofs.DelaysInRange.{HasDelay-delays_of}
+use Rattle.design.proofs.StimuliInRange.{HasStimuli-stimuli_of}
 
 -- nets without what timed them
 untimed-timed : (delay : NetView → ℕ) (stimuli : NetView → List Change) (period : ℕ) (nets : List NetView) →
@@ -113,10 +114,10 @@ module _ {netlist : NetlistView} {delay_text stimulus_text : List ℕ} {default 
   all_timed : IsNetlist netlist → All IsTimed (circuit_with netlist given.lines given.changes default period)
   all_timed ok =
       let range = InRange-option_fault default period given.no_fault in
-      let delayed = HasDelay-delays_of netlist delay_text default given.lines range.delay_in_range.0 range.delay_in_range.1 given.lines_are in
-      let stimulated = HasStimuli-stimuli_of netlist stimulus_text given.changes ok given.changes_are in
+      let delayed = HasDelay-delays_of netlist delay_text default given.lines given.lines_are range.delay_in_range.0 range.delay_in_range.1 in
+      let stimulated = HasStimuli-stimuli_of netlist stimulus_text given.changes ok.distinct given.changes_are in
       All-map IsTimed _ netlist.nets
-      (λ k d below. record { delay = delayed k d below; period = range.period_in_range; stimuli = stimulated k d below })
+      (λ k d below. record { delay = delayed (get_or netlist.nets k d); period = range.period_in_range; stimuli = stimulated k d below })
 
   -- and its parts fit together
   pub IsJoined-given : (first_pins : List ℕ) → IsNetlist netlist → first_pins ≡ first_pins_of netlist → IsJoined netlist first_pins delays period stimuli

@@ -1,5 +1,5 @@
 -- The delays of a text lie in their range.
-use Rattle.std.proofs.Common.{◌≡◌, ℕ, ◌≤◌, Bool, true, false, cond, not, leb, List, [], ◌∷◌, ◌++◌, Ok, Err, Option, None, Some, All, option_map, length, ltb, refl, subst}
+use Rattle.std.proofs.Common.{◌≡◌, ℕ, ◌≤◌, Bool, true, false, cond, not, leb, List, [], ◌∷◌, ◌++◌, Ok, Err, Option, None, Some, All, option_map, refl, subst}
 use Rattle.std.specs.List.{find}
 use Rattle.std.specs.Option.{is_some, option_map_or, unwrap_or}
 use Rattle.std.specs.Str.{bytes_eq}
@@ -7,13 +7,14 @@ use Rattle.std.proofs.lemmas.Bool.{and_parts, leb-true}
 use Rattle.std.proofs.lemmas.List.Elements.{All-nil, All-head, All-tail, All-push}
 use Rattle.bench_text.specs.declared.part.Part.{Part}
 use Rattle.bench_text.specs.declared.part.Part.TheVariants.{Input, Gate, Flop}
-use Rattle.bench_text.specs.Text.{code_lines, longest_text}
+use Rattle.bench_text.specs.Text.{code_lines}
+use Rattle.bench_text.specs.Fold.{fold_text}
 use Rattle.bench_text.specs.Netlist.{NetView, NetlistView}
 use Rattle.design.specs.declared.fault.DelayFault.TheVariants.{TooLong, BadLine, IsInput, BadTicks, Twice}
 use Rattle.design.specs.Circuit.{most_delay, HasDelay}
 use Rattle.design.specs.Options.{is_in_limits}
 use Rattle.design.specs.Delays.{DelayLine, delay_in, delay_at, delay_or_fault, with_delay, delays_after, delays_of, delay_named, delay_of_net, delay_of_part, find_net, is_input, ticks_named}
-use Rattle.design.proofs.Steps.{bind-Ok}
+use Rattle.bench_text.proofs.CallerLemmas.{bind-Ok, fold_lines-keeps, unless_too_long-Ok}
 
 abbrev InLimits : ℕ → Type 0
 InLimits ticks = (1 ≤ ticks) × (ticks ≤ most_delay)
@@ -53,24 +54,18 @@ with_delay-more earlier more line delay same = go (is_some (ticks_named earlier 
     go false same = (cc)
 
 -- each line's delay is in its limits
-delays_after-IsDelay : (netlist : NetlistView) (lines : List (ℕ × List ℕ)) (earlier delays : List DelayLine) → All IsDelay earlier →
-    delays_after netlist earlier lines ≡ Ok delays → All IsDelay delays
-delays_after-IsDelay netlist [] earlier delays fit same =
-    let equal : earlier ≡ delays = (cc) in subst (λ delays. All IsDelay delays) equal fit
-delays_after-IsDelay netlist (line ∷ lines) earlier delays fit same =
-    let given = bind-Ok (delay_or_fault netlist line) _ delays same in
-    let more = bind-Ok (with_delay earlier line.0 given.0) _ delays given.2 in
-    delays_after-IsDelay netlist lines more.0 delays
-    (subst (λ delays. All IsDelay delays) (with_delay-more earlier more.0 line.0 given.0 more.1)
-    (All-push IsDelay earlier given.0 fit (delay_or_fault-IsDelay netlist line given.0 given.1)))
-    more.2
+delays_after-IsDelay : (netlist : NetlistView) (earlier more : List DelayLine) (line : ℕ × List ℕ) → All IsDelay earlier →
+    delays_after netlist earlier line ≡ Ok more → All IsDelay more
+delays_after-IsDelay netlist earlier more line fit same =
+    let given = bind-Ok (delay_or_fault netlist line) (with_delay earlier line.0) more same in
+    subst (λ delays. All IsDelay delays) (with_delay-more earlier more line.0 given.0 given.2)
+    (All-push IsDelay earlier given.0 fit (delay_or_fault-IsDelay netlist line given.0 given.1))
 
 delays_of-IsDelay : (netlist : NetlistView) (text : List ℕ) (delays : List DelayLine) → delays_of netlist text ≡ Ok delays → All IsDelay delays
-delays_of-IsDelay netlist text delays same = go (ltb longest_text (length text)) same
-  where
-    go : (long : Bool) → cond long (Err TooLong) (delays_after netlist [] (code_lines text)) ≡ Ok delays → All IsDelay delays
-    go true same = (cc)
-    go false same = delays_after-IsDelay netlist (code_lines text) [] delays (All-nil IsDelay) same
+delays_of-IsDelay netlist text delays same =
+    fold_lines-keeps (delays_after netlist) (λ given left. All IsDelay given)
+    (λ earlier more line rest fit step. delays_after-IsDelay netlist earlier more line fit step)
+    (code_lines text) [] delays (All-nil IsDelay) (unless_too_long-Ok TooLong (fold_text (delays_after netlist) []) text delays same)
 
 delay_named-InLimits : (delays : List DelayLine) (default : ℕ) (name : List ℕ) → All IsDelay delays → InLimits default →
     InLimits (delay_named delays default name)

@@ -1,21 +1,22 @@
 -- The delays given so far, by net number.
-use Rattle.std.proofs.Common.{◌≡◌, ◌≢◌, ℕ, ◌<◌, ◌≤◌, Bool, true, false, cond, List, [], ◌∷◌, ◌++◌, length, map, get_or, set, replicate, Option, None, Some, Ok, Err, option_map, refl, sym, ap, ◌∙◌, arith}
+use Rattle.std.proofs.Common.{◌≡◌, ◌≢◌, ℕ, ◌<◌, ◌≤◌, Bool, true, false, cond, List, [], ◌∷◌, ◌++◌, length, map, get_or, set, replicate, Option, None, Some, Ok, Err, option_map, refl, sym, ap, ◌∙◌}
 use Rattle.std.specs.List.{find}
 use Rattle.std.specs.Option.{is_some, option_or}
 use Rattle.std.specs.Str.{bytes_eq}
-use Rattle.std.proofs.lemmas.Bool.Decides.{nat_tests}
 use Rattle.std.proofs.lemmas.List.{get_or-map}
 use Rattle.std.proofs.lemmas.List.Folds.{find-append}
 use Rattle.bench_text.specs.Text.{◌>>=◌, code_lines, longest_text}
+use Rattle.bench_text.specs.Fold.{fold_lines, fold_text}
 use Rattle.bench_text.specs.Netlist.{NetView, NetlistView, net_at}
-use Rattle.design.specs.declared.fault.DelayFault.TheVariants.{Twice}
+use Rattle.design.specs.declared.fault.DelayFault.TheVariants.{TooLong, Twice}
 use Rattle.design.specs.Delays.{DelayLine, delay_or_fault, with_delay, delays_after, delays_of, net_ticks, ticks_named}
-use Rattle.design.proofs.Named.{HasDistinctNames, no_net, bytes_eq-same, bytes_eq-other, map-named}
+use Rattle.bench_text.proofs.CallerLemmas.{bytes_eq-same, bytes_eq-other, fold_lines-next, unless_too_long-short}
+use Rattle.design.proofs.Named.{HasDistinctNames, no_net, map-named}
 
 -- earlier lines gave each net its ticks, and some lines are left of all
 pub record Given (netlist : NetlistView) (all left : List (ℕ × List ℕ)) (ticks : List (Option ℕ)) : Type 0 where
   pub earlier : List DelayLine
-  pub rest : delays_after netlist [] all ≡ delays_after netlist earlier left
+  pub rest : fold_lines (delays_after netlist) [] all ≡ fold_lines (delays_after netlist) earlier left
   pub held : ticks ≡ net_ticks netlist earlier
 
 -- at first no net has ticks
@@ -63,10 +64,11 @@ ticks_named-others delays delay name apart =
 -- the next line leaves the reading to the rest of the lines
 next-after : {netlist : NetlistView} {all left rest : List (ℕ × List ℕ)} {ticks : List (Option ℕ)} {line : ℕ} {code : List ℕ} {delay : DelayLine} →
     (given : Given netlist all left ticks) → left ≡ (line, code) ∷ rest → Ok delay ≡ delay_or_fault netlist (line, code) →
-    delays_after netlist [] all ≡ with_delay given.earlier line delay >>= λ delays. delays_after netlist delays rest
-next-after {netlist = netlist} {rest = rest} {line = line} given turn gives =
-    given.rest ∙ ap (delays_after netlist given.earlier) turn
-    ∙ ap (λ result. result >>= λ delay. with_delay given.earlier line delay >>= λ delays. delays_after netlist delays rest) (sym gives)
+    fold_lines (delays_after netlist) [] all ≡ with_delay given.earlier line delay >>= λ delays. fold_lines (delays_after netlist) delays rest
+next-after {netlist = netlist} {line = line} {delay = delay} given turn gives =
+    given.rest
+    ∙ fold_lines-next (delays_after netlist) given.earlier (with_delay given.earlier line delay) turn
+    (ap (λ result. result >>= with_delay given.earlier line) (sym gives))
 
 -- what a net holds is what earlier lines give its name
 had-named : {netlist : NetlistView} {all left : List (ℕ × List ℕ)} {ticks : List (Option ℕ)} {net : ℕ} {had : Option ℕ} →
@@ -81,11 +83,11 @@ pub Given-twice : {netlist : NetlistView} {all left rest : List (ℕ × List ℕ
     Given netlist all left ticks → left ≡ (line, code) ∷ rest → net < length netlist.nets →
     Ok (record { name = (net_at netlist net).name; ticks = number }) ≡ delay_or_fault netlist (line, code) →
     had ≡ get_or ticks net had → is_some had ≡ true →
-    delays_after netlist [] all ≡ Err (Twice line)
+    fold_lines (delays_after netlist) [] all ≡ Err (Twice line)
 Given-twice {netlist = netlist} {rest = rest} {line = line} {net = net} {number = number} given turn within gives held some =
     next-after given turn gives
     ∙ ap (λ test. cond test (Err (Twice line)) (Ok (given.earlier ++ record { name = (net_at netlist net).name; ticks = number } ∷ []))
-    >>= λ delays. delays_after netlist delays rest) (ap is_some (had-named given within held) ∙ some)
+    >>= λ delays. fold_lines (delays_after netlist) delays rest) (ap is_some (had-named given within held) ∙ some)
 
 none-from : (ticks : Option ℕ) → is_some ticks ≡ false → ticks ≡ None
 none-from None none = refl
@@ -101,7 +103,7 @@ Given-more {netlist = netlist} {rest = rest} {line = line} {net = net} {number =
     record {
       earlier = given.earlier ++ delay ∷ [];
       rest = next-after given turn gives
-          ∙ ap (λ ticks. cond (is_some ticks) (Err (Twice line)) (Ok (given.earlier ++ delay ∷ [])) >>= λ delays. delays_after netlist delays rest) had_none;
+          ∙ ap (λ ticks. cond (is_some ticks) (Err (Twice line)) (Ok (given.earlier ++ delay ∷ [])) >>= λ delays. fold_lines (delays_after netlist) delays rest) had_none;
       held = ap (λ ticks. set ticks net (Some number)) given.held
           ∙ ap (set (net_ticks netlist given.earlier) net) (sym (ticks_named-own given.earlier delay had_none))
           ∙ sym (map-named netlist.nets (ticks_named given.earlier) (ticks_named (given.earlier ++ delay ∷ [])) net distinct within
@@ -116,5 +118,5 @@ Given-more {netlist = netlist} {rest = rest} {line = line} {net = net} {number =
 
 -- a text that isn't too long is read line by line
 pub delays_of-lines : (netlist : NetlistView) (text : List ℕ) → length text ≤ longest_text →
-    delays_of netlist text ≡ delays_after netlist [] (code_lines text)
-delays_of-lines netlist text short = grind (arith, nat_tests)
+    delays_of netlist text ≡ fold_lines (delays_after netlist) [] (code_lines text)
+delays_of-lines netlist text short = unless_too_long-short TooLong (fold_text (delays_after netlist) []) text short

@@ -1,22 +1,24 @@
 -- The stimuli given so far, by net number.
 use Rattle.std.proofs.Common.{◌≡◌, ℕ, ◌<◌, ◌≤◌, true, false, cond, not, List, [], ◌∷◌, ◌++◌, length, map, get_or, set, replicate, Ok, Err, refl, sym, ap, ◌∙◌, arith}
-use Rattle.std.proofs.lemmas.Bool.Decides.{nat_tests}
 use Rattle.std.proofs.lemmas.List.{get_or-map, length-map}
 use Rattle.logic3.specs.declared.change.Change.{Change}
+use Rattle.logic3.specs.Rising.{TicksRise}
 use Rattle.bench_text.specs.Text.{◌>>=◌, code_lines, longest_text}
+use Rattle.bench_text.specs.Fold.{fold_lines, fold_text}
 use Rattle.bench_text.specs.Netlist.{NetView, NetlistView, net_at}
-use Rattle.design.specs.declared.fault.StimulusFault.TheVariants.{NotRising}
+use Rattle.design.specs.declared.fault.StimulusFault.TheVariants.{TooLong, NotRising}
 use Rattle.design.specs.Stimuli.{NamedChange, stimulus_or_fault, with_stimulus, stimuli_after, stimuli_of, net_stimuli, stimuli_named}
+use Rattle.bench_text.proofs.CallerLemmas.{fold_lines-next, unless_too_long-short}
 use Rattle.design.proofs.Named.{HasDistinctNames, no_net, map-named}
-use Rattle.design.proofs.Rising.{Rises, is_reached, is_after_last, is_reached-last}
-use Rattle.design.proofs.StimuliNamed.{Rises-more, stimuli_named-own, stimuli_named-others}
+use Rattle.design.proofs.Rising.{is_reached, is_after_last, is_reached-last}
+use Rattle.design.proofs.StimuliNamed.{TicksRise-more, stimuli_named-own, stimuli_named-others}
 
 -- earlier lines gave each net its stimuli, and some lines are left of all
 pub record Given (netlist : NetlistView) (all left : List (ℕ × List ℕ)) (changes : List (List Change)) : Type 0 where
   pub earlier : List NamedChange
-  pub rest : stimuli_after netlist [] all ≡ stimuli_after netlist earlier left
+  pub rest : fold_lines (stimuli_after netlist) [] all ≡ fold_lines (stimuli_after netlist) earlier left
   pub held : changes ≡ net_stimuli netlist earlier
-  pub rise : (name : List ℕ) → Rises (stimuli_named earlier name)
+  pub rise : (name : List ℕ) → TicksRise (stimuli_named earlier name)
 
 -- there are the changes of each net
 pub Given-length : {netlist : NetlistView} {all left : List (ℕ × List ℕ)} {changes : List (List Change)} → Given netlist all left changes →
@@ -50,10 +52,11 @@ Given-first netlist all changes none = record {
 -- the next line leaves the reading to the rest of the lines
 next-after : {netlist : NetlistView} {all left rest : List (ℕ × List ℕ)} {changes : List (List Change)} {line : ℕ} {code : List ℕ} {s : NamedChange} →
     (given : Given netlist all left changes) → left ≡ (line, code) ∷ rest → Ok s ≡ stimulus_or_fault netlist (line, code) →
-    stimuli_after netlist [] all ≡ with_stimulus given.earlier line s >>= λ stimuli. stimuli_after netlist stimuli rest
-next-after {netlist = netlist} {rest = rest} {line = line} given turn gives =
-    given.rest ∙ ap (stimuli_after netlist given.earlier) turn
-    ∙ ap (λ result. result >>= λ s. with_stimulus given.earlier line s >>= λ stimuli. stimuli_after netlist stimuli rest) (sym gives)
+    fold_lines (stimuli_after netlist) [] all ≡ with_stimulus given.earlier line s >>= λ stimuli. fold_lines (stimuli_after netlist) stimuli rest
+next-after {netlist = netlist} {line = line} {s = s} given turn gives =
+    given.rest
+    ∙ fold_lines-next (stimuli_after netlist) given.earlier (with_stimulus given.earlier line s) turn
+    (ap (λ result. result >>= with_stimulus given.earlier line) (sym gives))
 
 -- what a net holds is what earlier lines give its name
 had-named : {netlist : NetlistView} {all left : List (ℕ × List ℕ)} {changes : List (List Change)} {net : ℕ} {had : List Change} →
@@ -76,11 +79,11 @@ pub Given-stops : {netlist : NetlistView} {all left rest : List (ℕ × List ℕ
     Given netlist all left changes → left ≡ (line, code) ∷ rest → net < length netlist.nets →
     Ok (record { name = (net_at netlist net).name; change = change }) ≡ stimulus_or_fault netlist (line, code) →
     had ≡ get_or changes net had → is_after_last change.tick had ≡ false →
-    stimuli_after netlist [] all ≡ Err (NotRising line)
+    fold_lines (stimuli_after netlist) [] all ≡ Err (NotRising line)
 Given-stops {netlist = netlist} {rest = rest} {line = line} {net = net} {change = change} given turn within gives held early =
     next-after given turn gives
     ∙ ap (λ test. cond test (Err (NotRising line)) (Ok (given.earlier ++ record { name = (net_at netlist net).name; change = change } ∷ []))
-    >>= λ stimuli. stimuli_after netlist stimuli rest) (is_reached-had change.tick given within held ∙ ap not early)
+    >>= λ stimuli. fold_lines (stimuli_after netlist) stimuli rest) (is_reached-had change.tick given within held ∙ ap not early)
 
 -- another goes behind the others of its net
 pub Given-more : {netlist : NetlistView} {all left rest : List (ℕ × List ℕ)} {changes : List (List Change)} {line net : ℕ} {code : List ℕ} {change : Change} {had : List Change} →
@@ -92,12 +95,12 @@ Given-more {netlist = netlist} {rest = rest} {line = line} {net = net} {change =
     record {
       earlier = given.earlier ++ s ∷ [];
       rest = next-after given turn gives
-          ∙ ap (λ test. cond test (Err (NotRising line)) (Ok (given.earlier ++ s ∷ [])) >>= λ stimuli. stimuli_after netlist stimuli rest) unreached;
+          ∙ ap (λ test. cond test (Err (NotRising line)) (Ok (given.earlier ++ s ∷ [])) >>= λ stimuli. fold_lines (stimuli_after netlist) stimuli rest) unreached;
       held = ap (λ changes. set changes net (had ++ change ∷ [])) given.held
           ∙ ap (set (net_stimuli netlist given.earlier) net) (ap (λ changes. changes ++ change ∷ []) (sym (had-named given within held)) ∙ sym (stimuli_named-own given.earlier s))
           ∙ sym (map-named netlist.nets (stimuli_named given.earlier) (stimuli_named (given.earlier ++ s ∷ [])) net distinct within
           (stimuli_named-others given.earlier s));
-      rise = Rises-more given.earlier s given.rise unreached;
+      rise = TicksRise-more given.earlier s given.rise unreached;
     }
   where
     s : NamedChange
@@ -108,5 +111,5 @@ Given-more {netlist = netlist} {rest = rest} {line = line} {net = net} {change =
 
 -- a text that isn't too long is read line by line
 pub stimuli_of-lines : (netlist : NetlistView) (text : List ℕ) → length text ≤ longest_text →
-    stimuli_of netlist text ≡ stimuli_after netlist [] (code_lines text)
-stimuli_of-lines netlist text short = grind (arith, nat_tests)
+    stimuli_of netlist text ≡ fold_lines (stimuli_after netlist) [] (code_lines text)
+stimuli_of-lines netlist text short = unless_too_long-short TooLong (fold_text (stimuli_after netlist) []) text short

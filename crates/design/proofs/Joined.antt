@@ -8,7 +8,7 @@ use Rattle.std.proofs.lemmas.Simd.{map-map}
 use Rattle.std.proofs.lemmas.Slice.Zip.{length-zip, firsts-zip, seconds-zip}
 use Rattle.logic3.specs.declared.change.Change.{Change}
 use Rattle.bench_text.specs.Netlist.{NetView, net_named}
-use Rattle.bench_text.proofs.Places.{position-map}
+use Rattle.bench_text.proofs.CallerLemmas.{position-map}
 use Rattle.design.specs.Circuit.{Net}
 use Rattle.design.specs.Design.{DesignView, IsDesign, untimed}
 use Rattle.design.specs.Joined.{timed_net, timed_nets}

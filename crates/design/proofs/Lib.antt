@@ -1,21 +1,21 @@
-pub mod Built
-pub mod DelayLines
-pub mod DelaysInRange
-pub mod GivenDelays
-pub mod GivenStimuli
-pub mod Joined
-pub mod Named
-pub mod Numbers
-pub mod Parts
-pub mod Ranges
-pub mod Rising
-pub mod Solution
-pub mod Starts
-pub mod Steps
-pub mod StimuliInRange
-pub mod StimuliNamed
-pub mod StimulusLines
-pub mod Stored
-pub mod TextRows
-pub mod Ticks
-pub mod WellFormed
+mod Built
+pub mod CallerLemmas
+mod DelayLines
+mod DelaysInRange
+mod GivenDelays
+mod GivenStimuli
+mod Joined
+mod Named
+mod Numbers
+mod Parts
+mod Rising
+mod SampleTicks
+mod Solution
+mod Starts
+mod StimuliInRange
+mod StimuliNamed
+mod StimulusLines
+mod Stored
+mod TextRows
+mod Ticks
+mod WellFormed

@@ -1,5 +1,5 @@
 -- The net of a name.
-use Rattle.std.proofs.Common.{◌≡◌, ◌≢◌, ℕ, ◌<◌, Bool, true, false, List, [], length, map, get_or, set, Some, ◌⊎◌, inl, inr, length-set, get_or-set_other, AllPairs, refl, sym, ap, ◌∙◌}
+use Rattle.std.proofs.Common.{◌≡◌, ◌≢◌, ℕ, ◌<◌, List, [], length, map, get_or, set, Some, ◌⊎◌, inl, inr, length-set, get_or-set_other, AllPairs, sym, ap, ◌∙◌}
 use Rattle.std.proofs.lemmas.Bool.{cases_eq, cases_order}
 use Rattle.std.proofs.lemmas.Grind.{get_or-set_at}
 use Rattle.std.proofs.lemmas.List.{ext_get_or, get_or-map, length-map}
@@ -8,17 +8,6 @@ use Rattle.std.proofs.lemmas.Slice.Eq.{bytes_eq-Decides}
 use Rattle.std.specs.Str.{bytes_eq}
 use Rattle.bench_text.specs.declared.part.Part.TheVariants.{Input}
 use Rattle.bench_text.specs.Netlist.{NetView, NetlistView, net_named, net_at}
-
--- a name is the same as itself alone
-pub bytes_eq-same : (name : List ℕ) → bytes_eq name name ≡ true
-bytes_eq-same name = (bytes_eq-Decides name name).1 refl
-
-pub bytes_eq-other : (one other : List ℕ) → one ≢ other → bytes_eq one other ≡ false
-bytes_eq-other one other apart = go (bytes_eq one other) refl
-  where
-    go : (same : Bool) → bytes_eq one other ≡ same → same ≡ false
-    go true same = absurd (apart ((bytes_eq-Decides one other).0 same))
-    go false same = refl
 
 -- what stands for a net past the last
 abbrev pub no_net : NetView

@@ -1,5 +1,5 @@
 -- Changes whose ticks rise.
-use Rattle.std.proofs.Common.{◌≡◌, ◌≢◌, ℕ, suc, ◌+◌, ◌-◌, ◌<◌, ◌≤◌, Bool, true, false, not, leb, ltb, List, [], ◌∷◌, length, get_or, slice_get, AllPairs, ◌⊎◌, inl, inr, refl, ◌∙◌, arith}
+use Rattle.std.proofs.Common.{◌≡◌, ◌≢◌, ℕ, suc, ◌+◌, ◌-◌, ◌<◌, ◌≤◌, Bool, true, false, not, leb, ltb, List, [], ◌∷◌, length, get_or, slice_get, ◌⊎◌, inl, inr, refl, ◌∙◌, arith}
 use Rattle.std.specs.List.{list_any}
 use Rattle.std.specs.Option.{option_map_or}
 use Rattle.std.proofs.lemmas.Bool.{cases_eq, cases_lt}
@@ -8,10 +8,7 @@ use Rattle.std.proofs.lemmas.List.Elements.{All-from_get_or}
 use Rattle.std.proofs.lemmas.List.Folds.{list_any_none, list_any_at}
 use Rattle.std.proofs.lemmas.Option.{slice_get-get_or}
 use Rattle.logic3.specs.declared.change.Change.{Change}
-
--- ticks rise strictly
-abbrev pub Rises : List Change → Type 0
-Rises changes = AllPairs (λ (earlier later : Change). earlier.tick < later.tick) changes
+use Rattle.logic3.specs.Rising.{TicksRise}
 
 -- some change is at the tick or later
 abbrev pub is_reached : ℕ → List Change → Bool
@@ -22,7 +19,7 @@ abbrev pub is_after_last : ℕ → List Change → Bool
 is_after_last tick changes = option_map_or (λ (last : Change). ltb last.tick tick) (slice_get changes (length changes - 1)) true
 
 -- where ticks rise, it is enough to look at the last one
-is_reached-at : (tick : ℕ) (changes : List Change) (last : ℕ) (d : Change) → last + 1 ≡ length changes → Rises changes →
+is_reached-at : (tick : ℕ) (changes : List Change) (last : ℕ) (d : Change) → last + 1 ≡ length changes → TicksRise changes →
     is_reached tick changes ≡ not (ltb (get_or changes last d).tick tick)
 is_reached-at tick changes last d end rises = go (cases_lt (get_or changes last d).tick tick)
   where
@@ -43,7 +40,7 @@ is_reached-at tick changes last d end rises = go (cases_lt (get_or changes last 
         ∙ grind (arith, nat_tests)
     go (inr reached) = list_any_at is_late changes last d (omega arith) (grind (arith, nat_tests)) ∙ grind (arith, nat_tests)
 
-pub is_reached-last : (tick : ℕ) (changes : List Change) → Rises changes → is_reached tick changes ≡ not (is_after_last tick changes)
+pub is_reached-last : (tick : ℕ) (changes : List Change) → TicksRise changes → is_reached tick changes ≡ not (is_after_last tick changes)
 is_reached-last tick [] rises = refl
 is_reached-last tick (first ∷ rest) rises =
     let last : suc (length rest) - 1 ≡ length rest = omega arith in

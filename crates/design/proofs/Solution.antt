@@ -1,40 +1,52 @@
 -- The equations of a circuit have one solution.
-use Rattle.std.proofs.Common.{◌≡◌, ℕ, zero, suc, ◌+◌, ◌-◌, ◌*◌, ◌/◌, ◌<◌, ◌≤◌, nat_lt, Bool, true, false, cond, List, [], ◌∷◌, map, Option, None, Some, refl, sym, ap, ◌∙◌, arith, slice_get, ltb-false, add-one}
+use Rattle.std.proofs.Common.{◌≡◌, ℕ, zero, suc, ◌+◌, ◌<◌, ◌≤◌, List, [], ◌∷◌, map, Option, None, Some, refl, sym, ap, ◌∙◌, arith, slice_get, add-one}
+use Rattle.std.specs.Option.{option_map_or}
+use Rattle.std.proofs.lemmas.Option.{none-some}
 use Rattle.logic3.specs.declared.value.Value.{Value}
 use Rattle.logic3.specs.declared.value.Value.TheVariants.{Unknown}
 use Rattle.logic3.specs.Gate.{value_of_gate, only_pin}
 use Rattle.bench_text.specs.declared.part.Part.{Part}
 use Rattle.bench_text.specs.declared.part.Part.TheVariants.{Input, Gate, Flop}
 use Rattle.design.specs.Circuit.{Net, Circuit, IsCircuit, HasDelay, IsTimed}
-use Rattle.design.specs.Equations.{equation_of_part, equation_at, IsSolution, value_within, value_of}
+use Rattle.design.specs.Samples.{timing_of, asked_of_part}
+use Rattle.design.specs.Equations.{values_at, equation_of_part, equation_at, IsSolution, value_within, value_of}
+use Rattle.design.proofs.SampleTicks.{asked-early}
 use Rattle.design.proofs.WellFormed.{timed_at}
 
 -- signals that agree at a tick give the same list there
 same_at : (f g : ℕ → ℕ → Value) (tick : ℕ) (pins : List ℕ) → ((pin : ℕ) → f pin tick ≡ g pin tick) →
-    map (λ (signal : ℕ → Value). signal tick) (map f pins) ≡ map (λ (signal : ℕ → Value). signal tick) (map g pins)
+    values_at tick (map f pins) ≡ values_at tick (map g pins)
 same_at f g tick [] h = refl
 same_at f g tick (pin ∷ pins) h = let a = h pin in let b = same_at f g tick pins h in cc
 
--- where a test fails the two sides may differ only behind it
-pub behind : {A : Type 0} (test : Bool) (x y z : A) → (test ≡ false → y ≡ z) → cond test x y ≡ cond test x z
-behind true x y z h = refl
-behind false x y z h = h refl
+-- what is found at a tick is the same where it is the same at each tick that may be asked for
+pub same_asked : {A : Type 0} (asked : Option ℕ) (found other : ℕ → A) (none : A) →
+    ((tick : ℕ) → asked ≡ Some tick → found tick ≡ other tick) → option_map_or found asked none ≡ option_map_or other asked none
+same_asked None found other none h = refl
+same_asked (Some tick) found other none h = h tick refl
 
--- an equation asks for earlier ticks alone
+-- an equation gives the same where the signals show the same at the tick that is asked for
+pub same_values : (part : Part) (net : Net) (f g : List (ℕ → Value)) (tick : ℕ) →
+    ((asked : ℕ) → asked_of_part part (timing_of net) tick ≡ Some asked → values_at asked f ≡ values_at asked g) →
+    equation_of_part part net f tick ≡ equation_of_part part net g tick
+same_values Input net f g tick h = refl
+same_values (Gate kind) net f g tick h =
+    same_asked (asked_of_part (Gate kind) (timing_of net) tick) _ _ Unknown (λ at is. ap (value_of_gate kind) (h at is))
+same_values Flop net f g tick h =
+    same_asked (asked_of_part Flop (timing_of net) tick) _ _ Unknown (λ at is. ap only_pin (h at is))
+
+-- it asks for earlier ticks alone
 same_equation : (part : Part) (net : Net) (f g : ℕ → ℕ → Value) (tick : ℕ) → HasDelay part net.delay → 1 ≤ net.period →
     ((pin at : ℕ) → at < tick → f pin at ≡ g pin at) →
     equation_of_part part net (map f net.pins) tick ≡ equation_of_part part net (map g net.pins) tick
-same_equation Input net f g tick delay period h = refl
-same_equation (Gate kind) net f g tick delay period h =
-    behind (nat_lt tick net.delay) Unknown _ _ (λ late.
-    let past : net.delay ≤ tick = omega (arith, ltb-false) in
-    ap (value_of_gate kind) (same_at f g (tick - net.delay) net.pins (λ pin. h pin (tick - net.delay) (omega arith))))
-same_equation Flop net f g tick delay period h =
-    behind (nat_lt tick (net.delay + net.period)) Unknown _ _ (λ late.
-    let past : net.delay + net.period ≤ tick = omega (arith, ltb-false) in
-    let within : net.period * ((tick - net.delay) / net.period) ≤ tick - net.delay = omega arith in
-    ap only_pin (same_at f g (net.period * ((tick - net.delay) / net.period)) net.pins
-    (λ pin. h pin (net.period * ((tick - net.delay) / net.period)) (omega arith))))
+same_equation part net f g tick delay period h =
+    same_values part net (map f net.pins) (map g net.pins) tick (λ at is.
+    same_at f g at net.pins (λ pin. h pin at (earlier part delay (asked-early (timing_of net) period part tick at is) is)))
+  where
+    earlier : {at : ℕ} (part : Part) → HasDelay part net.delay → at + net.delay ≤ tick → asked_of_part part (timing_of net) tick ≡ Some at → at < tick
+    earlier {at} Input delay late is = absurd (none-some at is)
+    earlier (Gate kind) delay late is = omega arith
+    earlier Flop delay late is = omega arith
 
 -- the same at a place of a circuit
 same_at_place : (place : Option Net) (f g : ℕ → ℕ → Value) (tick : ℕ) → ((net : Net) → place ≡ Some net → IsTimed net) →

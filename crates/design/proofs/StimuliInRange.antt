@@ -9,16 +9,18 @@ use Rattle.logic3.specs.declared.value.Value.{Value}
 use Rattle.logic3.specs.declared.change.Change.{Change}
 use Rattle.bench_text.specs.declared.part.Part.{Part}
 use Rattle.bench_text.specs.declared.part.Part.TheVariants.{Input, Gate, Flop}
-use Rattle.bench_text.specs.Text.{code_lines, longest_text}
+use Rattle.logic3.specs.Rising.{TicksRise}
+use Rattle.bench_text.specs.Text.{code_lines}
+use Rattle.bench_text.specs.Fold.{fold_text}
 use Rattle.bench_text.specs.Netlist.{NetView, NetlistView, net_named, net_at}
 use Rattle.design.specs.declared.fault.StimulusFault.TheVariants.{TooLong, BadLine, NotAnInput, TickTooLarge, BadValue, NotRising}
 use Rattle.design.specs.Circuit.{most_ticks, HasStimuli}
 use Rattle.design.specs.Delays.{find_net, is_input}
-use Rattle.design.specs.Stimuli.{StimulusLine, NamedChange, change_of, stimulus_in, stimulus_at, stimulus_or_fault, value_of_word, with_stimulus, stimuli_after, stimuli_of, stimuli_named}
+use Rattle.design.specs.Stimuli.{StimulusLine, NamedChange, named_change, stimulus_in, stimulus_at, stimulus_or_fault, value_of_word, with_stimulus, stimuli_after, stimuli_of, stimuli_named}
 use Rattle.design.proofs.Named.{HasDistinctNames, no_net, net_at-named, names-differ}
-use Rattle.design.proofs.Rising.{Rises, is_reached}
-use Rattle.design.proofs.StimuliNamed.{Rises-more}
-use Rattle.design.proofs.Steps.{bind-Ok}
+use Rattle.design.proofs.Rising.{is_reached}
+use Rattle.design.proofs.StimuliNamed.{TicksRise-more}
+use Rattle.bench_text.proofs.CallerLemmas.{bind-Ok, fold_lines-keeps, unless_too_long-Ok}
 
 -- a change of the input of this number, not past the last tick
 record IsStimulus (netlist : NetlistView) (s : NamedChange) : Type 0 where
@@ -34,14 +36,14 @@ stimulus_at-Ok netlist line s given net same = go (is_input net.part) (ltb most_
   where
     go : (input late : Bool) (meant : Option Value) → is_input net.part ≡ input → ltb most_ticks s.tick ≡ late →
         cond (not input) (Err (NotAnInput line))
-        (cond late (Err (TickTooLarge line)) (option_map_or (λ value. Ok (change_of s value)) meant (Err (BadValue line))))
+        (cond late (Err (TickTooLarge line)) (option_map_or (λ value. Ok (named_change s value)) meant (Err (BadValue line))))
         ≡ Ok given →
         (is_input net.part ≡ true) × (s.tick ≤ most_ticks) × (s.name ≡ given.name) × (s.tick ≡ given.change.tick)
     go false late meant driven in_time same = (cc)
     go true true meant driven in_time same = (cc)
     go true false None driven in_time same = (cc)
     go true false (Some value) driven in_time same =
-        let equal : change_of s value ≡ given = (cc) in
+        let equal : named_change s value ≡ given = (cc) in
         (driven, ltb-false most_ticks s.tick in_time, ap (λ (s : NamedChange). s.name) equal, ap (λ (s : NamedChange). s.change.tick) equal)
 
 stimulus_or_fault-IsStimulus : (netlist : NetlistView) (line : ℕ × List ℕ) (given : NamedChange) → stimulus_or_fault netlist line ≡ Ok given →
@@ -75,32 +77,28 @@ with_stimulus-more earlier more line s same = go (is_reached s.change.tick (stim
 -- what holds of all stimuli that a text gives
 record AreStimuli (netlist : NetlistView) (stimuli : List NamedChange) : Type 0 where
   each : All (IsStimulus netlist) stimuli
-  rise : (name : List ℕ) → Rises (stimuli_named stimuli name)
+  rise : (name : List ℕ) → TicksRise (stimuli_named stimuli name)
 
-stimuli_after-AreStimuli : (netlist : NetlistView) (lines : List (ℕ × List ℕ)) (earlier stimuli : List NamedChange) → AreStimuli netlist earlier →
-    stimuli_after netlist earlier lines ≡ Ok stimuli → AreStimuli netlist stimuli
-stimuli_after-AreStimuli netlist [] earlier stimuli fit same =
-    let equal : earlier ≡ stimuli = (cc) in subst (AreStimuli netlist) equal fit
-stimuli_after-AreStimuli netlist (line ∷ lines) earlier stimuli fit same =
-    let given = bind-Ok (stimulus_or_fault netlist line) _ stimuli same in
-    let more = bind-Ok (with_stimulus earlier line.0 given.0) _ stimuli given.2 in
+stimuli_after-AreStimuli : (netlist : NetlistView) (earlier more : List NamedChange) (line : ℕ × List ℕ) → AreStimuli netlist earlier →
+    stimuli_after netlist earlier line ≡ Ok more → AreStimuli netlist more
+stimuli_after-AreStimuli netlist earlier more line fit same =
+    let given = bind-Ok (stimulus_or_fault netlist line) (with_stimulus earlier line.0) more same in
     let s = given.0 in
-    let added = with_stimulus-more earlier more.0 line.0 s more.1 in
+    let added = with_stimulus-more earlier more line.0 s given.2 in
     let fits : AreStimuli netlist (earlier ++ s ∷ []) = record {
       each = All-push (IsStimulus netlist) earlier s fit.each (stimulus_or_fault-IsStimulus netlist line s given.1);
-      rise = Rises-more earlier s fit.rise added.0;
+      rise = TicksRise-more earlier s fit.rise added.0;
     } in
-    stimuli_after-AreStimuli netlist lines more.0 stimuli (subst (AreStimuli netlist) added.1 fits) more.2
+    subst (AreStimuli netlist) added.1 fits
 
 stimuli_of-AreStimuli : (netlist : NetlistView) (text : List ℕ) (stimuli : List NamedChange) → stimuli_of netlist text ≡ Ok stimuli → AreStimuli netlist stimuli
-stimuli_of-AreStimuli netlist text stimuli same = go (ltb longest_text (length text)) same
+stimuli_of-AreStimuli netlist text stimuli same =
+    fold_lines-keeps (stimuli_after netlist) (λ given left. AreStimuli netlist given)
+    (λ earlier more line rest fit step. stimuli_after-AreStimuli netlist earlier more line fit step)
+    (code_lines text) [] stimuli none (unless_too_long-Ok TooLong (fold_text (stimuli_after netlist) []) text stimuli same)
   where
     none : AreStimuli netlist []
     none = record { each = All-nil (IsStimulus netlist); rise = λ name i j d before within. absurd (omega arith) }
-
-    go : (long : Bool) → cond long (Err TooLong) (stimuli_after netlist [] (code_lines text)) ≡ Ok stimuli → AreStimuli netlist stimuli
-    go true same = (cc)
-    go false same = stimuli_after-AreStimuli netlist (code_lines text) [] stimuli none same
 
 -- a name that no stimulus has
 stimuli_named-none : (stimuli : List NamedChange) (name : List ℕ) → All (λ (s : NamedChange). s.name ≢ name) stimuli → stimuli_named stimuli name ≡ []

@@ -9,9 +9,10 @@ use Rattle.std.proofs.lemmas.List.Folds.{list_any_at}
 use Rattle.std.proofs.lemmas.List.Quantifiers.{all_pairs_push}
 use Rattle.std.proofs.lemmas.Slice.Eq.{bytes_eq-Decides}
 use Rattle.logic3.specs.declared.change.Change.{Change}
+use Rattle.logic3.specs.Rising.{TicksRise}
 use Rattle.design.specs.Stimuli.{NamedChange, stimuli_named}
-use Rattle.design.proofs.Named.{bytes_eq-same, bytes_eq-other}
-use Rattle.design.proofs.Rising.{Rises, is_reached}
+use Rattle.bench_text.proofs.CallerLemmas.{bytes_eq-same, bytes_eq-other}
+use Rattle.design.proofs.Rising.{is_reached}
 
 -- a further stimulus goes behind those of its own net, and changes no other
 pub stimuli_named-more : (stimuli : List NamedChange) (s : NamedChange) (name : List ℕ) →
@@ -34,9 +35,9 @@ stimuli_named-others stimuli s name apart =
     ∙ append-nil (stimuli_named stimuli name)
 
 -- so ticks go on rising
-pub Rises-more : (stimuli : List NamedChange) (s : NamedChange) → ((name : List ℕ) → Rises (stimuli_named stimuli name)) →
-    is_reached s.change.tick (stimuli_named stimuli s.name) ≡ false → (name : List ℕ) → Rises (stimuli_named (stimuli ++ s ∷ []) name)
-Rises-more stimuli s rise unreached name = go (bytes_eq s.name name) refl
+pub TicksRise-more : (stimuli : List NamedChange) (s : NamedChange) → ((name : List ℕ) → TicksRise (stimuli_named stimuli name)) →
+    is_reached s.change.tick (stimuli_named stimuli s.name) ≡ false → (name : List ℕ) → TicksRise (stimuli_named (stimuli ++ s ∷ []) name)
+TicksRise-more stimuli s rise unreached name = go (bytes_eq s.name name) refl
   where
     own : List Change
     own = stimuli_named stimuli s.name
@@ -48,14 +49,14 @@ Rises-more stimuli s rise unreached name = go (bytes_eq s.name name) refl
         let found = list_any_at (λ (change : Change). leb s.change.tick change.tick) own place d within (grind (arith, nat_tests)) in
         absurd (true≢false (sym found ∙ unreached))
 
-    go : (same : Bool) → bytes_eq s.name name ≡ same → Rises (stimuli_named (stimuli ++ s ∷ []) name)
+    go : (same : Bool) → bytes_eq s.name name ≡ same → TicksRise (stimuli_named (stimuli ++ s ∷ []) name)
     go true same =
-        let P : List ℕ → Type 0 = λ name. Rises (stimuli_named (stimuli ++ s ∷ []) name) in
-        let Q : List Change → Type 0 = λ changes. Rises changes in
+        let P : List ℕ → Type 0 = λ name. TicksRise (stimuli_named (stimuli ++ s ∷ []) name) in
+        let Q : List Change → Type 0 = λ changes. TicksRise changes in
         let R : Change → Change → Type 0 = λ earlier later. earlier.tick < later.tick in
         subst P ((bytes_eq-Decides s.name name).0 same)
         (subst Q (sym (stimuli_named-own stimuli s))
         (all_pairs_push R own s.change (rise s.name) (λ place d within. above place d within (cases_lt (get_or own place d).tick s.change.tick))))
     go false same =
-        let Q : List Change → Type 0 = λ changes. Rises changes in
+        let Q : List Change → Type 0 = λ changes. TicksRise changes in
         subst Q (sym (stimuli_named-others stimuli s name (λ e. true≢false (sym ((bytes_eq-Decides s.name name).1 (sym e)) ∙ same)))) (rise name)

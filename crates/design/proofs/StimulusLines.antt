@@ -7,7 +7,7 @@ use Rattle.bench_text.specs.Netlist.{NetView, NetlistView, net_named, net_at}
 use Rattle.design.specs.declared.fault.StimulusFault.TheVariants.{BadLine, NotAnInput, TickTooLarge, BadValue}
 use Rattle.design.specs.Circuit.{most_ticks}
 use Rattle.design.specs.Delays.{find_net, is_input}
-use Rattle.design.specs.Stimuli.{StimulusLine, change_of, stimulus_in, stimulus_at, stimulus_or_fault, value_of_word}
+use Rattle.design.specs.Stimuli.{StimulusLine, named_change, stimulus_in, stimulus_at, stimulus_or_fault, value_of_word}
 use Rattle.design.proofs.Named.{net_at-named}
 
 -- a stimulus with its number cut to at most `top`
@@ -16,13 +16,13 @@ cut_to top s = record s { tick = min top s.tick }
 
 -- a stimulus of an input with a tick in its limits and a value stands as it is
 stimulus_at-Ok : (line : ℕ) (s : StimulusLine) (net : NetView) (value : Value) → is_input net.part ≡ true → s.tick ≤ most_ticks →
-    value_of_word s.value ≡ Some value → stimulus_at line s (Some net) ≡ Ok (change_of s value)
+    value_of_word s.value ≡ Some value → stimulus_at line s (Some net) ≡ Ok (named_change s value)
 stimulus_at-Ok line s net value driven low means = go (is_input net.part) (ltb most_ticks s.tick) (value_of_word s.value) driven (grind (arith, nat_tests)) means
   where
     go : (input late : Bool) (meant : Option Value) → input ≡ true → late ≡ false → meant ≡ Some value →
         cond (not input) (Err (NotAnInput line))
-        (cond late (Err (TickTooLarge line)) (option_map_or (λ value. Ok (change_of s value)) meant (Err (BadValue line))))
-        ≡ Ok (change_of s value)
+        (cond late (Err (TickTooLarge line)) (option_map_or (λ value. Ok (named_change s value)) meant (Err (BadValue line))))
+        ≡ Ok (named_change s value)
     go input late meant driven in_time means = rw (driven, in_time, means) refl
 
 -- a line whose number was cut to at most `top` gives its net the change that was read, where the tick is in its limits

@@ -1,8 +1,9 @@
 -- What a design's stored parts say of it.
-use Rattle.std.proofs.Common.{◌≡◌, ℕ, ◌+◌, ◌<◌, ◌≤◌, List, [], ◌∷◌, length, map, get_or, option_map, Some, slice_get, All, refl, ap, sym, ◌∙◌, subst, arith}
+use Rattle.std.proofs.Common.{◌≡◌, ℕ, ◌+◌, ◌<◌, ◌≤◌, List, [], ◌∷◌, length, map, get_or, option_map, None, Some, slice_get, ◌⊎◌, inl, inr, All, refl, ap, sym, ◌∙◌, subst, arith}
 use Rattle.std.specs.List.{sum_by}
 use Rattle.std.proofs.lemmas.List.{length-map}
 use Rattle.std.proofs.lemmas.List.Sums.{sum_by-cons}
+use Rattle.std.proofs.lemmas.Option.{slice_get_cases}
 use Rattle.std.proofs.lemmas.Simd.{map-map}
 use Rattle.logic3.specs.declared.change.Change.{Change}
 use Rattle.bench_text.specs.Netlist.{NetView, NetlistView}
@@ -12,6 +13,7 @@ use Rattle.design.specs.Joined.{design_view, starts_from, IsJoined}
 use Rattle.design.specs.Pins.{first_pin}
 use Rattle.design.proofs.Joined.{get_part, delays-timed_nets, stimuli-timed_nets, periods-timed_nets}
 use Rattle.design.proofs.Starts.{length-starts_from, get_or-starts_from}
+use Rattle.design.proofs.WellFormed.{All-slice_get}
 
 -- ---- of any design
 
@@ -75,6 +77,16 @@ module _ {netlist : NetlistView} {first_pins delays : List ℕ} {period : ℕ} {
       (subst (λ (d : DesignView). map (λ (n : Net). n.stimuli) d.circuit ≡ stimuli) view
       (stimuli-timed_nets netlist.nets delays period stimuli joined.some_delay joined.some_stimuli))
 
-  pub period_is : All (λ (n : Net). n.period ≡ period) design.circuit
+  period_is : All (λ (n : Net). n.period ≡ period) design.circuit
   period_is = subst (λ (d : DesignView). All (λ (n : Net). n.period ≡ period) d.circuit) view
       (periods-timed_nets netlist.nets delays period stimuli)
+
+  pub period_at : (net : ℕ) → net < length design.circuit → option_map (λ (n : Net). n.period) (slice_get design.circuit net) ≡ Some period
+  period_at net below = go (slice_get_cases design.circuit net).1
+    where
+      go : ((n : Net) × (net < length design.circuit) × (slice_get design.circuit net ≡ Some n) × (get_or design.circuit net n ≡ n))
+          ⊎ ((length design.circuit ≤ net) × (slice_get design.circuit net ≡ None)) →
+          option_map (λ (n : Net). n.period) (slice_get design.circuit net) ≡ Some period
+      go (inl (n, within, found, at)) =
+          ap (option_map (λ (n : Net). n.period)) found ∙ ap Some (All-slice_get (λ (n : Net). n.period ≡ period) design.circuit net n period_is found)
+      go (inr (past, found)) = absurd (omega arith)

@@ -10,7 +10,7 @@ use Rattle.logic3.specs.declared.value.Value.{Value}
 use Rattle.logic3.specs.declared.value.Value.TheVariants.{Unknown}
 use Rattle.logic3.specs.Value.{is_same}
 use Rattle.logic3.specs.Wave.{Wave, value_at, last_value, joined, wave_of}
-use Rattle.logic3.proofs.Waves.{value_at-wave_of, wave_of-more}
+use Rattle.logic3.proofs.CallerLemmas.{value_at-wave_of, wave_of-more}
 use Rattle.design.specs.Circuit.{Circuit, IsCircuit}
 use Rattle.design.specs.Equations.{equation_at, value_within, value_of, waves_of, signals_in}
 use Rattle.design.proofs.Solution.{value_from_earlier}

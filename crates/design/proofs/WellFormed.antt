@@ -10,7 +10,9 @@ use Rattle.bench_text.specs.declared.part.Part.{Part}
 use Rattle.bench_text.specs.declared.part.Part.TheVariants.{Gate, Flop}
 use Rattle.bench_text.specs.Line.{takes_pins}
 use Rattle.bench_text.specs.Netlist.{NetView}
+use Rattle.design.specs.declared.samples.Timing.{Timing}
 use Rattle.design.specs.Circuit.{Net, Circuit, IsCircuit, IsTimed}
+use Rattle.design.specs.Samples.{timing_of}
 use Rattle.design.specs.Design.{DesignView, IsDesign, untimed}
 
 -- what holds of each element holds of the one at a place
@@ -49,7 +51,7 @@ IsCircuit-from_IsDesign design ok =
 -- ---- one net, by what the design tells of it
 
 -- where a field of the net at a place is known, there is a net
-net_there : {A : Type 0} (field : Net → A) (place : Option Net) (x : A) → option_map field place ≡ Some x →
+pub net_there : {A : Type 0} (field : Net → A) (place : Option Net) (x : A) → option_map field place ≡ Some x →
     (net : Net) × (place ≡ Some net) × (field net ≡ x)
 net_there field None x e = absurd (none-some x e)
 net_there field (Some net) x e = (net, refl, same_Some (field net) x e)
@@ -76,14 +78,12 @@ pins_below design ok number pins pins_are =
     rw (← found.2) (All-slice_get (λ (net : Net). All (λ pin. pin < length design.circuit) net.pins) design.circuit number found.0 circuit.pins found.1)
 
 -- a period is at least one tick
-pub period_some : (circuit : Circuit) → IsCircuit circuit → (number period : ℕ) (pins : List ℕ) →
-    option_map (λ (net : Net). net.pins) (slice_get circuit number) ≡ Some pins →
-    All (λ (net : Net). net.period ≡ period) circuit → 0 < period
-period_some circuit ok number period pins pins_are same =
-    let found = net_there (λ (net : Net). net.pins) (slice_get circuit number) pins pins_are in
-    let timed = All-slice_get IsTimed circuit number found.0 ok.timed found.1 in
-    let here : found.0.period ≡ period = All-slice_get (λ (net : Net). net.period ≡ period) circuit number found.0 same found.1 in
-    rw (← here) timed.period.0
+pub period_some : (circuit : Circuit) → IsCircuit circuit → (number : ℕ) (timing : Timing) →
+    option_map timing_of (slice_get circuit number) ≡ Some timing → 0 < timing.period
+period_some circuit ok number timing timing_is =
+    let found = net_there timing_of (slice_get circuit number) timing timing_is in
+    let timed = timed_at circuit ok number found.0 found.1 in
+    subst (λ (timing : Timing). 0 < timing.period) found.2 timed.period.0
 
 arity_of : (kind : GateKind) (pins : ℕ) → takes_pins (Gate kind) pins ≡ true → HasArity kind pins
 arity_of Not pins e = eqb-true pins 1 e

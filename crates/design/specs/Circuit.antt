@@ -1,6 +1,7 @@
 -- A circuit: nets with their timing and stimuli.
-use Rattle.std.specs.Prelude.{◌≡◌, ℕ, ◌<◌, ◌≤◌, List, [], length, sum_by, All, AllPairs}
+use Rattle.std.specs.Prelude.{◌≡◌, ℕ, ◌<◌, ◌≤◌, List, [], length, sum_by, All}
 use Rattle.logic3.specs.declared.change.Change.{Change}
+use Rattle.logic3.specs.Rising.{TicksRise}
 use Rattle.bench_text.specs.declared.part.Part.{Part}
 use Rattle.bench_text.specs.declared.part.Part.TheVariants.{Input}
 
@@ -31,7 +32,7 @@ HasDelay _ delay = (1 ≤ delay) × (delay ≤ most_delay)
 abbrev pub HasStimuli : Part → List Change → Type 0
 HasStimuli Input stimuli =
     All (λ (change : Change). change.tick ≤ most_ticks) stimuli
-    × AllPairs (λ (earlier later : Change). earlier.tick < later.tick) stimuli
+    × TicksRise stimuli
 HasStimuli _ stimuli = stimuli ≡ []
 
 -- a gate or a flip-flop takes at least one tick, an input none; stimuli stand at inputs alone, and their ticks rise strictly

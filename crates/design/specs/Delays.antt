@@ -1,9 +1,10 @@
 -- What a delay text says of a netlist.
-use Rattle.std.specs.Prelude.{ℕ, not, nat_lt, Bool, true, false, if◌then◌else◌, List, [], ◌∷◌, ◌++◌, length, map, find, option_map, Option, None, Some, Result, Ok, Err, bytes_eq}
+use Rattle.std.specs.Prelude.{ℕ, not, Bool, true, false, if◌then◌else◌, List, [], ◌∷◌, ◌++◌, map, find, option_map, Option, None, Some, Result, Ok, Err, bytes_eq}
 use Rattle.std.specs.Option.{is_some, option_map_or, unwrap_or}
 use Rattle.bench_text.specs.declared.part.Part.{Part}
 use Rattle.bench_text.specs.declared.part.Part.TheVariants.{Input, Gate, Flop}
-use Rattle.bench_text.specs.Text.{◌>>=◌, code_lines, words_of, number_of, is_plain, longest_text}
+use Rattle.bench_text.specs.Text.{◌>>=◌, words_of, number_of, is_plain, unless_too_long}
+use Rattle.bench_text.specs.Fold.{fold_text}
 use Rattle.bench_text.specs.Netlist.{NetView, NetlistView, net_named, net_at}
 use Rattle.design.specs.declared.fault.DelayFault.{DelayFault}
 use Rattle.design.specs.declared.fault.DelayFault.TheVariants.{TooLong, BadLine, UnknownNet, IsInput, BadTicks, Twice}
@@ -55,18 +56,13 @@ abbrev pub with_delay : List DelayLine → ℕ → DelayLine → Result (List De
 with_delay earlier line delay =
     if is_some (ticks_named earlier delay.name) then Err (Twice line) else Ok (earlier ++ delay ∷ [])
 
--- the delays that earlier lines give, and then those of these lines, or the first fault
-abbrev pub delays_after : NetlistView → List DelayLine → List (ℕ × List ℕ) → Result (List DelayLine) DelayFault
-delays_after netlist earlier [] = Ok earlier
-delays_after netlist earlier (line ∷ lines) = do
-  delay ← delay_or_fault netlist line
-  delays ← with_delay earlier line.0 delay
-  delays_after netlist delays lines
+-- the delays of earlier lines and then that of this line, or its first fault
+abbrev pub delays_after : NetlistView → List DelayLine → ℕ × List ℕ → Result (List DelayLine) DelayFault
+delays_after netlist earlier line = delay_or_fault netlist line >>= with_delay earlier line.0
 
--- the delays that a text gives, or its first fault
+-- the delays that a text gives, line after line, or its first fault
 abbrev pub delays_of : NetlistView → List ℕ → Result (List DelayLine) DelayFault
-delays_of netlist text =
-    if nat_lt longest_text (length text) then Err TooLong else delays_after netlist [] (code_lines text)
+delays_of netlist text = unless_too_long TooLong (fold_text (delays_after netlist) []) text
 
 -- the ticks that lines give each net, in order
 abbrev pub net_ticks : NetlistView → List DelayLine → List (Option ℕ)

@@ -1,5 +1,5 @@
 -- What the nets of a circuit show: the defining equations.
-use Rattle.std.specs.Prelude.{◌≡◌, ℕ, zero, suc, ◌+◌, ◌-◌, ◌*◌, ◌/◌, nat_lt, if◌then◌else◌, List, length, map, slice_get, Option, None, Some}
+use Rattle.std.specs.Prelude.{◌≡◌, ℕ, zero, suc, ◌+◌, List, length, map, slice_get, Option, None, Some}
 use Rattle.std.specs.List.{range_with_len}
 use Rattle.std.specs.Option.{option_map_or}
 use Rattle.logic3.specs.declared.value.Value.{Value}
@@ -9,18 +9,19 @@ use Rattle.logic3.specs.Wave.{Wave, value_after, value_at, wave_of}
 use Rattle.bench_text.specs.declared.part.Part.{Part}
 use Rattle.bench_text.specs.declared.part.Part.TheVariants.{Input, Gate, Flop}
 use Rattle.design.specs.Circuit.{Net, Circuit}
+use Rattle.design.specs.Samples.{timing_of, asked_of_part}
+
+-- what signals show at a tick
+abbrev pub values_at : ℕ → List (ℕ → Value) → List Value
+values_at tick signals = map (λ (signal : ℕ → Value). signal tick) signals
 
 -- the value of a net at a tick, from the signals at its pins
 abbrev pub equation_of_part : Part → Net → List (ℕ → Value) → ℕ → Value
 equation_of_part Input net signals tick = value_after Unknown net.stimuli tick
 equation_of_part (Gate kind) net signals tick =
-    if nat_lt tick net.delay
-    then Unknown
-    else value_of_gate kind (map (λ (signal : ℕ → Value). signal (tick - net.delay)) signals)
+    option_map_or (λ asked. value_of_gate kind (values_at asked signals)) (asked_of_part (Gate kind) (timing_of net) tick) Unknown
 equation_of_part Flop net signals tick =
-    if nat_lt tick (net.delay + net.period)
-    then Unknown
-    else only_pin (map (λ (signal : ℕ → Value). signal (net.period * ((tick - net.delay) / net.period))) signals)
+    option_map_or (λ asked. only_pin (values_at asked signals)) (asked_of_part Flop (timing_of net) tick) Unknown
 
 abbrev pub equation : Net → List (ℕ → Value) → ℕ → Value
 equation net signals tick = equation_of_part net.part net signals tick

@@ -1,11 +1,12 @@
 -- What a stimulus text says of a netlist.
-use Rattle.std.specs.Prelude.{ℕ, ◌||◌, not, nat_lt, nat_le, if◌then◌else◌, List, [], ◌∷◌, ◌++◌, length, map, filter, option_map, Option, None, Some, Result, Ok, Err, codes, bytes_eq}
+use Rattle.std.specs.Prelude.{ℕ, ◌||◌, not, nat_lt, nat_le, if◌then◌else◌, List, [], ◌∷◌, ◌++◌, map, filter, option_map, Option, None, Some, Result, Ok, Err, codes, bytes_eq}
 use Rattle.std.specs.List.{list_any}
 use Rattle.std.specs.Option.{option_map_or}
 use Rattle.logic3.specs.declared.value.Value.{Value}
 use Rattle.logic3.specs.declared.value.Value.TheVariants.{Zero, One, Unknown}
 use Rattle.logic3.specs.declared.change.Change.{Change}
-use Rattle.bench_text.specs.Text.{◌>>=◌, code_lines, words_of, number_of, is_plain, longest_text}
+use Rattle.bench_text.specs.Text.{◌>>=◌, words_of, number_of, is_plain, unless_too_long}
+use Rattle.bench_text.specs.Fold.{fold_text}
 use Rattle.bench_text.specs.Netlist.{NetView, NetlistView}
 use Rattle.design.specs.declared.fault.StimulusFault.{StimulusFault}
 use Rattle.design.specs.declared.fault.StimulusFault.TheVariants.{TooLong, BadLine, UnknownNet, NotAnInput, TickTooLarge, BadValue, NotRising}
@@ -40,8 +41,8 @@ pub record NamedChange : Type 0 where
   pub name : List ℕ
   pub change : Change
 
-abbrev pub change_of : StimulusLine → Value → NamedChange
-change_of s value = record { name = s.name; change = record { tick = s.tick; value = value } }
+abbrev pub named_change : StimulusLine → Value → NamedChange
+named_change s value = record { name = s.name; change = record { tick = s.tick; value = value } }
 
 -- the change on the line of this number, if the net may have it
 abbrev pub stimulus_at : ℕ → StimulusLine → Option NetView → Result NamedChange StimulusFault
@@ -49,7 +50,7 @@ stimulus_at line s None = Err (UnknownNet line)
 stimulus_at line s (Some net) =
     if not (is_input net.part) then Err (NotAnInput line)
     else if nat_lt most_ticks s.tick then Err (TickTooLarge line)
-    else option_map_or (λ value. Ok (change_of s value)) (value_of_word s.value) (Err (BadValue line))
+    else option_map_or (λ value. Ok (named_change s value)) (value_of_word s.value) (Err (BadValue line))
 
 -- what a line gives whatever stands before it, or its first fault
 abbrev pub stimulus_or_fault : NetlistView → ℕ × List ℕ → Result NamedChange StimulusFault
@@ -67,18 +68,13 @@ with_stimulus earlier line s =
     if list_any (λ (change : Change). nat_le s.change.tick change.tick) (stimuli_named earlier s.name) then Err (NotRising line)
     else Ok (earlier ++ s ∷ [])
 
--- the stimuli that earlier lines give, and then those of these lines, or the first fault
-abbrev pub stimuli_after : NetlistView → List NamedChange → List (ℕ × List ℕ) → Result (List NamedChange) StimulusFault
-stimuli_after netlist earlier [] = Ok earlier
-stimuli_after netlist earlier (line ∷ lines) = do
-  s ← stimulus_or_fault netlist line
-  stimuli ← with_stimulus earlier line.0 s
-  stimuli_after netlist stimuli lines
+-- the stimuli of earlier lines and then that of this line, or its first fault
+abbrev pub stimuli_after : NetlistView → List NamedChange → ℕ × List ℕ → Result (List NamedChange) StimulusFault
+stimuli_after netlist earlier line = stimulus_or_fault netlist line >>= with_stimulus earlier line.0
 
--- the stimuli that a text gives, or its first fault
+-- the stimuli that a text gives, line after line, or its first fault
 abbrev pub stimuli_of : NetlistView → List ℕ → Result (List NamedChange) StimulusFault
-stimuli_of netlist text =
-    if nat_lt longest_text (length text) then Err TooLong else stimuli_after netlist [] (code_lines text)
+stimuli_of netlist text = unless_too_long TooLong (fold_text (stimuli_after netlist) []) text
 
 -- the stimuli of each net, in order
 abbrev pub net_stimuli : NetlistView → List NamedChange → List (List Change)

@@ -5,12 +5,10 @@ ghost use Rattle.bench_text.specs.Netlist.{net_at};
 ghost use Rattle.design.specs.Delays.{DelayLine, delay_in, delay_of_part, delay_or_fault, delays_of, is_input, net_delays, net_ticks};
 
 use crate::fault::DelayFault;
-use bench_text::text::{LONGEST_TEXT, code_lines, is_plain, number, words};
+use crate::limits::MOST_DELAY;
+use bench_text::text::{LONGEST_TEXT, code_lines, is_plain, number, words_of};
 use bench_text::{Netlist, Part};
-use std::alloc::{AllocError, Global};
-
-/// The most ticks that a gate or a flip-flop may take.
-const MOST_DELAY: u64 = 1_000_000;
+use std::alloc::Global;
 
 /// The delay that a line gives a net.
 #[derive(Clone, Copy)]
@@ -64,7 +62,7 @@ fn delays_given(
     }
     let mut given = vec![in alloc; None; netlist.nets() as usize]?;
     for (line, code) in code_lines(text) {
-        let delay = net_delay(alloc, netlist, line, code)?;
+        let delay = net_delay(netlist, line, code)?;
         let net = delay.net as usize;
         if given[net].is_some() {
             return Err(DelayFault::Twice { line });
@@ -75,19 +73,13 @@ fn delays_given(
 }
 
 /// What the line of this number gives, or its first fault; `code` is the line without its comment.
-fn net_delay(
-    alloc: Global,
-    netlist: &Netlist,
-    line: u64,
-    code: &[u8],
-) -> Result<NetDelay, DelayFault>
+fn net_delay(netlist: &Netlist, line: u64, code: &[u8]) -> Result<NetDelay, DelayFault>
     ensures net { IfOk result (λ delay. delay.net < length netlist.now.nets) }
-    ensures delay { result ≢ Err DelayFault.Memory →
-        result_map_both (λ delay. record { name = (net_at netlist.now delay.net).name; ticks = delay.ticks })
+    ensures delay { result_map_both (λ delay. record { name = (net_at netlist.now delay.net).name; ticks = delay.ticks })
         (λ fault. fault) result
         ≡ delay_or_fault netlist.now (line, code.now) }
 {
-    let Some((name, ticks)) = name_and_number(alloc, code)? else {
+    let Some((name, ticks)) = name_and_number(code) else {
         return Err(DelayFault::BadLine { line });
     };
     let Some(net) = netlist.find(name) else {
@@ -110,18 +102,17 @@ pub(crate) fn is_input(part: Part) -> bool
 }
 
 /// The name and the number on a line, if it has just these.
-fn name_and_number(alloc: Global, code: &[u8]) -> Result<Option<(&[u8], u64)>, AllocError>
-    ensures { IfOk result (λ found.
-        option_map (λ found. record { name = found.0.now; ticks = found.1 }) found
+fn name_and_number(code: &[u8]) -> Option<(&[u8], u64)>
+    ensures { option_map (λ found. record { name = found.0.now; ticks = found.1 }) result
         ≡ option_map (λ (delay : DelayLine). record delay { ticks = min (2 ^ 64 - 1) delay.ticks })
-        (delay_in code.now)) }
+        (delay_in code.now) }
 {
     if !is_plain(code) {
-        return Ok(None);
+        return None;
     }
-    let words = words(alloc, code)?;
-    let [name, ticks] = words.as_slice() else {
-        return Ok(None);
+    let mut words = words_of(code);
+    let (Some(name), Some(ticks), None) = (words.next(), words.next(), words.next()) else {
+        return None;
     };
-    Ok(number(ticks).map(|ticks| (*name, ticks)))
+    Some((name, number(ticks)?))
 }

@@ -1,11 +1,13 @@
-ghost use Rattle.std.specs.Prelude.{◌≡◌, ℕ, ◌+◌, ◌<◌, length, option_map, position, bytes_eq, slice_get, Some, All};
+ghost use Rattle.std.specs.Prelude.{◌≡◌, ℕ, ◌+◌, ◌<◌, length, option_map, position, bytes_eq, slice_get, Some};
 ghost use Rattle.std.specs.Option.{ForSome};
 ghost use Rattle.bench_text.specs.Netlist.{net_named};
 ghost use Rattle.design.specs.Circuit.{Net, pin_count};
 ghost use Rattle.design.specs.Pins.{sources_of, first_pin, net_of_pin};
+ghost use Rattle.design.specs.Samples.{timing_of};
 
 mod build;
 
+use crate::samples::Timing;
 use bench_text::{Netlist, Part};
 use logic3::Change;
 use std::marker::Model;
@@ -137,11 +139,25 @@ impl Design {
         self.delays[net as usize]
     }
 
-    /// The period of all flip-flops in ticks: 1 to 10,000,000.
-    pub fn period(&self) -> u64
-        ensures { All (λ (n : Net). n.period ≡ result) self.now.circuit }
+    /// The period of a net in ticks: 1 to 10,000,000. It matters for a flip-flop alone.
+    pub fn period(&self, net: u32) -> u64
+        requires { net < length self.now.circuit }
+        ensures { option_map (λ (n : Net). n.period) (slice_get self.now.circuit net) ≡ Some result }
     {
+        // All flip-flops share one.
+        let _ = net;
         self.period
+    }
+
+    /// When a net looks at its pins: its delay and its period.
+    pub fn timing(&self, net: u32) -> Timing
+        requires { net < length self.now.circuit }
+        ensures { option_map timing_of (slice_get self.now.circuit net) ≡ Some result }
+    {
+        Timing {
+            delay: self.delay(net),
+            period: self.period(net),
+        }
     }
 
     /// The stimuli of a net, at ticks that rise strictly, up to 10,000,000; none but for an input.

@@ -2,6 +2,7 @@ ghost use Rattle.std.specs.Prelude.{◌≡◌, ◌≤◌, ℕ, Result, Ok, Err, 
 ghost use Rattle.design.specs.Circuit.{most_ticks};
 
 use crate::fault::OptionFault;
+use crate::limits::MOST_TICKS;
 use std::marker::Model;
 
 /// The last tick of a run: at most 10,000,000.
@@ -30,7 +31,7 @@ impl Horizon {
     pub fn new(ticks: u64) -> Result<Horizon, OptionFault>
         ensures { result ≡ horizon_of ticks }
     {
-        if ticks > 10_000_000 {
+        if ticks > MOST_TICKS {
             return Err(OptionFault::BadHorizon);
         }
         Ok(Horizon { ticks })

@@ -6,7 +6,9 @@ mod design;
 mod fault;
 mod horizon;
 pub mod laws;
+mod limits;
 mod plain;
+mod samples;
 mod settings;
 mod stimuli;
 
@@ -14,4 +16,5 @@ pub use design::Design;
 pub use fault::{BuildFault, DelayFault, OptionFault, StimulusFault};
 pub use horizon::Horizon;
 pub use plain::plain_waves;
+pub use samples::Timing;
 pub use settings::options;

@@ -2,7 +2,8 @@
 //!
 //! It is the second opinion on any other engine, so it does nothing clever: an earlier value is
 //! looked up in the waveforms so far, and nothing else is kept.
-ghost use Rattle.std.specs.Prelude.{◌≡◌, ℕ, ◌+◌, ◌-◌, ◌*◌, ◌/◌, ◌<◌, nat_lt, if◌then◌else◌, List, [], ◌∷◌, length, map, slice_get, All, IfOk, OnOk};
+ghost use Rattle.std.specs.Prelude.{◌≡◌, ℕ, ◌+◌, ◌<◌, if◌then◌else◌, List, [], ◌∷◌, length, map, slice_get, All, IfOk, OnOk};
+ghost use Rattle.std.specs.Option.{option_map_or};
 ghost use Rattle.logic3.specs.declared.value.Value.TheVariants.{Unknown};
 ghost use Rattle.logic3.specs.Value.{is_same};
 ghost use Rattle.logic3.specs.Gate.{HasArity, value_of_gate};
@@ -90,33 +91,32 @@ fn net_value(
         (λ value. value ≡ equation_at (slice_get design.now.circuit net) (signals_in waves.now) tick) }
 {
     let pins = design.pins_of(net);
-    let delay = design.delay(net);
-    match design.part(net) {
+    let part = design.part(net);
+    let asked = design.timing(net).asked_tick(part, tick);
+    match part {
         Part::Input => Ok(value_after(Value::Unknown, design.stimuli(net), tick)),
-        Part::Gate(kind) => gate_value(kind, pins, delay, tick, waves, values),
-        Part::Flop => Ok(sampled_value(pins[0], delay, design.period(), tick, waves)),
+        Part::Gate(kind) => gate_value(kind, pins, asked, waves, values),
+        Part::Flop => Ok(sampled_value(pins[0], asked, waves)),
     }
 }
 
-/// What a gate shows: X before its delay, then what it gives for its pins a delay earlier.
+/// What a gate shows: what it gives for its pins at the tick it asks for, X where there is none.
 fn gate_value(
     kind: GateKind,
     pins: &[u32],
-    delay: u64,
-    tick: u64,
+    asked: Option<u64>,
     waves: &[Waveform],
     values: &mut Vec<Value>,
 ) -> Result<Value, AllocError>
     requires arity { HasArity kind (length pins.now) }
     requires pins { All (λ pin. pin < length waves.now) pins.now }
-    ensures { IfOk result (λ value. value ≡
-        (if nat_lt tick delay then Unknown
-        else value_of_gate kind (map (λ pin. signals_in waves.now pin (tick - delay)) pins.now))) }
+    ensures { IfOk result (λ value. value ≡ option_map_or
+        (λ tick. value_of_gate kind (map (λ pin. signals_in waves.now pin tick) pins.now)) asked Unknown) }
 {
-    if tick < delay {
+    let Some(tick) = asked else {
         return Ok(Value::Unknown);
-    }
-    read_pins(pins, waves, tick - delay, values)?;
+    };
+    read_pins(pins, waves, tick, values)?;
     Ok(gate(kind, values))
 }
 
@@ -137,30 +137,15 @@ fn read_pins(
     Ok(())
 }
 
-/// What a flip-flop shows: its pin at the last sample that is a delay ago, and X before the first.
-///
-/// It samples at the multiples of its period, but not at tick 0.
-#[tactic(auto, using(crate::proofs::Parts::sample_tells))]
-fn sampled_value(pin: u32, delay: u64, period: u64, tick: u64, waves: &[Waveform]) -> Value
-    requires pin { pin < length waves.now }
-    requires period { 0 < period }
-    ensures { result ≡
-        (if nat_lt tick (delay + period) then Unknown
-        else signals_in waves.now pin (period * ((tick - delay) / period))) }
+/// What a flip-flop shows: its pin at the tick it asks for, X where there is none.
+fn sampled_value(pin: u32, asked: Option<u64>, waves: &[Waveform]) -> Value
+    requires { pin < length waves.now }
+    ensures { result ≡ option_map_or (signals_in waves.now pin) asked Unknown }
 {
-    let sample = last_sample(delay, period, tick);
-    if sample < period {
-        return Value::Unknown;
+    match asked {
+        Some(tick) => shown(waves, pin, tick),
+        None => Value::Unknown,
     }
-    shown(waves, pin, sample)
-}
-
-/// The last multiple of the period that is at least a delay ago, and 0 before the delay is over.
-fn last_sample(delay: u64, period: u64, tick: u64) -> u64
-    requires { 0 < period }
-    ensures { result ≡ period * ((tick - delay) / period) }
-{
-    tick.saturating_sub(delay) / period * period
 }
 
 /// What the waveform of a net shows at a tick.

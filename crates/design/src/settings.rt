@@ -2,6 +2,7 @@ ghost use Rattle.std.specs.Prelude.{◌≡◌};
 ghost use Rattle.design.specs.Options.{options_of};
 
 use crate::fault::OptionFault;
+use crate::limits::{MOST_DELAY, MOST_TICKS};
 
 /// Whether the settings of a run, in ticks, are in their ranges; takes no memory.
 ///
@@ -11,10 +12,10 @@ use crate::fault::OptionFault;
 pub fn options(default_delay: u64, period: u64) -> Result<(), OptionFault>
     ensures { result ≡ options_of default_delay period }
 {
-    if default_delay < 1 || default_delay > 1_000_000 {
+    if default_delay < 1 || default_delay > MOST_DELAY {
         return Err(OptionFault::BadDelay);
     }
-    if period < 1 || period > 10_000_000 {
+    if period < 1 || period > MOST_TICKS {
         return Err(OptionFault::BadPeriod);
     }
     Ok(())

@@ -8,13 +8,11 @@ ghost use Rattle.design.specs.Stimuli.{StimulusLine, net_stimuli, stimuli_of, st
 
 use crate::delays::is_input;
 use crate::fault::StimulusFault;
+use crate::limits::MOST_TICKS;
 use bench_text::Netlist;
-use bench_text::text::{LONGEST_TEXT, code_lines, is_plain, number, words};
+use bench_text::text::{LONGEST_TEXT, code_lines, is_plain, number, words_of};
 use logic3::{Change, Value};
 use std::alloc::{AllocError, Global};
-
-/// The last tick that a stimulus may name.
-const MOST_TICKS: u64 = 10_000_000;
 
 /// The change that a line gives a net.
 #[derive(Clone, Copy)]
@@ -38,7 +36,7 @@ pub(crate) fn stimuli(
     }
     let mut stimuli = no_changes(alloc, netlist.nets())?;
     for (line, code) in code_lines(text) {
-        let given = net_change(alloc, netlist, line, code)?;
+        let given = net_change(netlist, line, code)?;
         let changes = &mut stimuli[given.net as usize];
         if !is_after(given.change.tick, changes) {
             return Err(StimulusFault::NotRising { line });
@@ -69,19 +67,13 @@ fn is_after(tick: u64, changes: &[Change]) -> bool
 }
 
 /// What the line of this number gives, or its first fault; `code` is the line without its comment.
-fn net_change(
-    alloc: Global,
-    netlist: &Netlist,
-    line: u64,
-    code: &[u8],
-) -> Result<NetChange, StimulusFault>
+fn net_change(netlist: &Netlist, line: u64, code: &[u8]) -> Result<NetChange, StimulusFault>
     ensures net { IfOk result (λ given. given.net < length netlist.now.nets) }
-    ensures change { result ≢ Err StimulusFault.Memory →
-        result_map_both (λ given. record { name = (net_at netlist.now given.net).name; change = given.change })
+    ensures change { result_map_both (λ given. record { name = (net_at netlist.now given.net).name; change = given.change })
         (λ fault. fault) result
         ≡ stimulus_or_fault netlist.now (line, code.now) }
 {
-    let Some((tick, name, word)) = tick_name_and_word(alloc, code)? else {
+    let Some((tick, name, word)) = tick_name_and_word(code) else {
         return Err(StimulusFault::BadLine { line });
     };
     let Some(net) = netlist.find(name) else {
@@ -103,20 +95,24 @@ fn net_change(
 }
 
 /// The number, the name and the word for a value on a line, if it has just these.
-fn tick_name_and_word(alloc: Global, code: &[u8]) -> Result<Option<(u64, &[u8], &[u8])>, AllocError>
-    ensures { IfOk result (λ found.
-        option_map (λ found. record { tick = found.0; name = found.1.now; value = found.2.now }) found
+fn tick_name_and_word(code: &[u8]) -> Option<(u64, &[u8], &[u8])>
+    ensures { option_map (λ found. record { tick = found.0; name = found.1.now; value = found.2.now }) result
         ≡ option_map (λ (s : StimulusLine). record s { tick = min (2 ^ 64 - 1) s.tick })
-        (stimulus_in code.now)) }
+        (stimulus_in code.now) }
 {
     if !is_plain(code) {
-        return Ok(None);
+        return None;
     }
-    let words = words(alloc, code)?;
-    let [tick, name, value] = words.as_slice() else {
-        return Ok(None);
+    let mut words = words_of(code);
+    let (Some(tick), Some(name), Some(value), None) = (
+        words.next(),
+        words.next(),
+        words.next(),
+        words.next(),
+    ) else {
+        return None;
     };
-    Ok(number(tick).map(|tick| (tick, *name, *value)))
+    Some((number(tick)?, name, value))
 }
 
 /// The value that a word means.

@@ -1,5 +1,5 @@
 -- Designs that agree on a closed set of names show the same there.
-use Rattle.std.proofs.Common.{◌≡◌, ℕ, zero, suc, ◌+◌, ◌-◌, ◌*◌, ◌/◌, ◌<◌, ◌≤◌, nat_lt, nat_le, false, cond, List, [], ◌∷◌, map, length, Some, refl, ap, sym, ◌∙◌, subst, arith, slice_get, ltb-false, ◌⊎◌, inl, inr, All}
+use Rattle.std.proofs.Common.{◌≡◌, ℕ, zero, suc, ◌+◌, ◌<◌, ◌≤◌, nat_le, false, cond, List, [], ◌∷◌, map, length, Some, refl, ap, sym, ◌∙◌, subst, arith, slice_get, ◌⊎◌, inl, inr, All}
 use Rattle.std.specs.List.{AllByRecursion}
 use Rattle.std.proofs.lemmas.Bool.{le-leb, cases_lt}
 use Rattle.std.proofs.lemmas.Bool.Decides.{nat_tests}
@@ -14,13 +14,11 @@ use Rattle.bench_text.specs.declared.part.Part.TheVariants.{Input, Gate, Flop}
 use Rattle.bench_text.specs.Netlist.{NetView, net_named}
 use Rattle.design.specs.Circuit.{Net, HasDelay}
 use Rattle.design.specs.Design.{DesignView, IsDesign}
-use Rattle.design.specs.Equations.{equation_of_part, value_within, value_of}
-use Rattle.design.proofs.Joined.{net_named-circuit}
-use Rattle.design.proofs.Named.{no_net, net_at-named}
-use Rattle.design.proofs.Solution.{behind}
-use Rattle.design.proofs.Stored.{length-circuit}
-use Rattle.design.proofs.WellFormed.{timed_at, pins_at, IsCircuit-from_IsDesign}
-use Rattle.fanin_cone.specs.Cone.{name_at, pin_names, IsClosed}
+use Rattle.design.specs.Samples.{timing_of, asked_of_part}
+use Rattle.design.specs.Equations.{values_at, equation_of_part, value_within, value_of}
+use Rattle.design.proofs.CallerLemmas.{net_named-circuit, no_net, net_at-named, asked-early, same_asked, length-circuit, timed_at, pins_at, IsCircuit-from_IsDesign}
+use Rattle.bench_text.specs.Canonical.{name_at}
+use Rattle.fanin_cone.specs.Cone.{pin_names, IsClosed}
 use Rattle.fanin_cone.specs.Agreement.{net_of, stimuli_to, IsSameNet, AgreesAt, AgreesOn}
 use Rattle.fanin_cone.proofs.DesignNets.{net_at-untimed}
 use Rattle.fanin_cone.proofs.NetOf.{own_number, net_of-found}
@@ -47,21 +45,20 @@ value_after-filter v (change ∷ changes) horizon tick h =
 -- the same signals at each earlier tick give the same value
 same_equation : (part : Part) (x y : Net) (f g : ℕ → ℕ → Value) (horizon tick : ℕ) → HasDelay part x.delay → 1 ≤ x.period →
     x.delay ≡ y.delay → (part ≡ Flop → x.period ≡ y.period) → stimuli_to horizon x.stimuli ≡ stimuli_to horizon y.stimuli → tick ≤ horizon →
-    ((at : ℕ) → at < tick → map (λ (signal : ℕ → Value). signal at) (map f x.pins) ≡ map (λ (signal : ℕ → Value). signal at) (map g y.pins)) →
+    ((at : ℕ) → at < tick → values_at at (map f x.pins) ≡ values_at at (map g y.pins)) →
     equation_of_part part x (map f x.pins) tick ≡ equation_of_part part y (map g y.pins) tick
 same_equation Input x y f g horizon tick has_delay has_period delay period stimuli h pins =
     sym (value_after-filter Unknown x.stimuli horizon tick h)
     ∙ ap (λ changes. value_after Unknown changes tick) stimuli
     ∙ value_after-filter Unknown y.stimuli horizon tick h
 same_equation (Gate kind) x y f g horizon tick has_delay has_period delay period stimuli h pins =
-    rw (← delay) (behind (nat_lt tick x.delay) Unknown _ _ (λ late.
-    let past : x.delay ≤ tick = omega (arith, ltb-false) in
-    ap (value_of_gate kind) (pins (tick - x.delay) (omega arith))))
+    rw (← delay) (same_asked (asked_of_part (Gate kind) (timing_of x) tick) _ _ Unknown (λ at is.
+    let early = asked-early (timing_of x) has_period (Gate kind) tick at is in
+    ap (value_of_gate kind) (pins at (omega arith))))
 same_equation Flop x y f g horizon tick has_delay has_period delay period stimuli h pins =
-    rw (← delay, ← period refl) (behind (nat_lt tick (x.delay + x.period)) Unknown _ _ (λ late.
-    let past : x.delay + x.period ≤ tick = omega (arith, ltb-false) in
-    let within : x.period * ((tick - x.delay) / x.period) ≤ tick - x.delay = omega arith in
-    ap only_pin (pins (x.period * ((tick - x.delay) / x.period)) (omega arith))))
+    rw (← delay, ← period refl) (same_asked (asked_of_part Flop (timing_of x) tick) _ _ Unknown (λ at is.
+    let early = asked-early (timing_of x) has_period Flop tick at is in
+    ap only_pin (pins at (omega arith))))
 
 module _ (a b : DesignView) (ok_a : IsDesign a) (ok_b : IsDesign b) (K : List ℕ → Type 0) where
   -- pins of the same names show the same
@@ -69,7 +66,7 @@ module _ (a b : DesignView) (ok_a : IsDesign a) (ok_b : IsDesign b) (K : List �
       ((name : List ℕ) (m n : ℕ) → K name → net_named a.netlist name ≡ Some m → net_named b.netlist name ≡ Some n → f m at ≡ g n at) →
       (ps qs : List ℕ) → AllByRecursion (λ pin. pin < length a.circuit) ps → AllByRecursion (λ pin. pin < length b.circuit) qs →
       AllByRecursion K (pin_names a.netlist ps) → pin_names a.netlist ps ≡ pin_names b.netlist qs →
-      map (λ (signal : ℕ → Value). signal at) (map f ps) ≡ map (λ (signal : ℕ → Value). signal at) (map g qs)
+      values_at at (map f ps) ≡ values_at at (map g qs)
   same_pins f g at same [] [] u v k e = refl
   same_pins f g at same [] (q ∷ qs) u v k e = cc
   same_pins f g at same (p ∷ ps) [] u v k e = cc

@@ -8,9 +8,9 @@ use Rattle.std.proofs.lemmas.List.Elements.{All-nil, All-cons}
 use Rattle.std.proofs.lemmas.List.Folds.{list_any_none}
 use Rattle.std.proofs.lemmas.List.Sums.{position_or_len_is}
 use Rattle.bench_text.specs.Netlist.{NetlistView, net_named}
-use Rattle.bench_text.proofs.Among.{is_some-position}
-use Rattle.design.proofs.Named.{net_at-named}
-use Rattle.fanin_cone.specs.Cone.{name_at}
+use Rattle.bench_text.proofs.CallerLemmas.{is_some-position}
+use Rattle.design.proofs.CallerLemmas.{net_at-named}
+use Rattle.bench_text.specs.Canonical.{name_at}
 use Rattle.fanin_cone.specs.Extract.{first_unknown}
 
 -- the names have these numbers

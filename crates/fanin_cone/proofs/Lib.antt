@@ -1,15 +1,16 @@
-pub mod Agreed
-pub mod Agreeing
-pub mod DesignNets
-pub mod Extracted
-pub mod Extracting
-pub mod KnownNames
-pub mod Least
-pub mod Listed
-pub mod Marking
-pub mod NetNames
-pub mod NetOf
-pub mod Numbered
-pub mod SameNames
-pub mod Stimuli
-pub mod Walking
+mod Agreed
+mod Agreeing
+pub mod CallerLemmas
+mod DesignNets
+mod Extracted
+mod Extracting
+mod KnownNames
+mod Least
+mod Listed
+mod Marking
+mod NetNames
+mod NetOf
+mod Numbered
+mod SameNames
+mod Stimuli
+mod Walking

@@ -8,7 +8,7 @@ use Rattle.std.proofs.lemmas.List.Elements.{All-append, All-filter, All-from_get
 use Rattle.std.proofs.lemmas.List.Folds.{list_any_more}
 use Rattle.std.proofs.lemmas.List.Sums.{sum_by-set}
 use Rattle.bench_text.specs.Netlist.{distinct}
-use Rattle.bench_text.proofs.Distinct.{distinct_push, All-distinct}
+use Rattle.bench_text.proofs.CallerLemmas.{distinct_push, All-distinct}
 use Rattle.fanin_cone.specs.Walk.{is_marked, unmarked, Marks}
 use Rattle.fanin_cone.proofs.Listed.{contains_from_any, any_from_contains, list_any-filter, list_any-distinct}
 
@@ -115,16 +115,8 @@ module _ {nets : List ℕ} {old new : List Bool} {before after : List ℕ} (mark
       rw marked.list (Contains-append_right before _ net (contains_from_any _ net
       (list_any-distinct (filter new nets) net ∙ list_any-filter new net (ap not was) nets ∙ any_from_contains nets net at)))
 
--- where nothing was marked, the list is these nets, each once
+-- at first nothing is marked
 pub no_mark : (nets net : ℕ) → is_marked (replicate nets false) net ≡ false
 no_mark zero net = refl
 no_mark (suc nets) zero = refl
 no_mark (suc nets) (suc net) = no_mark nets net
-
-filter-all : {A : Type 0} (p : A → Bool) (xs : List A) → ((x : A) → p x ≡ true) → filter p xs ≡ xs
-filter-all p [] all = refl
-filter-all p (x ∷ xs) all = rw (all x) (ap (λ xs. x ∷ xs) (filter-all p xs all))
-
-pub list-from_none : (bound : ℕ) (nets : List ℕ) (new : List Bool) (after : List ℕ) → Marks nets (replicate bound false) new [] after → after ≡ distinct nets
-list-from_none bound nets new after marked =
-    marked.list ∙ ap distinct (filter-all (λ net. not (is_marked (replicate bound false) net)) nets (λ net. ap not (no_mark bound net)))

@@ -7,7 +7,7 @@ use Rattle.bench_text.specs.declared.part.Part.{Part}
 use Rattle.bench_text.specs.declared.part.Part.TheVariants.{Input}
 use Rattle.design.specs.Circuit.{Net, HasStimuli}
 use Rattle.design.specs.Design.{DesignView, IsDesign}
-use Rattle.design.proofs.WellFormed.{timed_at, IsCircuit-from_IsDesign}
+use Rattle.design.proofs.CallerLemmas.{timed_at, IsCircuit-from_IsDesign}
 use Rattle.fanin_cone.proofs.DesignNets.{net_with}
 
 -- where those that pass stand before those that do not, they are the first ones

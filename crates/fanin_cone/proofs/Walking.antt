@@ -3,8 +3,9 @@ use Rattle.std.proofs.Common.{◌≡◌, ℕ, ◌<◌, Bool, false, List, [], �
 use Rattle.std.proofs.lemmas.List.{length-replicate}
 use Rattle.std.proofs.lemmas.List.Elements.{All-nil, All-contains_itself, Contains-get_or, All-weaker, All-contains, Contains-append_left, Contains-push, Contains-push_cases}
 use Rattle.bench_text.specs.Netlist.{NetView, NetlistView, IsNetlist, net_at}
-use Rattle.design.proofs.Named.{no_net}
-use Rattle.fanin_cone.specs.Cone.{name_at, InCone, start, pin, IsConeOf}
+use Rattle.design.proofs.CallerLemmas.{no_net}
+use Rattle.bench_text.specs.Canonical.{name_at}
+use Rattle.fanin_cone.specs.Cone.{InCone, start, pin, IsConeOf}
 use Rattle.fanin_cone.specs.Walk.{is_marked, Marks, MarksCone, NumbersMarked}
 use Rattle.fanin_cone.proofs.Listed.{Contains-map, Contains-from_map}
 use Rattle.fanin_cone.proofs.NetNames.{same_net, number_of_net, pins_below}

@@ -1,14 +1,20 @@
 -- Two designs that agree on a set of names.
-use Rattle.std.specs.Prelude.{◌≡◌, ℕ, nat_le, List, filter, find, Option, Some, bytes_eq}
+use Rattle.std.specs.Prelude.{◌≡◌, ℕ, ◌≤◌, nat_le, List, filter, find, Option, Some, IsSome, bytes_eq}
 use Rattle.logic3.specs.declared.change.Change.{Change}
 use Rattle.bench_text.specs.declared.part.Part.TheVariants.{Flop}
+use Rattle.bench_text.specs.Netlist.{net_named}
 use Rattle.design.specs.Circuit.{Net}
-use Rattle.design.specs.Design.{DesignView}
+use Rattle.design.specs.Design.{DesignView, IsDesign}
+use Rattle.design.specs.Equations.{value_of}
 use Rattle.fanin_cone.specs.Cone.{pin_names}
 
 -- the net of a name
 abbrev pub net_of : DesignView → List ℕ → Option Net
 net_of design name = find (λ (net : Net). bytes_eq net.name name) design.circuit
+
+-- the design has a net of this name
+abbrev pub HasNet : DesignView → List ℕ → Type 0
+HasNet design name = IsSome (net_of design name)
 
 -- the stimuli at ticks up to the horizon
 abbrev pub stimuli_to : ℕ → List Change → List Change
@@ -37,3 +43,15 @@ pub record AgreesAt (a b : DesignView) (horizon : ℕ) (name : List ℕ) : Type 
 -- each name of the set is such a net
 abbrev pub AgreesOn : DesignView → DesignView → (List ℕ → Type 0) → ℕ → Type 0
 AgreesOn a b K horizon = (name : List ℕ) → K name → AgreesAt a b horizon name
+
+-- two designs that agree on a set of names
+pub record DesignsAgree (a b : DesignView) (K : List ℕ → Type 0) (horizon : ℕ) : Type 0 where
+  pub first : IsDesign a
+  pub second : IsDesign b
+  pub agree : AgreesOn a b K horizon
+
+-- the nets that two designs have of one name show the same, at each tick up to the horizon
+abbrev pub ShowTheSame : DesignView → DesignView → ℕ → List ℕ → Type 0
+ShowTheSame a b horizon name =
+    (m n tick : ℕ) → net_named a.netlist name ≡ Some m → net_named b.netlist name ≡ Some n → tick ≤ horizon →
+    value_of a.circuit m tick ≡ value_of b.circuit n tick

@@ -1,14 +1,15 @@
 -- Closed sets of names, and the fan-in cone of names.
-use Rattle.std.specs.Prelude.{ℕ, ◌<◌, ◌↔◌, List, length, map, All, AllPairs, Contains}
-use Rattle.bench_text.specs.Netlist.{NetView, NetlistView, net_at}
-
--- the name of the net of a number
-abbrev pub name_at : NetlistView → ℕ → List ℕ
-name_at netlist number = (net_at netlist number).name
+use Rattle.std.specs.Prelude.{ℕ, ◌<◌, ◌↔◌, Bool, IsTrue, List, length, map, All, AllPairs, Contains}
+use Rattle.bench_text.specs.Netlist.{NetView, NetlistView}
+use Rattle.bench_text.specs.Canonical.{name_at}
 
 -- the names of the nets at these pins
 abbrev pub pin_names : NetlistView → List ℕ → List (List ℕ)
 pin_names netlist pins = map (name_at netlist) pins
+
+-- the set of names that a test gives
+abbrev pub Passes : (List ℕ → Bool) → List ℕ → Type 0
+Passes test name = IsTrue (test name)
 
 -- the set holds the pin names of each of its nets, flip-flops too
 abbrev pub IsClosed : NetlistView → (List ℕ → Type 0) → Type 0

@@ -4,7 +4,7 @@ use Rattle.std.specs.Option.{is_none}
 use Rattle.bench_text.specs.Netlist.{NetlistView, net_named, distinct}
 use Rattle.bench_text.specs.Pick.{picked}
 use Rattle.design.specs.Circuit.{Net}
-use Rattle.design.specs.Design.{DesignView}
+use Rattle.design.specs.Design.{DesignView, IsDesign}
 use Rattle.fanin_cone.specs.Cone.{IsConeOf}
 use Rattle.fanin_cone.specs.Agreement.{net_of, HasSameTiming}
 
@@ -22,3 +22,10 @@ pub record IsExtract (netlist : NetlistView) (names : List (List ℕ)) (extract 
 abbrev pub KeepsTiming : DesignView → DesignView → ℕ → Type 0
 KeepsTiming whole extract horizon =
     (name : List ℕ) (x y : Net) → net_of extract name ≡ Some x → net_of whole name ≡ Some y → HasSameTiming horizon x y
+
+-- a design of what is extracted from another one for these names, with the timing that its nets have there
+pub record IsDesignOfExtract (whole extract : DesignView) (names : List (List ℕ)) (horizon : ℕ) : Type 0 where
+  pub first : IsDesign whole
+  pub second : IsDesign extract
+  pub nets : IsExtract whole.netlist names extract.netlist
+  pub timing : KeepsTiming whole extract horizon

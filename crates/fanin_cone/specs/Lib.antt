@@ -4,6 +4,7 @@ pub use Rattle.logic3.specs.Wave
 pub use Rattle.bench_text.specs.Text
 pub use Rattle.bench_text.specs.Netlist
 pub use Rattle.bench_text.specs.Pick
+pub use Rattle.bench_text.specs.Canonical
 pub use Rattle.bench_text.specs.Seen
 pub use Rattle.design.specs.Circuit
 pub use Rattle.design.specs.Design

@@ -2,7 +2,8 @@
 use Rattle.std.specs.Prelude.{◌≡◌, ℕ, ◌+◌, ◌<◌, ◌==◌, ◌||◌, ◌↔◌, not, Bool, false, IsTrue, List, ◌++◌, length, filter, count_by, slice_index_or, AllPairs, Contains}
 use Rattle.std.specs.List.{list_any}
 use Rattle.bench_text.specs.Netlist.{NetlistView, distinct}
-use Rattle.fanin_cone.specs.Cone.{name_at, InCone}
+use Rattle.bench_text.specs.Canonical.{name_at}
+use Rattle.fanin_cone.specs.Cone.{InCone}
 
 abbrev pub is_marked : List Bool → ℕ → Bool
 is_marked marks net = slice_index_or marks net false

@@ -3,7 +3,8 @@ ghost use Rattle.std.specs.Prelude.{◌≡◌, ◌∷◌, [], ◌<◌, ◌↔◌
 ghost use Rattle.logic3.specs.declared.change.Change.{Change as TheChange};
 ghost use Rattle.design.specs.Circuit.{Net};
 ghost use Rattle.design.specs.Design.{IsDesign};
-ghost use Rattle.fanin_cone.specs.Cone.{name_at, pin_names, InCone};
+ghost use Rattle.bench_text.specs.Canonical.{name_at};
+ghost use Rattle.fanin_cone.specs.Cone.{pin_names, InCone};
 ghost use Rattle.fanin_cone.specs.Agreement.{net_of, stimuli_to, IsSameNet, AgreesAt, AgreesOn};
 
 use crate::cones::cone;
@@ -87,7 +88,7 @@ fn is_same_part(first: &Design, net: u32, second: &Design, other: u32) -> bool
         IsTrue result ↔ ((x.part ≡ y.part) × (x.part ≡ Part.Flop → x.period ≡ y.period)) }
 {
     let part = first.part(net);
-    part == second.part(other) && (part != Part::Flop || first.period() == second.period())
+    part == second.part(other) && (part != Part::Flop || first.period(net) == second.period(other))
 }
 
 /// Whether the pins of two nets have the same names, in order.

@@ -1,13 +1,13 @@
 //! The nets of some cones as a netlist of their own.
 ghost use Rattle.std.specs.Prelude.{◌≡◌, ◌≢◌, ℕ, ◌<◌, ◌↔◌, length, map, All, IfOk, Some};
-ghost use Rattle.bench_text.specs.Netlist.{distinct, net_named};
+ghost use Rattle.bench_text.specs.Netlist.{net_named};
 ghost use Rattle.bench_text.specs.Seen.{seen_names};
 ghost use Rattle.fanin_cone.specs.Extract.{first_unknown, IsExtract};
 
-use crate::cones::{cone_of, mark};
+use crate::cones::cone_of;
 use crate::fault::ConeFault;
-use bench_text::Netlist;
-use std::alloc::{AllocError, Global};
+use bench_text::{Netlist, without_repeats};
+use std::alloc::Global;
 
 /// The nets in the fan-in cones of the nets of these names, in their old order, as a netlist of
 /// their own, whose outputs are the nets of these names, each where its name stands first.
@@ -45,15 +45,4 @@ fn numbers(alloc: Global, netlist: &Netlist, names: &[&[u8]]) -> Result<Vec<u32>
         numbers.push(net)?;
     }
     Ok(numbers)
-}
-
-/// Each of these numbers, which are below `bound`, where it stands first.
-fn without_repeats(alloc: Global, numbers: &[u32], bound: usize) -> Result<Vec<u32>, AllocError>
-    requires { All (λ number. number < bound) numbers.now }
-    ensures { IfOk result (λ kept. kept.items ≡ distinct numbers.now) }
-{
-    let mut marks = vec![in alloc; false; bound]?;
-    let mut kept = Vec::new(alloc);
-    mark(numbers, &mut marks, &mut kept)?;
-    Ok(kept)
 }

@@ -3,10 +3,11 @@ use Rattle.std.proofs.Common.{◌≡◌, ℕ, zero, suc, ◌<◌, ◌≤◌, Lis
 use Rattle.std.proofs.lemmas.Bool.{lt-ltb}
 use Rattle.logic3.specs.declared.change.Change.{Change}
 use Rattle.logic3.specs.Wave.{Wave, value_at, value_before, last_value, changes_between, wave_of, joined}
-use Rattle.logic3.proofs.Waves.{last_value-wave_of, All-wave_of, changes_between-same, joined-wave_of}
-use Rattle.gate_process.specs.Knowledge.{Knowledge, kept}
-use Rattle.gate_process.specs.Step.{ProcessState, next_frontier, reckoned, advanced}
+use Rattle.logic3.proofs.CallerLemmas.{last_value-wave_of, All-wave_of, changes_between-same, joined-wave_of}
+use Rattle.gate_process.specs.Knowledge.{Knowledge, keeping}
+use Rattle.gate_process.specs.Step.{ProcessState, next_frontier, oldest_asked, reckoned, extended, advanced}
 use Rattle.gate_process.specs.Truth.{IsProcess}
+use Rattle.gate_process.proofs.Kept.{all_kept-map}
 
 module _ (process : ProcessState) (ok : IsProcess process) where
   known_wave : process.known.wave ≡ wave_of (value_at process.known.wave) process.floor process.known.frontier
@@ -43,11 +44,12 @@ module _ (process : ProcessState) (ok : IsProcess process) where
       ∙ joined-wave_of (reckoned process) process.floor process.known.frontier (next_frontier process) ok.floor ok.ahead
 
   -- so a process of these parts has advanced
-  pub advanced_of : (wave : Wave) (frontier : ℕ) (received : List Knowledge) → frontier ≡ next_frontier process →
+  pub advanced_of : (wave : Wave) (frontier oldest : ℕ) (received : List Knowledge) → frontier ≡ next_frontier process →
       wave ≡ joined process.known.wave (changes_between (reckoned process) process.known.frontier frontier) →
-      received ≡ map (kept frontier process.net.delay) process.received →
+      ((place : ℕ) → oldest ≡ oldest_asked process.net place frontier) → received ≡ map (keeping oldest) process.received →
       record process { known = record { wave = wave; frontier = frontier }; received = received } ≡ advanced process
-  advanced_of wave frontier received to wave_is received_is =
-      let all = received_is ∙ ap (λ n. map (kept n process.net.delay) process.received) to in
+  advanced_of wave frontier oldest received to wave_is oldest_is received_is =
+      let all = received_is
+      ∙ all_kept-map (extended process) oldest 0 process.received (λ place. oldest_is place ∙ ap (oldest_asked process.net place) to) in
       let shown = wave_is ∙ ap (λ n. joined process.known.wave (changes_between (reckoned process) process.known.frontier n)) to ∙ advanced_wave in
       λ i. record process { known = record { wave = shown i; frontier = to i }; received = all i }

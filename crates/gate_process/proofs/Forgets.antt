@@ -7,7 +7,7 @@ use Rattle.logic3.specs.declared.value.Value.{Value}
 use Rattle.logic3.specs.declared.value.Value.TheVariants.{Unknown}
 use Rattle.logic3.specs.declared.change.Change.{Change}
 use Rattle.logic3.specs.Wave.{value_after, value_at, value_before, value_in_the_end, changes_between, Alternates}
-use Rattle.logic3.proofs.Waves.{changes_between-split, changes_between-same, change_at-some, IsWave-wave_of, All-wave_of}
+use Rattle.logic3.proofs.CallerLemmas.{changes_between-split, changes_between-same, change_at-some, IsWave-wave_of, All-wave_of}
 use Rattle.gate_process.specs.Knowledge.{Knowledge, IsKnowledge, forgetting}
 use Rattle.gate_process.proofs.Told.{one_change}
 use Rattle.gate_process.proofs.Steady.{quiet}

@@ -1,16 +1,16 @@
 -- How far a process can reckon.
-use Rattle.std.proofs.Common.{◌≡◌, ℕ, zero, suc, ◌+◌, ◌-◌, ◌*◌, ◌/◌, ◌%◌, ◌<◌, ◌≤◌, min, max, List, [], ◌∷◌, ◌++◌, map, length, take, get_or, Some, slice_get, refl, ap, sym, ◌∙◌, arith, ◌⊎◌, inl, inr}
-use Rattle.std.proofs.lemmas.Bool.{cases_lt}
+use Rattle.std.proofs.Common.{◌≡◌, ℕ, zero, suc, ◌+◌, ◌<◌, ◌≤◌, min, List, [], ◌∷◌, ◌++◌, map, length, take, get_or, Option, None, Some, slice_get, refl, ap, sym, ◌∙◌, arith}
+use Rattle.std.specs.Option.{option_map_or}
 use Rattle.std.proofs.lemmas.List.{map_more}
-use Rattle.std.proofs.lemmas.Nat.{le-div}
-use Rattle.std.proofs.Math.Nat.{mul-div-le, mul-le-mul_left, div-lt_iff_lt-mul, mul_comm}
-use Rattle.std.specs.Int.{div_ceil}
+use Rattle.std.proofs.lemmas.Option.{none-some, same_Some}
 use Rattle.bench_text.specs.declared.part.Part.{Part}
 use Rattle.bench_text.specs.declared.part.Part.TheVariants.{Input, Gate, Flop}
 use Rattle.design.specs.Circuit.{Net}
+use Rattle.design.specs.Samples.{timing_of, asked_tick, asker_of_part, first_asker}
+use Rattle.design.proofs.CallerLemmas.{asked-from, asker-late, asker-mono, asker-none}
 use Rattle.cmb_channels.specs.Lists.{update}
 use Rattle.gate_process.specs.Knowledge.{Knowledge}
-use Rattle.gate_process.specs.Step.{least, next_sample, frontier_of_part, asked_of_part, own_delay}
+use Rattle.gate_process.specs.Step.{least, frontier_of, oldest_asked, own_delay}
 
 pub least-bound : (bound : ℕ) (xs : List ℕ) → least bound xs ≤ bound
 least-bound bound [] = omega arith
@@ -57,110 +57,53 @@ least-update bound (x ∷ xs) zero change h =
     let raised = h x refl in least-mono (min bound x.frontier) (min bound (change x).frontier) (map (λ (known : Knowledge). known.frontier) xs) (omega arith)
 least-update bound (x ∷ xs) (suc place) change h = least-update (min bound x.frontier) xs place change h
 
--- the sample that a tick shows is known, where the tick is before the next sample
-pub sample_below : (period safe tick : ℕ) → 0 < period → period ≤ tick → tick < next_sample period safe → period * (tick / period) < safe
-sample_below period safe tick pos first below = go (cases_lt (period * (tick / period)) safe)
+to_end : (end : ℕ) (first : Option ℕ) → option_map_or (min end) first end ≤ end
+to_end end None = omega arith
+to_end end (Some first) = omega arith
+
+pub frontier-end : (net : Net) (end safe : ℕ) → frontier_of net end safe ≤ end
+frontier-end net end safe = to_end end (first_asker net safe)
+
+pub frontier-mono : (net : Net) (end low high : ℕ) → 0 < net.period → low ≤ high → frontier_of net end low ≤ frontier_of net end high
+frontier-mono net end low high some h = go (first_asker net low) refl
   where
-    go : (period * (tick / period) < safe) ⊎ (safe ≤ period * (tick / period)) → period * (tick / period) < safe
-    go (inl h) = h
-    go (inr h) =
-        let one : 1 ≤ tick / period = le-div 1 tick period pos (omega arith) in
-        let least_one : (safe + (period - 1)) / period < tick / period + 1 =
-        (div-lt_iff_lt-mul {k = period} {x = safe + (period - 1)} {y = tick / period + 1} pos).1 (omega (arith, mul_comm period (tick / period))) in
-        let most : max 1 ((safe + (period - 1)) / period) ≤ tick / period = omega arith in
-        let less : next_sample period safe ≤ period * (tick / period) = mul-le-mul_left period most in
-        let within : period * (tick / period) ≤ tick = mul-div-le tick period in
-        absurd (omega (arith, below, less, within))
+    go : (first : Option ℕ) → first_asker net low ≡ first → option_map_or (min end) first end ≤ frontier_of net end high
+    go None none = rw (asker-none (timing_of net) some net.part low high none) (omega arith)
+    go (Some first) begins =
+        let next = asker-mono (timing_of net) some net.part low high first begins h in
+        rw next.1 (farther end first next.0 next.2)
+      where
+        farther : (end a b : ℕ) → a ≤ b → min end a ≤ min end b
+        farther end a b h = omega arith
 
-pub next_sample-mono : (period low high : ℕ) → 0 < period → low ≤ high → next_sample period low ≤ next_sample period high
-next_sample-mono period low high pos h =
-    let m : (low + (period - 1)) / period * period ≤ high + (period - 1) =
-    (let w : period * ((low + (period - 1)) / period) ≤ low + (period - 1) = mul-div-le (low + (period - 1)) period in
-    omega (arith, w, h, mul_comm period ((low + (period - 1)) / period))) in
-    let q : (low + (period - 1)) / period ≤ (high + (period - 1)) / period = le-div ((low + (period - 1)) / period) (high + (period - 1)) period pos m in
-    mul-le-mul_left period (let r : max 1 ((low + (period - 1)) / period) ≤ max 1 ((high + (period - 1)) / period) = omega (arith, q) in r)
-
--- a multiple of the period that is no later than a tick is no later than the sample there
-pub multiple_sampled : (period times tick : ℕ) → 0 < period → period * times ≤ tick → period * times ≤ period * (tick / period)
-multiple_sampled period times tick pos h =
-    mul-le-mul_left period (le-div times tick period pos (omega (arith, mul_comm period times)))
-
-pub frontier-end : (part : Part) (net : Net) (end safe : ℕ) → frontier_of_part part net end safe ≤ end
-frontier-end Input net end safe = omega arith
-frontier-end (Gate kind) net end safe = omega arith
-frontier-end Flop net end safe = omega arith
-
-pub frontier-mono : (part : Part) (net : Net) (end low high : ℕ) → 0 < net.period → low ≤ high →
-    frontier_of_part part net end low ≤ frontier_of_part part net end high
-frontier-mono Input net end low high period h = omega arith
-frontier-mono (Gate kind) net end low high period h = omega arith
-frontier-mono Flop net end low high period h =
-    let m : next_sample net.period low ≤ next_sample net.period high = next_sample-mono net.period low high period h in
-    least_of_sums end (next_sample net.period low) (next_sample net.period high) net.delay m
+-- no later value asks for a tick that a pin of this frontier may have forgotten
+pub asked-kept : (net : Net) (end safe place tick asked : ℕ) → 0 < net.period → frontier_of net end safe ≤ tick → tick < end →
+    asked_tick net tick ≡ Some asked → oldest_asked net place (frontier_of net end safe) ≤ asked
+asked-kept net end safe place tick asked some after before is = go (first_asker net safe) refl after
   where
-    least_of_sums : (end a b d : ℕ) → a ≤ b → min end (a + d) ≤ min end (b + d)
-    least_of_sums end a b d h = omega arith
-
--- no later value asks for a tick before the new frontier less the delay
-pub asked-kept : (part : Part) (net : Net) (end safe tick : ℕ) → 0 < net.period →
-    frontier_of_part part net end safe ≤ tick → tick < end → frontier_of_part part net end safe - net.delay ≤ asked_of_part part net tick
-asked-kept Input net end safe tick period a b = omega arith
-asked-kept (Gate kind) net end safe tick period a b = omega arith
-asked-kept Flop net end safe tick period a b =
-    let within : next_sample net.period safe + net.delay ≤ tick = past end (next_sample net.period safe) net.delay tick a b in
-    let sampled : next_sample net.period safe ≤ net.period * ((tick - net.delay) / net.period) =
-    multiple_sampled net.period _ (tick - net.delay) period (sub_past (next_sample net.period safe) net.delay tick within) in
-    less end (next_sample net.period safe) net.delay _ sampled
-  where
-    past : (end a d tick : ℕ) → min end (a + d) ≤ tick → tick < end → a + d ≤ tick
-    past end a d tick h k = omega arith
-
-    sub_past : (a d tick : ℕ) → a + d ≤ tick → a ≤ tick - d
-    sub_past a d tick h = omega arith
-
-    less : (end a d b : ℕ) → a ≤ b → min end (a + d) - d ≤ b
-    less end a d b h = omega arith
-
-pub next_sample-le : (period safe : ℕ) → 0 < period → safe ≤ next_sample period safe
-next_sample-le period safe pos =
-    let whole : period * ((safe + (period - 1)) / period) + (safe + (period - 1)) % period ≡ safe + (period - 1) = omega arith in
-    let part : (safe + (period - 1)) % period < period = omega arith in
-    let more : period * ((safe + (period - 1)) / period) ≤ next_sample period safe =
-    mul-le-mul_left period (let m : (safe + (period - 1)) / period ≤ max 1 ((safe + (period - 1)) / period) = omega arith in m) in
-    omega (arith, whole, part, more)
+    go : (first : Option ℕ) → first_asker net safe ≡ first → option_map_or (min end) first end ≤ tick →
+        oldest_asked net place (option_map_or (min end) first end) ≤ asked
+    go None none late = absurd (omega (arith, late, before))
+    go (Some first) begins late =
+        let from = asked-from (timing_of net) some net.part safe first tick begins (omega (arith, late, before)) in
+        let same = same_Some from.0 asked (sym from.1 ∙ is) in
+        omega (arith, from.2, same)
 
 -- where all pins are known up to a tick, a net can be reckoned at least its delay farther
-pub frontier-farther : (part : Part) (net : Net) (end safe low delay : ℕ) → 0 < net.period → low ≤ safe →
-    delay ≤ own_delay part end net.delay → min end (low + delay) ≤ frontier_of_part part net end safe
-frontier-farther Input net end safe low delay period h k = omega arith
-frontier-farther (Gate kind) net end safe low delay period h k = omega arith
-frontier-farther Flop net end safe low delay period h k =
-    let s : safe ≤ next_sample net.period safe = next_sample-le net.period safe period in
-    farther end low delay (next_sample net.period safe) net.delay (omega (arith, s)) k
+pub frontier-farther : (net : Net) (end safe low delay : ℕ) → 0 < net.period → low ≤ safe → delay ≤ own_delay net.part end net.delay →
+    min end (low + delay) ≤ frontier_of net end safe
+frontier-farther net end safe low delay some h k = go (first_asker net safe) refl
   where
-    farther : (end low delay s d : ℕ) → low ≤ s → delay ≤ d → min end (low + delay) ≤ min end (s + d)
-    farther end low delay s d h k = omega arith
+    own : (part : Part) (first : ℕ) → asker_of_part part (timing_of net) safe ≡ Some first → own_delay part end net.delay ≡ net.delay
+    own Input first begins = absurd (none-some first begins)
+    own (Gate kind) first begins = refl
+    own Flop first begins = refl
 
--- so many periods, and one more where something is left
-pub div_ceil-is : (x period : ℕ) → 0 < period → div_ceil x period ≡ (x + (period - 1)) / period
-div_ceil-is x period pos = go (cases_lt 0 (x % period))
-  where
-    whole : period * (x / period) + x % period ≡ x
-    whole = omega arith
-
-    part : x % period < period
-    part = omega arith
-
-    between : (n : ℕ) → n * period ≤ x + (period - 1) → x + (period - 1) < (n + 1) * period → n ≡ (x + (period - 1)) / period
-    between n low high =
-        let up : (x + (period - 1)) / period < n + 1 =
-        (div-lt_iff_lt-mul {k = period} {x = x + (period - 1)} {y = n + 1} pos).1 high in
-        omega (arith, up, le-div n (x + (period - 1)) period pos low)
-
-    go : (0 < x % period) ⊎ (x % period ≤ 0) → div_ceil x period ≡ (x + (period - 1)) / period
-    go (inl some) = between (x / period + min 1 (x % period))
-        (let one : min 1 (x % period) ≡ 1 = omega (arith, some) in rw one (omega (arith, some, whole, part, mul_comm period (x / period))))
-        (let one : min 1 (x % period) ≡ 1 = omega (arith, some) in rw one (omega (arith, some, whole, part, mul_comm period (x / period))))
-    go (inr none) = between (x / period + min 1 (x % period))
-        (let zero_left : min 1 (x % period) ≡ 0 = omega (arith, none) in rw zero_left (omega (arith, none, whole, part, mul_comm period (x / period))))
-        (let zero_left : min 1 (x % period) ≡ 0 = omega (arith, none) in rw zero_left (omega (arith, none, whole, part, mul_comm period (x / period))))
+    go : (first : Option ℕ) → first_asker net safe ≡ first → min end (low + delay) ≤ option_map_or (min end) first end
+    go None none = omega arith
+    go (Some first) begins =
+        farther end low delay first
+        (omega (arith, h, k, own net.part first begins, asker-late (timing_of net) some net.part safe first begins))
+      where
+        farther : (end low delay first : ℕ) → low + delay ≤ first → min end (low + delay) ≤ min end first
+        farther end low delay first h = omega arith

@@ -1,11 +1,13 @@
-pub mod Told
-pub mod Frontiers
-pub mod Reckoned
-pub mod Events
-pub mod Steady
-pub mod Forgets
-pub mod Heard
-pub mod Walks
-pub mod Advanced
-pub mod Nets
-pub mod Starts
+mod Advanced
+pub mod CallerLemmas
+mod Events
+mod Forgets
+mod Frontiers
+mod Heard
+mod Kept
+mod Nets
+mod Reckoned
+mod Starts
+mod Steady
+mod Told
+mod Walks

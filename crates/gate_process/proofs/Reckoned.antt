@@ -1,24 +1,20 @@
 -- A process that knows the truth reckons the truth.
-use Rattle.std.proofs.Common.{◌≡◌, ℕ, zero, suc, ◌+◌, ◌-◌, ◌<◌, ◌≤◌, ◌==◌, nat_lt, min, Bool, true, false, cond, List, [], ◌∷◌, map, length, Some, slice_get, refl, ap, sym, ◌∙◌, arith, ltb-false, ltb-true}
+use Rattle.std.proofs.Common.{◌≡◌, ℕ, zero, suc, ◌<◌, ◌≤◌, ◌==◌, nat_lt, min, Bool, true, false, cond, List, [], ◌∷◌, map, length, Option, None, Some, slice_get, refl, ap, sym, ◌∙◌, arith, ltb-false, ltb-true}
 use Rattle.std.proofs.lemmas.Bool.{eqb-true, eqb-false}
-use Rattle.std.proofs.lemmas.Option.{slice_get-map}
-use Rattle.std.specs.Option.{option_map}
+use Rattle.std.proofs.lemmas.Option.{none-some, slice_get-map}
+use Rattle.std.specs.Option.{option_map, option_map_or}
 use Rattle.logic3.specs.declared.value.Value.{Value}
-use Rattle.logic3.specs.declared.value.Value.TheVariants.{Unknown}
-use Rattle.logic3.specs.Gate.{value_of_gate, only_pin}
 use Rattle.logic3.specs.Wave.{value_at, value_before, changes_between}
-use Rattle.logic3.proofs.Waves.{value_at-wave_of, changes_between-same}
-use Rattle.bench_text.specs.declared.part.Part.{Part}
-use Rattle.bench_text.specs.declared.part.Part.TheVariants.{Input, Gate, Flop}
+use Rattle.logic3.proofs.CallerLemmas.{value_at-wave_of, changes_between-same}
 use Rattle.design.specs.Circuit.{Net}
-use Rattle.design.specs.Equations.{equation, equation_of_part}
-use Rattle.design.proofs.Solution.{behind}
-use Rattle.gate_process.specs.Knowledge.{Knowledge, knowledge_of, kept_from, news_of, Tells}
-use Rattle.gate_process.specs.Step.{ProcessState, safe_of, next_sample, frontier_of_part, next_frontier, asked_of_part, reckoned, news}
-use Rattle.gate_process.specs.Truth.{KnowsTruth}
-pub use Rattle.gate_process.specs.Truth.{Meets}
+use Rattle.design.specs.Samples.{timing_of, asked_tick, first_asker}
+use Rattle.design.specs.Equations.{equation}
+use Rattle.design.proofs.CallerLemmas.{asked-before, same_values, unasked}
+use Rattle.gate_process.specs.Knowledge.{Knowledge, knowledge_of, news_of, Tells}
+use Rattle.gate_process.specs.Step.{ProcessState, safe_of, frontier_of, next_frontier, kept_from, reckoned, news}
+use Rattle.gate_process.specs.Truth.{Meets, KnowsTruth}
 use Rattle.gate_process.proofs.Told.{before_kept, news_tells}
-use Rattle.gate_process.proofs.Frontiers.{least-le, sample_below, frontier-end}
+use Rattle.gate_process.proofs.Frontiers.{least-le, frontier-end}
 
 -- what is heard at the pins is what their sources show, at one tick
 same_heard : (received : List Knowledge) (pins : List ℕ) (signals : ℕ → ℕ → Value) (at : ℕ) → length received ≡ length pins →
@@ -34,24 +30,16 @@ same_heard (known ∷ received) (pin ∷ pins) signals at e h =
     let rest = same_heard received pins signals at (omega arith) (λ place source k a b. h (suc place) source k a b) in cc
 
 -- before its new frontier a net asks for ticks at which all its pins are known
-same_reckoned : (part : Part) (net : Net) (f g : List (ℕ → Value)) (end safe tick : ℕ) → 0 < net.period →
-    tick < frontier_of_part part net end safe →
-    (asked_of_part part net tick < safe → map (λ (signal : ℕ → Value). signal (asked_of_part part net tick)) f
-    ≡ map (λ (signal : ℕ → Value). signal (asked_of_part part net tick)) g) →
-    equation_of_part part net f tick ≡ equation_of_part part net g tick
-same_reckoned Input net f g end safe tick period below h = refl
-same_reckoned (Gate kind) net f g end safe tick period below h =
-    behind (nat_lt tick net.delay) Unknown _ _ (λ late.
-    let past : net.delay ≤ tick = omega (arith, ltb-false) in
-    ap (value_of_gate kind) (h (omega arith)))
-same_reckoned Flop net f g end safe tick period below h =
-    behind (nat_lt tick (net.delay + net.period)) Unknown _ _ (λ late.
-    let past : net.delay + net.period ≤ tick = omega (arith, ltb-false) in
-    let within : tick - net.delay < next_sample net.period safe = before end (next_sample net.period safe) net.delay tick below (omega (arith, past)) in
-    ap only_pin (h (sample_below net.period safe (tick - net.delay) period (omega (arith, past)) within)))
+asked_known : (net : Net) (end safe tick asked : ℕ) → 0 < net.period → tick < frontier_of net end safe → asked_tick net tick ≡ Some asked → asked < safe
+asked_known net end safe tick asked some below is = go (first_asker net safe) refl below
   where
-    before : (end a d tick : ℕ) → tick < min end (a + d) → d ≤ tick → tick - d < a
-    before end a d tick h k = omega arith
+    go : (first : Option ℕ) → first_asker net safe ≡ first → tick < option_map_or (min end) first end → asked < safe
+    go None none early = absurd (none-some asked (sym (unasked (timing_of net) some net.part safe tick none) ∙ is))
+    go (Some first) begins early =
+        asked-before (timing_of net) some net.part safe first tick asked begins is (sooner end first early)
+      where
+        sooner : (end first : ℕ) → tick < min end first → tick < first
+        sooner end first h = omega arith
 
 module _ (signals : ℕ → ℕ → Value) (number : ℕ) (process : ProcessState) (meets : Meets signals number process.net)
     (h : KnowsTruth signals number process) where
@@ -59,19 +47,17 @@ module _ (signals : ℕ → ℕ → Value) (number : ℕ) (process : ProcessStat
   equation_true : (tick : ℕ) → process.known.frontier ≤ tick → tick < next_frontier process →
       equation process.net (map (λ (known : Knowledge). value_at known.wave) process.received) tick ≡ signals number tick
   equation_true tick after below =
-      same_reckoned process.net.part process.net _ (map signals process.net.pins) process.end (safe_of process) tick meets.timed.period.0 below
-      (λ safe. same_heard process.received process.net.pins signals (asked_of_part process.net.part process.net tick) h.pins
-      (λ place source known a b.
-      let true_so_far = h.heard place source known a b in
-      let last : next_frontier process ≤ process.end = frontier-end process.net.part process.net process.end (safe_of process) in
-      let asked : process.known.frontier - process.net.delay ≤ asked_of_part process.net.part process.net tick =
-      h.asked tick after (omega (arith, below, last)) in
+      same_values process.net.part process.net _ (map signals process.net.pins) tick (λ at is.
+      let safe = asked_known process.net process.end (safe_of process) tick at meets.timed.period.0 below is in
+      same_heard process.received process.net.pins signals at h.pins (λ place source known a b.
+      let last : next_frontier process ≤ process.end = frontier-end process.net process.end (safe_of process) in
+      let asked = h.asked place tick at after (omega (arith, below, last)) is in
       let least_known : safe_of process ≤ known.frontier =
       least-le process.end (map (λ (k : Knowledge). k.frontier) process.received) place known.frontier
       (slice_get-map (λ (k : Knowledge). k.frontier) process.received place ∙ ap (option_map (λ (k : Knowledge). k.frontier)) b) in
-      ap (λ (k : Knowledge). value_at k.wave (asked_of_part process.net.part process.net tick)) true_so_far
-      ∙ value_at-wave_of (signals source) (kept_from process.known.frontier process.net.delay known.frontier) known.frontier
-      (asked_of_part process.net.part process.net tick) (omega (arith, asked)) (omega (arith, safe, least_known))))
+      ap (λ (k : Knowledge). value_at k.wave at) (h.heard place source known a b)
+      ∙ value_at-wave_of (signals source) (kept_from process place known.frontier) known.frontier at
+      (omega (arith, asked)) (omega (arith, safe, least_known))))
       ∙ sym (meets.solves tick)
 
   -- an advancing process reckons the signal at every tick from its floor to its next frontier

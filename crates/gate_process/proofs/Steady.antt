@@ -1,19 +1,23 @@
 -- Between the changes at its pins a net changes nothing, so a walk over these changes finds all of its own.
-use Rattle.std.proofs.Common.{◌≡◌, ℕ, zero, suc, ◌+◌, ◌-◌, ◌*◌, ◌/◌, ◌<◌, ◌≤◌, nat_le, nat_lt, true, false, cond, List, [], ◌∷◌, ◌++◌, AllPairs, length, slice_index_or, flat_map, refl, ap, sym, ◌∙◌, arith, ◌⊎◌, inl, inr, leb-true}
+use Rattle.std.proofs.Common.{◌≡◌, ℕ, zero, suc, ◌+◌, ◌-◌, ◌<◌, ◌≤◌, nat_le, true, false, cond, List, [], ◌∷◌, ◌++◌, AllPairs, length, slice_index_or, flat_map, Option, None, Some, option_map, refl, ap, sym, ◌∙◌, arith, ◌⊎◌, inl, inr, leb-true}
 use Rattle.std.specs.List.{range_with_len}
 use Rattle.std.specs.List.Sorted.{IsPartitionPoint}
-use Rattle.std.proofs.Math.Nat.{mul-div-le}
-use Rattle.std.proofs.lemmas.Bool.{cases_lt, le-leb, lt-leb, le-ltb, lt-ltb}
+use Rattle.std.specs.Option.{option_map_or}
+use Rattle.std.proofs.lemmas.Bool.{cases_lt, le-leb, lt-leb}
+use Rattle.std.proofs.lemmas.Option.{none-some, same_Some}
 use Rattle.logic3.specs.declared.value.Value.{Value}
 use Rattle.logic3.specs.declared.value.Value.TheVariants.{Unknown}
 use Rattle.logic3.specs.declared.change.Change.{Change}
-use Rattle.logic3.specs.declared.gates.GateKind.{GateKind}
-use Rattle.logic3.specs.Gate.{value_of_gate}
+use Rattle.logic3.specs.Gate.{value_of_gate, only_pin}
 use Rattle.logic3.specs.Value.{is_same, is_same_equiv}
 use Rattle.logic3.specs.Wave.{value_after, value_before, change_at, changes_between}
-use Rattle.logic3.proofs.Rising.{value_after-partition, rising-ascends}
-use Rattle.gate_process.specs.Step.{next_sample, values_at}
-use Rattle.gate_process.proofs.Frontiers.{next_sample-le, sample_below, multiple_sampled}
+use Rattle.logic3.proofs.CallerLemmas.{value_after-partition, RisesBy-ascends}
+use Rattle.bench_text.specs.declared.part.Part.{Part}
+use Rattle.bench_text.specs.declared.part.Part.TheVariants.{Input, Gate, Flop}
+use Rattle.design.specs.Circuit.{Net}
+use Rattle.design.specs.Samples.{timing_of, asked_of_part, asked_tick, asker_of_part, first_asker}
+use Rattle.design.specs.Equations.{values_at, equation_of_part, equation}
+use Rattle.design.proofs.CallerLemmas.{asked-before, asked-from, asked-mono, asker-late}
 
 quiet_from : (signal : ℕ → Value) (from ticks : ℕ) →
     ((tick : ℕ) → from ≤ tick → tick < from + ticks → signal tick ≡ value_before signal tick) →
@@ -44,39 +48,74 @@ value_after-next before changes tick late due inside rise point after next =
 
     later : (k : ℕ) (d : Change) → due ≤ k → k < length changes → nat_le (slice_index_or changes k d).tick late ≡ false
     later k d low high =
-        let ascends = rising-ascends changes rise due k d low high in
+        let ascends = RisesBy-ascends (λ (change : Change). change.tick) changes rise due k d low high in
         let first = next d (omega arith) in
         lt-leb _ _ (omega arith)
 
--- a gate shows the same at two ticks where no pin changes in between, as the gate sees it
-pub gate_steady : (kind : GateKind) (delay : ℕ) (signals : List (ℕ → Value)) (tick t next : ℕ) → tick ≤ t → t < next →
-    (tick < delay → next ≤ delay) → (delay ≤ tick → values_at (t - delay) signals ≡ values_at (tick - delay) signals) →
-    cond (nat_lt t delay) Unknown (value_of_gate kind (values_at (t - delay) signals))
-    ≡ cond (nat_lt tick delay) Unknown (value_of_gate kind (values_at (tick - delay) signals))
-gate_steady kind delay signals tick t next late early unknown steady = go (cases_lt tick delay)
-  where
-    go : (tick < delay) ⊎ (delay ≤ tick) → cond (nat_lt t delay) Unknown (value_of_gate kind (values_at (t - delay) signals))
-        ≡ cond (nat_lt tick delay) Unknown (value_of_gate kind (values_at (tick - delay) signals))
-    go (inl before) = let still = unknown before in rw (lt-ltb tick delay before, lt-ltb t delay (omega arith)) refl
-    go (inr past) = rw (le-ltb tick delay past, le-ltb t delay (omega arith)) (ap (value_of_gate kind) (steady past))
+-- ---- a net shows the same until the first tick that asks for its pins' next change
 
--- a flip-flop shows its pin's next change from the sample after it on, a delay later, and the same until then
-module _ (period delay tick change : ℕ) (some : 0 < period) (past : delay + period ≤ tick)
-    (next : period * ((tick - delay) / period) < change) where
-  pub flop_later : tick < next_sample period change + delay
-  flop_later = go (cases_lt (tick - delay) (next_sample period change))
-    where
-      go : (tick - delay < next_sample period change) ⊎ (next_sample period change ≤ tick - delay) → tick < next_sample period change + delay
-      go (inl h) = omega (arith, h, past)
-      go (inr h) =
-          let sampled : next_sample period change ≤ period * ((tick - delay) / period) = multiple_sampled period _ (tick - delay) some h in
-          absurd (omega (arith, sampled, next, next_sample-le period change some))
+module _ (net : Net) (some : 0 < net.period) (signals : List (ℕ → Value)) where
+  -- what a net sees of its pins at a tick
+  abbrev seen : ℕ → Option (List Value)
+  seen tick = option_map (λ asked. values_at asked signals) (asked_tick net tick)
 
-  -- the samples until then
-  pub flop_samples : (t : ℕ) → tick ≤ t → t < next_sample period change + delay →
-      (period * ((tick - delay) / period) ≤ period * ((t - delay) / period)) × (period * ((t - delay) / period) < change)
-  flop_samples t late early =
-      let within : period * ((tick - delay) / period) ≤ tick - delay = mul-div-le (tick - delay) period in (
-        multiple_sampled period _ (t - delay) some (omega (arith, within, late)),
-        sample_below period change (t - delay) some (omega (arith, late, past)) (omega (arith, late, past, early)),
-      )
+  by_values : (make : List Value → Value) (asked : Option ℕ) →
+      option_map_or (λ at. make (values_at at signals)) asked Unknown ≡ option_map_or make (option_map (λ at. values_at at signals) asked) Unknown
+  by_values make None = refl
+  by_values make (Some at) = refl
+
+  -- a gate or a flip-flop that sees the same shows the same
+  same_seen : (part : Part) (tick late known first : ℕ) → asker_of_part part (timing_of net) known ≡ Some first →
+      option_map (λ at. values_at at signals) (asked_of_part part (timing_of net) late)
+      ≡ option_map (λ at. values_at at signals) (asked_of_part part (timing_of net) tick) →
+      equation_of_part part net signals late ≡ equation_of_part part net signals tick
+  same_seen Input tick late known first begins same = absurd (none-some first begins)
+  same_seen (Gate kind) tick late known first begins same =
+      by_values (value_of_gate kind) (asked_of_part (Gate kind) (timing_of net) late)
+      ∙ ap (λ values. option_map_or (value_of_gate kind) values Unknown) same
+      ∙ sym (by_values (value_of_gate kind) (asked_of_part (Gate kind) (timing_of net) tick))
+  same_seen Flop tick late known first begins same =
+      by_values only_pin (asked_of_part Flop (timing_of net) late)
+      ∙ ap (λ values. option_map_or only_pin values Unknown) same
+      ∙ sym (by_values only_pin (asked_of_part Flop (timing_of net) tick))
+
+  -- while it asks for nothing
+  module _ (tick first : ℕ) (asked : asked_tick net tick ≡ None) (begins : first_asker net 0 ≡ Some first) where
+    pub unasked_later : tick < first
+    unasked_later = go (cases_lt tick first)
+      where
+        go : (tick < first) ⊎ (first ≤ tick) → tick < first
+        go (inl h) = h
+        go (inr h) = let from = asked-from (timing_of net) some net.part 0 first tick begins h in absurd (none-some from.0 (sym asked ∙ from.1))
+
+    pub unasked_steady : (late : ℕ) → late < first → equation net signals late ≡ equation net signals tick
+    unasked_steady late early =
+        same_seen net.part tick late 0 first begins
+        (ap (option_map (λ at. values_at at signals)) (go (asked_tick net late) refl ∙ sym asked))
+      where
+        go : (at : Option ℕ) → asked_tick net late ≡ at → asked_tick net late ≡ None
+        go None is = is
+        go (Some at) is =
+            let before : at < 0 = asked-before (timing_of net) some net.part 0 first late at begins is early in absurd (omega (arith, before))
+
+  -- once it asks for a tick, and its pins change nothing up to another
+  module _ (tick at change first : ℕ) (asked : asked_tick net tick ≡ Some at) (next : at < change)
+      (begins : first_asker net change ≡ Some first) where
+    pub asked_later : tick < first
+    asked_later = go (cases_lt tick first)
+      where
+        go : (tick < first) ⊎ (first ≤ tick) → tick < first
+        go (inl h) = h
+        go (inr h) =
+            let from = asked-from (timing_of net) some net.part change first tick begins h in
+            let same = same_Some at from.0 (sym asked ∙ from.1) in
+            absurd (omega (arith, same, next, from.2, asker-late (timing_of net) some net.part change first begins))
+
+    pub asked_steady : ((t : ℕ) → at ≤ t → t < change → values_at t signals ≡ values_at at signals) →
+        (late : ℕ) → tick ≤ late → late < first → equation net signals late ≡ equation net signals tick
+    asked_steady still late after early =
+        let then = asked-mono (timing_of net) some net.part tick late at asked after in
+        let before = asked-before (timing_of net) some net.part change first late then.0 begins then.1 early in
+        same_seen net.part tick late change first begins
+        (ap (option_map (λ at. values_at at signals)) then.1 ∙ ap Some (still then.0 then.2 before)
+        ∙ sym (ap (option_map (λ at. values_at at signals)) asked))

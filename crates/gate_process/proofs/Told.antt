@@ -6,10 +6,12 @@ use Rattle.logic3.specs.declared.value.Value.{Value}
 use Rattle.logic3.specs.declared.change.Change.{Change}
 use Rattle.logic3.specs.Value.{is_same}
 use Rattle.logic3.specs.Wave.{value_at, value_before, change_at, changes_between, wave_of, IsWave}
-use Rattle.logic3.proofs.Waves.{value_at-wave_of, value_after-later, changes_between-split, changes_between-same, IsWave-wave_of}
+use Rattle.logic3.proofs.CallerLemmas.{value_at-wave_of, value_after-later, changes_between-split, changes_between-same, IsWave-wave_of}
 use Rattle.cmb_channels.specs.declared.message.Message.{Message}
 use Rattle.cmb_channels.specs.declared.message.Message.TheVariants.{Change as Changes, Null}
-use Rattle.gate_process.specs.Knowledge.{Knowledge, knowledge_of, told, told_all, kept_from, forgetting, kept, news_of, Tells}
+use Rattle.gate_process.specs.Knowledge.{Knowledge, knowledge_of, told, told_all, forgetting, news_of, Tells}
+use Rattle.gate_process.specs.Step.{ProcessState, kept_from, kept}
+use Rattle.gate_process.proofs.Kept.{kept_later}
 
 -- the changes at one tick
 pub one_change : (signal : ℕ → Value) (at : ℕ) → changes_between signal at (at + 1) ≡ change_at signal at
@@ -173,38 +175,35 @@ forgetting_truth signal keep later to a b =
     cc
 
 -- what a pin keeps of what it was told is true
-pub kept_truth : (signal : ℕ → Value) (frontier delay keep : ℕ) (known : Knowledge) → known ≡ knowledge_of signal keep known.frontier →
-    keep ≤ kept_from frontier delay known.frontier →
-    kept frontier delay known ≡ knowledge_of signal (kept_from frontier delay known.frontier) known.frontier
-kept_truth signal frontier delay keep known e h =
-    ap (λ k. forgetting (kept_from frontier delay known.frontier) k) e
-    ∙ forgetting_truth signal keep (kept_from frontier delay known.frontier) known.frontier h (omega arith)
+pub kept_truth : (signal : ℕ → Value) (process : ProcessState) (place keep : ℕ) (known : Knowledge) →
+    known ≡ knowledge_of signal keep known.frontier → keep ≤ kept_from process place known.frontier →
+    kept process place known ≡ knowledge_of signal (kept_from process place known.frontier) known.frontier
+kept_truth signal process place keep known e h =
+    ap (λ k. forgetting (kept_from process place known.frontier) k) e
+    ∙ forgetting_truth signal keep (kept_from process place known.frontier) known.frontier h (omega arith)
 
 -- what a first message makes of what a pin keeps
-pub record HeardTruth (signal : ℕ → Value) (frontier delay to : ℕ) (known after : Knowledge) (rest : List Message) : Type 0 where
-  pub kept_known : kept frontier delay after ≡ knowledge_of signal (kept_from frontier delay after.frontier) after.frontier
+pub record HeardTruth (signal : ℕ → Value) (process : ProcessState) (place to : ℕ) (known after : Knowledge) (rest : List Message) : Type 0 where
+  pub kept_known : kept process place after ≡ knowledge_of signal (kept_from process place after.frontier) after.frontier
   pub rest_tells : Tells signal after.frontier to rest
   pub raised : known.frontier < after.frontier
   pub is_wave : IsWave after.wave
 
-pub heard_truth : (signal : ℕ → Value) (frontier delay to : ℕ) (known : Knowledge) (message : Message) (rest : List Message) →
-    known ≡ knowledge_of signal (kept_from frontier delay known.frontier) known.frontier →
+pub heard_truth : (signal : ℕ → Value) (process : ProcessState) (place to : ℕ) (known : Knowledge) (message : Message) (rest : List Message) →
+    known ≡ knowledge_of signal (kept_from process place known.frontier) known.frontier →
     Tells signal known.frontier to (message ∷ rest) →
-    HeardTruth signal frontier delay to known (told known message) rest
-heard_truth signal frontier delay to known message rest e tells =
-    let keep : kept_from frontier delay known.frontier ≤ known.frontier = omega arith in
-    let first : ToldTruth signal known.frontier to (kept_from frontier delay known.frontier) (told known message) rest =
-    subst (λ k. ToldTruth signal known.frontier to (kept_from frontier delay known.frontier) (told k message) rest) (sym e)
-    (told_truth signal (kept_from frontier delay known.frontier) known.frontier to message rest keep tells) in
+    HeardTruth signal process place to known (told known message) rest
+heard_truth signal process place to known message rest e tells =
+    let keep : kept_from process place known.frontier ≤ known.frontier = omega arith in
+    let first : ToldTruth signal known.frontier to (kept_from process place known.frontier) (told known message) rest =
+    subst (λ k. ToldTruth signal known.frontier to (kept_from process place known.frontier) (told k message) rest) (sym e)
+    (told_truth signal (kept_from process place known.frontier) known.frontier to message rest keep tells) in
     let raised : known.frontier < (told known message).frontier = first.raised in
     record {
-      kept_known = kept_truth signal frontier delay (kept_from frontier delay known.frontier) (told known message) first.known
-          (kept_later frontier delay known.frontier (told known message).frontier raised);
+      kept_known = kept_truth signal process place (kept_from process place known.frontier) (told known message) first.known
+          (kept_later process place known.frontier (told known message).frontier (omega (arith, raised)));
       rest_tells = first.rest_tells;
       raised = raised;
       is_wave = subst (λ (k : Knowledge). IsWave k.wave) (sym first.known)
-          (IsWave-wave_of signal (kept_from frontier delay known.frontier) (told known message).frontier);
+          (IsWave-wave_of signal (kept_from process place known.frontier) (told known message).frontier);
     }
-  where
-    kept_later : (f d r s : ℕ) → r < s → kept_from f d r ≤ kept_from f d s
-    kept_later f d r s h = omega arith

@@ -1,3 +1,4 @@
+-- What is known of a net, and what messages tell of it.
 use Rattle.std.specs.Prelude.{◌≡◌, ◌==◌, if◌then◌else◌, ℕ, ◌+◌, ◌-◌, ◌<◌, ◌≤◌, min, List, [], ◌∷◌, ◌++◌, All}
 use Rattle.logic3.specs.declared.value.Value.{Value}
 use Rattle.logic3.specs.declared.value.Value.TheVariants.{Unknown}
@@ -35,17 +36,17 @@ abbrev pub told_all : Knowledge → List Message → Knowledge
 told_all known [] = known
 told_all known (message ∷ messages) = told_all (told known message) messages
 
--- the ticks that a pin keeps begin here, for a net of this frontier and delay
-abbrev pub kept_from : ℕ → ℕ → ℕ → ℕ
-kept_from frontier delay received = min (frontier - delay) (received - 1)
+-- of the ticks known so far those are kept that begin here: from the oldest that is asked for on, but always the last one
+abbrev pub kept_since : ℕ → ℕ → ℕ
+kept_since oldest frontier = min oldest (frontier - 1)
 
 -- the same at the ticks from there on
 abbrev pub forgetting : ℕ → Knowledge → Knowledge
 forgetting tick known = knowledge_of (value_at known.wave) tick known.frontier
 
--- what a pin keeps of what it knows
-abbrev pub kept : ℕ → ℕ → Knowledge → Knowledge
-kept frontier delay known = forgetting (kept_from frontier delay known.frontier) known
+-- the same at the ticks that are kept
+abbrev pub keeping : ℕ → Knowledge → Knowledge
+keeping oldest known = forgetting (kept_since oldest known.frontier) known
 
 -- the messages that tell of these changes and of a frontier
 abbrev pub news_of : List Change → ℕ → List Message

@@ -1,23 +1,22 @@
-use Rattle.std.specs.Prelude.{ℕ, Bool, false, ◌+◌, ◌-◌, ◌*◌, ◌/◌, nat_lt, ◌==◌, if◌then◌else◌, min, max, List, [], ◌∷◌, map}
+-- The state of a net's process and its steps.
+use Rattle.std.specs.Prelude.{ℕ, Bool, false, ◌+◌, ◌-◌, nat_lt, ◌==◌, if◌then◌else◌, min, List, [], ◌∷◌, map, slice_get, Option, option_map}
+use Rattle.std.specs.Option.{option_map_or}
 use Rattle.logic3.specs.declared.value.Value.{Value}
 use Rattle.logic3.specs.declared.change.Change.{Change}
-use Rattle.logic3.specs.Wave.{Wave, value_at, changes_between}
+use Rattle.logic3.specs.Wave.{Wave, value_at, last_value, changes_between}
 use Rattle.bench_text.specs.declared.part.Part.{Part}
 use Rattle.bench_text.specs.declared.part.Part.TheVariants.{Input, Gate, Flop}
 use Rattle.design.specs.Circuit.{Net}
+use Rattle.design.specs.Samples.{first_asker}
 use Rattle.design.specs.Equations.{equation}
 use Rattle.cmb_channels.specs.declared.message.Message.{Message}
 use Rattle.cmb_channels.specs.Lists.{update}
-use Rattle.gate_process.specs.Knowledge.{Knowledge, nothing_known, knowledge_of, told, forgetting, kept, news_of}
+use Rattle.gate_process.specs.Knowledge.{Knowledge, nothing_known, knowledge_of, told, kept_since, forgetting, news_of}
 
 -- the least of these and a bound
 abbrev pub least : ℕ → List ℕ → ℕ
 least bound [] = bound
 least bound (x ∷ xs) = least (min bound x) xs
-
--- the least positive multiple of the period that is at least the tick
-abbrev pub next_sample : ℕ → ℕ → ℕ
-next_sample period tick = period * max 1 ((tick + (period - 1)) / period)
 
 -- the state of a net's process: what it is, how far it reckons, what it knows of itself and of its pins
 pub record ProcessState : Type 0 where
@@ -46,26 +45,45 @@ started_process end net = record {
   received = map (λ (pin : ℕ). nothing_known) net.pins;
 }
 
+-- how many ticks are known of the pin at a place
+abbrev pub pin_frontier : ProcessState → ℕ → Option ℕ
+pin_frontier process place = option_map (λ (known : Knowledge). known.frontier) (slice_get process.received place)
+
+-- the value of the last change that it was told
+abbrev pub pin_last : ProcessState → ℕ → Option Value
+pin_last process place = option_map (λ (known : Knowledge). last_value known.wave) (slice_get process.received place)
+
 -- up to here all pins are known
 abbrev pub safe_of : ProcessState → ℕ
 safe_of process = least process.end (map (λ (known : Knowledge). known.frontier) process.received)
 
--- how far a net can be reckoned where its pins are known so far
-abbrev pub frontier_of_part : Part → Net → ℕ → ℕ → ℕ
-frontier_of_part Input net end safe = end
-frontier_of_part (Gate kind) net end safe = min end (safe + net.delay)
-frontier_of_part Flop net end safe = min end (next_sample net.period safe + net.delay)
+-- how far a net can be reckoned where its pins are known so far: to the first tick that asks for more, but not past the end
+abbrev pub frontier_of : Net → ℕ → ℕ → ℕ
+frontier_of net end safe = option_map_or (min end) (first_asker net safe) end
 
 abbrev pub next_frontier : ProcessState → ℕ
-next_frontier process = frontier_of_part process.net.part process.net process.end (safe_of process)
+next_frontier process = frontier_of process.net process.end (safe_of process)
+
+-- from a frontier on a net asks for no tick of the pin at a place before this one, which is the same at all places
+abbrev pub oldest_asked : Net → ℕ → ℕ → ℕ
+oldest_asked net place frontier = frontier - net.delay
+
+-- of what it received at a place, and knows so far, a process keeps the ticks from this one on
+abbrev pub kept_from : ProcessState → ℕ → ℕ → ℕ
+kept_from process place frontier = kept_since (oldest_asked process.net place process.known.frontier) frontier
+
+-- what it keeps of what it received at a place
+abbrev pub kept : ProcessState → ℕ → Knowledge → Knowledge
+kept process place received = forgetting (kept_from process place received.frontier) received
+
+-- what it keeps of what it received at the places from one on
+abbrev pub all_kept : ProcessState → ℕ → List Knowledge → List Knowledge
+all_kept process place [] = []
+all_kept process place (received ∷ others) = kept process place received ∷ all_kept process (place + 1) others
 
 -- what pins show, as far as it is known
 abbrev pub signals_of : List Knowledge → List (ℕ → Value)
 signals_of received = map (λ (known : Knowledge). value_at known.wave) received
-
--- what they show at a tick
-abbrev pub values_at : ℕ → List (ℕ → Value) → List Value
-values_at tick signals = map (λ (signal : ℕ → Value). signal tick) signals
 
 -- what a waveform shows up to a tick, and from there on another signal
 abbrev pub continued : Wave → ℕ → (ℕ → Value) → ℕ → Value
@@ -75,13 +93,13 @@ continued wave from signal tick = if nat_lt tick from then value_at wave tick el
 abbrev pub reckoned : ProcessState → ℕ → Value
 reckoned process = continued process.known.wave process.known.frontier (equation process.net (signals_of process.received))
 
--- the process after it advances
+-- the process when it has reckoned its net as far as it can
+abbrev pub extended : ProcessState → ProcessState
+extended process = record process { known = knowledge_of (reckoned process) process.floor (next_frontier process) }
+
+-- the process after it advances: it keeps no more of its pins than it must
 abbrev pub advanced : ProcessState → ProcessState
-advanced process =
-    record process {
-      known = knowledge_of (reckoned process) process.floor (next_frontier process);
-      received = map (kept (next_frontier process) process.net.delay) process.received;
-    }
+advanced process = record (extended process) { received = all_kept (extended process) 0 process.received }
 
 -- what it tells then
 abbrev pub news : ProcessState → List Message
@@ -93,7 +111,7 @@ news process =
 abbrev pub heard : ℕ → Message → ProcessState → ProcessState
 heard place message process =
     record process {
-      received = update (λ (known : Knowledge). kept process.known.frontier process.net.delay (told known message)) place process.received;
+      received = update (λ (known : Knowledge). kept process place (told known message)) place process.received;
     }
 
 -- the process after its changes before a tick were taken out
@@ -103,12 +121,6 @@ drained bound process = record process { floor = bound; known = forgetting bound
 -- the changes that are taken out
 abbrev pub drained_changes : ℕ → ProcessState → List Change
 drained_changes bound process = changes_between (value_at process.known.wave) process.floor bound
-
--- the tick at which a net's value asks for its pins
-abbrev pub asked_of_part : Part → Net → ℕ → ℕ
-asked_of_part Input net tick = tick
-asked_of_part (Gate kind) net tick = tick - net.delay
-asked_of_part Flop net tick = net.period * ((tick - net.delay) / net.period)
 
 -- the delay of a gate or flip-flop; an input waits for nothing, which a bound stands for
 abbrev pub own_delay : Part → ℕ → ℕ → ℕ

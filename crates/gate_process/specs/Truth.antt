@@ -1,13 +1,15 @@
 -- What is true of a process, and of one whose channels tell the truth.
-use Rattle.std.specs.Prelude.{◌≡◌, ℕ, ◌+◌, ◌-◌, ◌<◌, ◌≤◌, true, length, map, slice_get, Some}
+use Rattle.std.specs.Prelude.{◌≡◌, ◌≢◌, ℕ, ◌+◌, ◌<◌, ◌≤◌, true, List, length, map, slice_get, Some}
 use Rattle.logic3.specs.declared.value.Value.{Value}
+use Rattle.logic3.specs.declared.change.Change.{Change}
 use Rattle.bench_text.specs.Line.{takes_pins}
 use Rattle.design.specs.Circuit.{Net, IsTimed, most_ticks}
+use Rattle.design.specs.Samples.{asked_tick}
 use Rattle.design.specs.Equations.{equation}
 use Rattle.logic3.specs.Wave.{IsWave}
 use Rattle.cmb_channels.specs.declared.message.Message.{Message}
-use Rattle.gate_process.specs.Knowledge.{Knowledge, knowledge_of, told, kept_from, forgetting, kept}
-use Rattle.gate_process.specs.Step.{ProcessState, next_frontier, asked_of_part}
+use Rattle.gate_process.specs.Knowledge.{Knowledge, knowledge_of, told, forgetting, Tells}
+use Rattle.gate_process.specs.Step.{ProcessState, pin_frontier, pin_last, next_frontier, oldest_asked, kept_from, kept}
 
 -- a signal of a family meets a net's equation, over the others
 pub record Meets (signals : ℕ → ℕ → Value) (number : ℕ) (net : Net) : Type 0 where
@@ -20,14 +22,27 @@ pub record KnowsTruth (signals : ℕ → ℕ → Value) (number : ℕ) (process 
   pub floor : process.floor ≤ process.known.frontier
   pub ahead : process.known.frontier ≤ next_frontier process
   -- no value from the frontier on asks for a tick that the pins may have forgotten
-  pub asked : (tick : ℕ) → process.known.frontier ≤ tick → tick < process.end →
-      process.known.frontier - process.net.delay ≤ asked_of_part process.net.part process.net tick
+  pub asked : (place tick asked : ℕ) → process.known.frontier ≤ tick → tick < process.end → asked_tick process.net tick ≡ Some asked →
+      oldest_asked process.net place process.known.frontier ≤ asked
   -- the net is known from its floor up to its frontier
   pub known : process.known ≡ knowledge_of (signals number) process.floor process.known.frontier
   -- the source of each pin is known at the kept ticks below its received frontier
   pub heard : (place source : ℕ) (received : Knowledge) → slice_get process.net.pins place ≡ Some source →
       slice_get process.received place ≡ Some received →
-      received ≡ knowledge_of (signals source) (kept_from process.known.frontier process.net.delay received.frontier) received.frontier
+      received ≡ knowledge_of (signals source) (kept_from process place received.frontier) received.frontier
+
+-- the signals meet the equation of the process's net, and it knows the truth of them
+pub record IsTruthful (signals : ℕ → ℕ → Value) (number : ℕ) (process : ProcessState) : Type 0 where
+  pub meets : Meets signals number process.net
+  pub knows : KnowsTruth signals number process
+
+-- messages that come at a place: they tell of the source of its pin, from what was received so far up to a tick
+pub record ComesTrue (signals : ℕ → ℕ → Value) (process : ProcessState) (place to : ℕ) (messages : List Message) : Type 0 where
+  pub source : ℕ
+  pub received : Knowledge
+  pub pin : slice_get process.net.pins place ≡ Some source
+  pub so_far : slice_get process.received place ≡ Some received
+  pub tells : Tells (signals source) received.frontier to messages
 
 -- a net with its timing in the ranges, and as many pins as its part takes
 pub record IsNet (net : Net) : Type 0 where
@@ -42,14 +57,23 @@ pub record IsProcess (process : ProcessState) : Type 0 where
   pub pins : length process.received ≡ length process.net.pins
   pub floor : process.floor ≤ process.known.frontier
   pub ahead : process.known.frontier ≤ next_frontier process
-  pub asked : (tick : ℕ) → process.known.frontier ≤ tick → tick < process.end →
-      process.known.frontier - process.net.delay ≤ asked_of_part process.net.part process.net tick
+  pub asked : (place tick asked : ℕ) → process.known.frontier ≤ tick → tick < process.end → asked_tick process.net tick ≡ Some asked →
+      oldest_asked process.net place process.known.frontier ≤ asked
+  -- nothing is known of the net before its floor
   pub known : process.known ≡ forgetting process.floor process.known
   pub heard : (place : ℕ) (received : Knowledge) → slice_get process.received place ≡ Some received →
-      received ≡ kept process.known.frontier process.net.delay received
+      received ≡ kept process place received
 
 -- the process can be told this message at a place: it raises what the pin knows, goes on with its waveform, and isn't past the end
 abbrev pub CanHear : ProcessState → ℕ → Message → Type 0
 CanHear process place message =
     (known : Knowledge) → slice_get process.received place ≡ Some known →
     (known.frontier < (told known message).frontier) × ((told known message).frontier ≤ process.end) × IsWave (told known message).wave
+
+-- a change that goes on with what the pin at a place was told so far: later than all that is known, up to the end, and to another value
+pub record GoesOn (process : ProcessState) (place frontier : ℕ) (last : Value) (change : Change) : Type 0 where
+  pub frontier_is : pin_frontier process place ≡ Some frontier
+  pub last_is : pin_last process place ≡ Some last
+  pub later : frontier ≤ change.tick
+  pub within : change.tick < process.end
+  pub differs : change.value ≢ last

@@ -5,7 +5,7 @@ ghost use Rattle.logic3.specs.declared.change.Change.{Change};
 ghost use Rattle.logic3.specs.Wave.{value_at, value_before, last_value, joined, changes_between};
 ghost use Rattle.design.specs.Circuit.{most_ticks};
 ghost use Rattle.design.specs.Equations.{equation};
-ghost use Rattle.gate_process.specs.Knowledge.{Knowledge, news_of, kept_from, kept};
+ghost use Rattle.gate_process.specs.Knowledge.{Knowledge, news_of, kept_since, keeping};
 ghost use Rattle.gate_process.specs.Step.{signals_of, continued};
 
 use crate::net_copy::NetCopy;
@@ -56,13 +56,13 @@ pub fn extend(
     Ok(messages)
 }
 
-/// Forgets at each pin what a net of this frontier and delay doesn't ask for any more.
-pub fn keep_all(received: &mut [Received], frontier: u64, delay: u64)
+/// Forgets at each pin what is before the oldest tick that is asked for, but never the last one known.
+pub fn keep_all(received: &mut [Received], oldest: u64)
     requires { (place : ℕ) (known : Knowledge) → slice_get received.old place ≡ Some known →
-        kept_from frontier delay known.frontier ≡ 0 → known.wave.before ≡ Unknown }
-    ensures { received.new ≡ map (kept frontier delay) received.old }
+        kept_since oldest known.frontier ≡ 0 → known.wave.before ≡ Unknown }
+    ensures { received.new ≡ map (keeping oldest) received.old }
 {
     for pin in received.iter_mut() {
-        pin.keep(frontier, delay);
+        pin.keep(oldest);
     }
 }

@@ -1,29 +1,25 @@
 //! Facts about the definitions alone.
-ghost use Rattle.std.specs.Prelude.{◌≡◌, ◌≢◌, ◌<◌, ◌≤◌, ℕ, List, ◌∷◌, slice_get, Some, option_map};
+ghost use Rattle.std.specs.Prelude.{◌≡◌, ◌<◌, ◌≤◌, ℕ, List, ◌∷◌, Some};
 ghost use Rattle.logic3.specs.declared.value.Value.{Value};
 ghost use Rattle.logic3.specs.declared.change.Change.{Change};
-ghost use Rattle.logic3.specs.Wave.{last_value};
 ghost use Rattle.cmb_channels.specs.declared.message.Message.{Message};
 ghost use Rattle.cmb_channels.specs.declared.message.Message.TheVariants.{Change as Changes, Null};
-ghost use Rattle.gate_process.specs.Knowledge.{Knowledge, Tells, knowledge_of, told_all};
-ghost use Rattle.gate_process.specs.Step.{ProcessState, next_frontier, advanced, news, heard};
-ghost use Rattle.gate_process.specs.Truth.{Meets, KnowsTruth, IsProcess, CanHear};
+ghost use Rattle.gate_process.specs.Knowledge.{Tells, knowledge_of, told_all};
+ghost use Rattle.gate_process.specs.Step.{ProcessState, pin_frontier, next_frontier, advanced, news, heard};
+ghost use Rattle.gate_process.specs.Truth.{KnowsTruth, IsTruthful, ComesTrue, IsProcess, CanHear, GoesOn};
 
-/// Where a signal meets the equation of a net over the signals of the others, a process of this net
-/// that knows the truth goes on to know it: when it advances, and when it hears the first of some
-/// messages that tell of a pin's source. What it tells itself is true too.
+/// A process that knows the truth, and whose net's equation the signals meet, goes on to know it: when
+/// it advances, and when it hears the first of some messages that tell the truth of a pin's source.
+/// What it tells itself is true too.
 pub fn truth_stays()
     ensures advanced { (signals : ℕ → ℕ → Value) (number : ℕ) (process : ProcessState) →
-        Meets signals number process.net → KnowsTruth signals number process →
-        KnowsTruth signals number (advanced process) }
-    ensures heard { (signals : ℕ → ℕ → Value) (number : ℕ) (process : ProcessState) (place source to : ℕ)
-        (known : Knowledge) (message : Message) (rest : List Message) →
-        Meets signals number process.net → KnowsTruth signals number process →
-        slice_get process.net.pins place ≡ Some source → slice_get process.received place ≡ Some known →
-        Tells (signals source) known.frontier to (message ∷ rest) →
+        IsTruthful signals number process → KnowsTruth signals number (advanced process) }
+    ensures heard { (signals : ℕ → ℕ → Value) (number place to : ℕ) (process : ProcessState)
+        (message : Message) (rest : List Message) →
+        IsTruthful signals number process → ComesTrue signals process place to (message ∷ rest) →
         KnowsTruth signals number (heard place message process) }
     ensures news { (signals : ℕ → ℕ → Value) (number : ℕ) (process : ProcessState) →
-        Meets signals number process.net → KnowsTruth signals number process →
+        IsTruthful signals number process →
         Tells (signals number) process.known.frontier (next_frontier process) (news process) }
 {}
 
@@ -38,13 +34,8 @@ pub fn messages_suffice()
 /// another value, or a null message that raises the frontier, both up to the end.
 pub fn can_hear()
     ensures change { (process : ProcessState) (place frontier : ℕ) (last : Value) (change : Change) →
-        IsProcess process →
-        option_map (λ (known : Knowledge). known.frontier) (slice_get process.received place) ≡ Some frontier →
-        option_map (λ (known : Knowledge). last_value known.wave) (slice_get process.received place) ≡ Some last →
-        frontier ≤ change.tick → change.tick < process.end → change.value ≢ last →
-        CanHear process place (Changes change) }
+        IsProcess process → GoesOn process place frontier last change → CanHear process place (Changes change) }
     ensures null { (process : ProcessState) (place frontier bound : ℕ) →
-        IsProcess process →
-        option_map (λ (known : Knowledge). known.frontier) (slice_get process.received place) ≡ Some frontier →
+        IsProcess process → pin_frontier process place ≡ Some frontier →
         frontier < bound → bound ≤ process.end → CanHear process place (Null bound) }
 {}

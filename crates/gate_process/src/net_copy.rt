@@ -1,16 +1,14 @@
 ghost use Rattle.std.specs.Prelude.{◌≡◌, ℕ, ◌+◌, ◌<◌, ◌≤◌, length, slice_get, Some, IfOk};
 ghost use Rattle.design.specs.Circuit.{most_ticks};
 ghost use Rattle.design.specs.Equations.{equation};
-ghost use Rattle.gate_process.specs.Step.{signals_of, frontier_of_part};
+ghost use Rattle.gate_process.specs.Step.{signals_of, frontier_of, oldest_asked};
 ghost use Rattle.gate_process.specs.Truth.{IsNet};
 
 use crate::changes::next_change;
-use crate::equation::{
-    flop_steady_until, gate_steady_until, gate_value, next_sample, sampled_value,
-};
+use crate::equation::{gate_value, next_pin_change, sampled_value};
 use crate::received::Received;
 use bench_text::Part;
-use design::Design;
+use design::{Design, Timing};
 use logic3::{Change, Value, value_after};
 use std::alloc::{AllocError, Global};
 use std::marker::Model;
@@ -21,8 +19,7 @@ pub struct NetCopy {
     name: Vec<u8>,
     part: Part,
     pins: Vec<u32>,
-    delay: u64,
-    period: u64,
+    timing: Timing,
     stimuli: Vec<Change>,
 }
 
@@ -36,8 +33,8 @@ impl Model for NetCopy {
       name = n.name.items;
       part = n.part;
       pins = n.pins.items;
-      delay = n.delay;
-      period = n.period;
+      delay = n.timing.delay;
+      period = n.timing.period;
       stimuli = n.stimuli.items;
     } };
 
@@ -45,8 +42,8 @@ impl Model for NetCopy {
       name = n.name.items;
       part = n.part;
       pins = n.pins.items;
-      delay = n.delay;
-      period = n.period;
+      delay = n.timing.delay;
+      period = n.timing.period;
       stimuli = n.stimuli.items;
     }) };
 }
@@ -64,8 +61,7 @@ impl NetCopy {
             name: Vec::from_slice(alloc, design.name(net))?,
             part: design.part(net),
             pins: Vec::from_slice(alloc, design.pins_of(net))?,
-            delay: design.delay(net),
-            period: design.period(),
+            timing: design.timing(net),
             stimuli: Vec::from_slice(alloc, design.stimuli(net))?,
         })
     }
@@ -78,23 +74,22 @@ impl NetCopy {
         self.pins.len()
     }
 
-    /// The delay in ticks.
-    pub fn delay(&self) -> u64
-        ensures { result ≡ self.now.delay }
+    /// From this frontier of the net on no tick before this one is asked for at any pin.
+    pub fn oldest_asked(&self, frontier: u64) -> u64
+        ensures { (place : ℕ) → result ≡ oldest_asked self.now place frontier }
     {
-        self.delay
+        frontier.saturating_sub(self.timing.delay)
     }
 
     /// How far the net can be reckoned where its pins are known so far.
     pub fn next_frontier(&self, end: u64, safe: u64) -> u64
         requires end { end ≤ most_ticks + 1 }
         requires safe { safe ≤ end }
-        ensures { result ≡ frontier_of_part self.now.part self.now end safe }
+        ensures { result ≡ frontier_of self.now end safe }
     {
-        match self.part {
-            Part::Input => end,
-            Part::Gate(_) => end.min(safe + self.delay),
-            Part::Flop => end.min(next_sample(self.period, safe) + self.delay),
+        match self.timing.first_asker(self.part, safe) {
+            Some(first) => end.min(first),
+            None => end,
         }
     }
 
@@ -110,10 +105,11 @@ impl NetCopy {
         requires { length received.now ≡ length self.now.pins }
         ensures { IfOk result (λ value. value ≡ equation self.now (signals_of received.now) tick) }
     {
+        let asked = self.timing.asked_tick(self.part, tick);
         match self.part {
             Part::Input => Ok(value_after(Value::Unknown, self.stimuli.as_slice(), tick)),
-            Part::Gate(kind) => gate_value(kind, self.delay, received, tick, values),
-            Part::Flop => Ok(sampled_value(&received[0], self.delay, self.period, tick)),
+            Part::Gate(kind) => gate_value(kind, received, asked, values),
+            Part::Flop => Ok(sampled_value(&received[0], asked)),
         }
     }
 
@@ -127,10 +123,17 @@ impl NetCopy {
         ensures steady { (t : ℕ) → tick ≤ t → t < result →
             equation self.now (signals_of received.now) t ≡ equation self.now (signals_of received.now) tick }
     {
-        match self.part {
-            Part::Input => next_change(self.stimuli.as_slice(), tick, limit),
-            Part::Gate(_) => gate_steady_until(self.delay, received, tick, limit),
-            Part::Flop => flop_steady_until(&received[0], self.delay, self.period, tick, limit),
+        if let Part::Input = self.part {
+            return next_change(self.stimuli.as_slice(), tick, limit);
+        }
+        // Until it asks for any tick, it waits for tick 0.
+        let change = match self.timing.asked_tick(self.part, tick) {
+            Some(asked) => next_pin_change(received, asked, limit),
+            None => 0,
+        };
+        match self.timing.first_asker(self.part, change) {
+            Some(first) => limit.min(first),
+            None => limit,
         }
     }
 }

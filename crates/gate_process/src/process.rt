@@ -1,7 +1,5 @@
-ghost use Rattle.std.specs.Prelude.{◌≡◌, ℕ, ◌+◌, ◌<◌, Bool, true, false, length, slice_get, Some, IfOk, IfSome, OnOk, OnErr, option_map};
-ghost use Rattle.logic3.specs.Wave.{last_value};
-ghost use Rattle.gate_process.specs.Knowledge.{Knowledge};
-ghost use Rattle.gate_process.specs.Step.{running, started_process, heard, safe_of, advanced, news};
+ghost use Rattle.std.specs.Prelude.{◌≡◌, ℕ, ◌+◌, ◌<◌, Bool, true, false, length, slice_get, Some, IfOk, IfSome, OnOk, OnErr};
+ghost use Rattle.gate_process.specs.Step.{running, started_process, pin_frontier, pin_last, heard, safe_of, advanced, news};
 ghost use Rattle.gate_process.specs.Truth.{IsProcess, CanHear};
 
 use crate::advance::{extend, keep_all};
@@ -99,7 +97,7 @@ impl Process {
     {
         let received = &mut self.received[place as usize];
         received.hear(message)?;
-        received.keep(self.frontier, self.net.delay());
+        received.keep(self.net.oldest_asked(self.frontier));
         Ok(())
     }
 
@@ -129,7 +127,7 @@ impl Process {
             &mut self.wave,
         )?;
         self.frontier = to;
-        keep_all(self.received.as_mut_slice(), to, self.net.delay());
+        keep_all(self.received.as_mut_slice(), self.net.oldest_asked(to));
         self.failed = false;
         Ok(messages)
     }
@@ -155,7 +153,7 @@ impl Process {
     pub fn received(&self, place: u32) -> u64
         requires running { self.now.failed ≡ false }
         requires place { place < length self.now.state.received }
-        ensures { option_map (λ (known : Knowledge). known.frontier) (slice_get self.now.state.received place) ≡ Some result }
+        ensures { pin_frontier self.now.state place ≡ Some result }
     {
         self.received[place as usize].frontier()
     }
@@ -164,7 +162,7 @@ impl Process {
     pub fn last(&self, place: u32) -> Value
         requires running { self.now.failed ≡ false }
         requires place { place < length self.now.state.received }
-        ensures { option_map (λ (known : Knowledge). last_value known.wave) (slice_get self.now.state.received place) ≡ Some result }
+        ensures { pin_last self.now.state place ≡ Some result }
     {
         self.received[place as usize].last()
     }

@@ -2,7 +2,7 @@ ghost use Rattle.std.specs.Prelude.{◌≡◌, ℕ, ◌+◌, ◌<◌, ◌≤◌,
 ghost use Rattle.logic3.specs.declared.value.Value.TheVariants.{Unknown};
 ghost use Rattle.logic3.specs.Wave.{IsWave, last_value, value_at, value_in_the_end};
 ghost use Rattle.design.specs.Circuit.{most_ticks};
-ghost use Rattle.gate_process.specs.Knowledge.{Knowledge, nothing_known, told, kept_from, forgetting, kept};
+ghost use Rattle.gate_process.specs.Knowledge.{Knowledge, nothing_known, told, kept_since, forgetting, keeping};
 ghost use Rattle.gate_process.specs.Step.{least};
 
 use crate::changes::{ChangeQueue, next_change};
@@ -68,15 +68,12 @@ impl Received {
         Ok(())
     }
 
-    /// Forgets the ticks that a net of this frontier and delay doesn't ask for any more.
-    pub fn keep(&mut self, frontier: u64, delay: u64)
-        requires { kept_from frontier delay self.old.frontier ≡ 0 → self.old.wave.before ≡ Unknown }
-        ensures { self.new ≡ kept frontier delay self.old }
+    /// Forgets the ticks before the oldest that is asked for, but never the last one known.
+    pub fn keep(&mut self, oldest: u64)
+        requires { kept_since oldest self.old.frontier ≡ 0 → self.old.wave.before ≡ Unknown }
+        ensures { self.new ≡ keeping oldest self.old }
     {
-        let oldest = frontier
-            .saturating_sub(delay)
-            .min(self.frontier.saturating_sub(1));
-        self.forget_before(oldest);
+        self.forget_before(oldest.min(self.frontier.saturating_sub(1)));
     }
 
     /// Forgets the ticks before this one.

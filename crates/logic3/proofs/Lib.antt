@@ -1,4 +1,5 @@
-pub mod Equal
-pub mod GateLemmas
-pub mod Rising
-pub mod Waves
+pub mod CallerLemmas
+mod Equal
+mod GateLemmas
+mod Rising
+mod Waves

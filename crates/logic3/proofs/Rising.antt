@@ -1,12 +1,13 @@
 -- The changes of a waveform rise: what `push` keeps, and what `value_at` finds by halving.
 use Rattle.std.proofs.Common.{◌≡◌, ◌≢◌, ℕ, zero, suc, ◌+◌, ◌-◌, ◌<◌, ◌≤◌, nat_le, true, false, List, [], ◌∷◌, ◌++◌, length, take, refl, sym, ◌∙◌, arith, ◌⊎◌, inl, inr, Option}
-use Rattle.std.specs.Prelude.{All, AllPairs, slice_index_or, slice_get}
+use Rattle.std.specs.Prelude.{All, slice_index_or, slice_get}
 use Rattle.std.specs.Option.{option_map_or}
 use Rattle.std.specs.List.Sorted.{IsPartitionPoint, IsNonDecreasingBy}
 use Rattle.std.proofs.lemmas.Bool.{cases_lt}
 use Rattle.std.proofs.lemmas.List.Elements.{All-head, All-tail}
 use Rattle.logic3.specs.declared.value.Value.{Value}
 use Rattle.logic3.specs.declared.change.Change.{Change}
+use Rattle.logic3.specs.Rising.{RisesBy}
 use Rattle.logic3.specs.Wave.{value_after, value_in_the_end, Alternates}
 
 -- a later change with another value may stand behind the others
@@ -46,14 +47,13 @@ value_in_the_end-last before (first ∷ changes) =
     let last : suc (length changes) - 1 ≡ length changes = omega arith in
     rw last (value_in_the_end-cons before first changes before)
 
--- so halving finds the due changes
-pub rising-ascends : (changes : List Change) → AllPairs (λ (earlier later : Change). earlier.tick < later.tick) changes →
-    IsNonDecreasingBy (λ (change : Change). change.tick) changes
-rising-ascends changes rise i j d le inside = go (cases_lt i j)
+-- what rises strictly doesn't fall, so halving finds the due changes
+pub RisesBy-ascends : {A : Type 0} (key : A → ℕ) (xs : List A) → RisesBy key xs → IsNonDecreasingBy key xs
+RisesBy-ascends key xs rise i j d le inside = go (cases_lt i j)
   where
-    go : (i < j) ⊎ (j ≤ i) → (slice_index_or changes i d).tick ≤ (slice_index_or changes j d).tick
+    go : (i < j) ⊎ (j ≤ i) → key (slice_index_or xs i d) ≤ key (slice_index_or xs j d)
     go (inl less) =
-        let below : (slice_index_or changes i d).tick < (slice_index_or changes j d).tick = rise i j d less inside in
+        let below : key (slice_index_or xs i d) < key (slice_index_or xs j d) = rise i j d less inside in
         omega arith
     go (inr same) = let e : i ≡ j = omega arith in rw e (omega arith)
 

@@ -1,5 +1,5 @@
 -- A waveform of a signal shows the signal.
-use Rattle.std.proofs.Common.{◌≡◌, ◌≢◌, ◌↔◌, ℕ, zero, suc, ◌+◌, ◌-◌, ◌<◌, ◌≤◌, nat_le, Bool, true, false, cond, List, [], ◌∷◌, ◌++◌, All, AllPairs, Contains, flat_map, refl, ap, sym, ◌∙◌, arith, suc-add, zero-add, add-zero, add-one, append-nil, ◌⊎◌, inl, inr}
+use Rattle.std.proofs.Common.{◌≡◌, ◌≢◌, ◌↔◌, ℕ, zero, suc, ◌+◌, ◌-◌, ◌<◌, ◌≤◌, nat_le, Bool, true, false, cond, List, [], ◌∷◌, ◌++◌, All, Contains, flat_map, refl, ap, sym, ◌∙◌, arith, suc-add, zero-add, add-zero, add-one, append-nil, ◌⊎◌, inl, inr}
 use Rattle.std.specs.List.{range_with_len}
 use Rattle.std.proofs.lemmas.Grind.{flat_map-append}
 use Rattle.std.proofs.lemmas.List.Elements.{All-nil, All-cons, All-append, All-contains, Contains-append_left, Contains-append_right}
@@ -11,6 +11,7 @@ use Rattle.logic3.specs.declared.value.Value.TheVariants.{Unknown}
 use Rattle.logic3.specs.declared.change.Change.{Change}
 use Rattle.logic3.specs.Value.{is_same, is_same_equiv}
 use Rattle.logic3.proofs.Equal.{is_same-true}
+use Rattle.logic3.specs.Rising.{TicksRise}
 use Rattle.logic3.specs.Wave.{value_after, value_at, value_before, change_at, changes_between, wave_of, value_in_the_end, last_value, joined, Alternates, IsWave}
 
 pub value_after-append : (v : Value) (xs ys : List Change) (tick : ℕ) →
@@ -213,8 +214,7 @@ ticks_from before low (first ∷ changes) (a, differs, rest) =
     All-cons (λ (change : Change). low ≤ change.tick) first changes a (λ k d l. omega (arith, later k d l))
 
 -- the ticks of changes that alternate rise strictly
-pub AllPairs-Alternates : (before : Value) (low : ℕ) (changes : List Change) → Alternates before low changes →
-    AllPairs (λ (earlier later : Change). earlier.tick < later.tick) changes
+pub AllPairs-Alternates : (before : Value) (low : ℕ) (changes : List Change) → Alternates before low changes → TicksRise changes
 AllPairs-Alternates before low [] h = λ i j d a b. absurd (omega arith)
 AllPairs-Alternates before low (first ∷ changes) (a, differs, rest) =
     let later = ticks_from first.value (first.tick + 1) changes rest in

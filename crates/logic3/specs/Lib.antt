@@ -1,3 +1,4 @@
 pub mod Value
 pub mod Gate
 pub mod Wave
+pub mod Rising

@@ -1,4 +1,5 @@
-ghost use Rattle.std.specs.Prelude.{◌≡◌, ◌<◌, AllPairs};
+ghost use Rattle.std.specs.Prelude.{◌≡◌};
+ghost use Rattle.logic3.specs.Rising.{TicksRise};
 ghost use Rattle.logic3.specs.Wave.{value_after};
 
 use crate::value::Value;
@@ -14,7 +15,7 @@ pub struct Change {
 ///
 /// Takes logarithmic time.
 pub fn value_after(before: Value, changes: &[Change], tick: u64) -> Value
-    requires { AllPairs (λ (earlier later : Change). earlier.tick < later.tick) changes.now }
+    requires { TicksRise changes.now }
     ensures { result ≡ value_after before changes.now tick }
 {
     let due = changes.partition_point(|change| change.tick <= tick);

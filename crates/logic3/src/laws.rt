@@ -1,10 +1,10 @@
 //! Facts about the definitions alone.
-ghost use Rattle.std.specs.Prelude.{◌≡◌, ◌≢◌, ◌↔◌, ℕ, ◌+◌, ◌<◌, ◌≤◌, List, length, All, AllPairs, Contains, Some, slice_get, slice_set};
+ghost use Rattle.std.specs.Prelude.{◌≡◌, ◌≢◌, ◌↔◌, ℕ, ◌+◌, ◌<◌, ◌≤◌, List, length, All, Contains, Some, slice_get, slice_set};
 ghost use Rattle.logic3.specs.declared.value.Value.{Value};
 ghost use Rattle.logic3.specs.declared.value.Value.TheVariants.{Unknown};
 ghost use Rattle.logic3.specs.declared.gates.GateKind.{GateKind};
-ghost use Rattle.logic3.specs.declared.change.Change.{Change};
 ghost use Rattle.logic3.specs.Gate.{HasArity, Refines, value_of_gate};
+ghost use Rattle.logic3.specs.Rising.{TicksRise};
 ghost use Rattle.logic3.specs.Wave.{IsWave, joined, value_at, value_before, wave_of};
 
 /// With all pins X every gate gives X.
@@ -30,8 +30,7 @@ pub fn changes_of_a_signal()
     ensures changes { (signal : ℕ → Value) (from to tick : ℕ) (value : Value) →
         Contains (wave_of signal from to).changes (record { tick = tick; value = value })
         ↔ ((from ≤ tick) × (tick < to) × (signal tick ≡ value) × (value_before signal tick ≢ value)) }
-    ensures rise { (signal : ℕ → Value) (from to : ℕ) →
-        AllPairs (λ (earlier later : Change). earlier.tick < later.tick) (wave_of signal from to).changes }
+    ensures rise { (signal : ℕ → Value) (from to : ℕ) → TicksRise (wave_of signal from to).changes }
     ensures is_wave { (signal : ℕ → Value) (from to : ℕ) → IsWave (wave_of signal from to) }
 {}
 

@@ -11,6 +11,3 @@ pub use change::{Change, value_after};
 pub use gates::{GateKind, gate};
 pub use value::Value;
 pub use waveform::Waveform;
-
-#[cfg(test)]
-mod tests;

@@ -5,21 +5,21 @@ use Rattle.std.proofs.lemmas.Bool.{cases_lt, lt-ltb}
 use Rattle.bench_text.specs.Text.{◌>>=◌}
 use Rattle.design.specs.Circuit.{most_ticks}
 use Rattle.design.specs.Options.{horizon_of}
-use Rattle.nullsim.specs.declared.fault.SimFault.{SimFault}
-use Rattle.nullsim.specs.declared.fault.SimFault.TheVariants.{Dump, Memory}
-use Rattle.nullsim.specs.declared.sections.DeckTextFault.{DeckTextFault}
-use Rattle.nullsim.specs.declared.sections.DeckTextFault.TheVariants as text
+use Rattle.vcd_dump.specs.Bytes.{AppendsPrefix}
+use Rattle.runs.specs.declared.fault.SimFault.{SimFault}
+use Rattle.runs.specs.declared.fault.SimFault.TheVariants.{Dump, Memory}
+use Rattle.deck_text.specs.declared.sections.DeckTextFault.{DeckTextFault}
+use Rattle.deck_text.specs.declared.sections.DeckTextFault.TheVariants.{TooLong, BadDeck}
 use Rattle.nullsim.specs.declared.deck_run.DeckFault.{DeckFault}
 use Rattle.nullsim.specs.declared.deck_run.DeckFault.TheVariants.{Sim}
-use Rattle.nullsim.specs.declared.simulation.Report.{Report}
-use Rattle.nullsim.specs.Deck.{Sections, sections_of}
-use Rattle.nullsim.specs.DeckRun.{dump_of_deck, simulated_deck, source_of_deck, view_of_deck}
-use Rattle.nullsim.specs.Ends.{WritesPart, EndsBy, DeckEndsBy}
-use Rattle.nullsim.specs.Faults.{deck_of_text}
-use Rattle.nullsim.specs.Run.{design_of_source, or_fault, text_of}
-use Rattle.nullsim.specs.Seen.{held, on_sections}
-use Rattle.nullsim.specs.Simulated.{dump_in, run_of_source, simulated}
-use Rattle.nullsim.proofs.Cut.{cut, sections_of-cut}
+use Rattle.runs.specs.declared.simulation.Report.{Report}
+use Rattle.deck_text.specs.Deck.{Sections, ended_lines, sections_of, sections_of_lines}
+use Rattle.nullsim.specs.DeckRun.{DeckEndsBy, deck_of_text, dump_of_deck, simulated_deck, source_of_deck, view_of_deck}
+use Rattle.runs.specs.Ends.{WritesPart, RunEndsBy}
+use Rattle.runs.specs.Source.{design_of_source, or_fault, dump_of_design}
+use Rattle.deck_text.specs.Seen.{held, on_sections}
+use Rattle.runs.specs.Simulated.{dump_in, run_of_source, simulated}
+use Rattle.orders.proofs.CallerLemmas.{cut, limited-cut}
 
 -- a horizon past a `u64` is refused as the largest `u64` is
 horizon_of-held : (horizon : ℕ) → horizon_of (min (2 ^ 64 - 1) horizon) ≡ horizon_of horizon
@@ -31,7 +31,7 @@ horizon_of-held horizon = go (cases_lt most_ticks horizon)
 
 -- so the sections as the code holds them have the same answer
 simulated-held : (s : Sections) → simulated (source_of_deck (held s)) (view_of_deck (held s)) ≡ simulated (source_of_deck s) (view_of_deck s)
-unfolding simulated run_of_source design_of_source text_of
+unfolding simulated run_of_source design_of_source dump_of_design
 simulated-held s = rw (horizon_of-held s.horizon) refl
 
 -- the answer to a deck whose sections the code found
@@ -49,7 +49,7 @@ simulated_deck-sections bytes found is = go (sections_of bytes) is
     go (Err fault) e = cc
 
 -- the answer to a text in which it found none
-pub dump_of_deck-bad_text : (bytes : List ℕ) (fault : DeckTextFault) → on_sections held (sections_of bytes) ≡ Err fault →
+dump_of_deck-bad_text : (bytes : List ℕ) (fault : DeckTextFault) → on_sections held (sections_of bytes) ≡ Err fault →
     dump_of_deck bytes ≡ Err (deck_of_text fault)
 unfolding simulated_deck
 dump_of_deck-bad_text bytes fault is = go (sections_of bytes) is
@@ -59,13 +59,17 @@ dump_of_deck-bad_text bytes fault is = go (sections_of bytes) is
     go (Ok s) e = cc
     go (Err other) e = let same : other ≡ fault = cc in ap (λ f. Err (deck_of_text f)) same
 
--- which is how the run ends
-pub DeckEndsBy-bad_text : (answer : Result (List ℕ) DeckFault) (old : Option (List ℕ)) (fault : DeckTextFault) → answer ≡ Err (deck_of_text fault) →
-    DeckEndsBy answer old old (deck_of_text fault)
-DeckEndsBy-bad_text answer old text.TooLong is = (is, Keeps-refl old)
-DeckEndsBy-bad_text answer old (text.BadDeck line) is = (is, Keeps-refl old)
+-- such a text is refused, and nothing goes out
+pub DeckEndsBy-bad_text : (bytes : List ℕ) (kept : Option (List ℕ)) (fault : DeckTextFault) → on_sections held (sections_of bytes) ≡ Err fault →
+    DeckEndsBy (dump_of_deck bytes) kept kept (deck_of_text fault)
+DeckEndsBy-bad_text bytes kept TooLong is = (dump_of_deck-bad_text bytes TooLong is, Keeps-refl kept)
+DeckEndsBy-bad_text bytes kept (BadDeck line) is = (dump_of_deck-bad_text bytes (BadDeck line) is, Keeps-refl kept)
 
 -- a text that is too long may be cut
+sections_of-cut : (text : List ℕ) → sections_of (cut text) ≡ sections_of text
+unfolding sections_of
+sections_of-cut text = limited-cut (Err TooLong) (λ t. sections_of_lines (ended_lines t)) text
+
 pub dump_of_deck-cut : (bytes : List ℕ) → dump_of_deck (cut bytes) ≡ dump_of_deck bytes
 unfolding simulated_deck
 dump_of_deck-cut bytes = rw (sections_of-cut bytes) refl
@@ -79,9 +83,9 @@ WritesPart-Sim : (answer : Result (List ℕ) SimFault) (old new : Option (List �
 WritesPart-Sim (Ok text) old new part = part
 WritesPart-Sim (Err fault) old new part = part
 
-DeckEndsBy-or_fault : (answer : Result (List ℕ) SimFault) (old new : Option (List ℕ)) (fault : SimFault) → EndsBy answer old new fault →
+DeckEndsBy-or_fault : (answer : Result (List ℕ) SimFault) (old new : Option (List ℕ)) (fault : SimFault) → RunEndsBy answer old new fault →
     DeckEndsBy (or_fault Sim answer) old new (Sim fault)
-DeckEndsBy-or_fault answer old new (Dump fault) ends = WritesPart-Sim answer old new ends
+DeckEndsBy-or_fault answer old new (Dump fault) ends = IsOkAnd-Sim answer (AppendsPrefix old new) ends
 DeckEndsBy-or_fault answer old new Memory ends = WritesPart-Sim answer old new ends
 DeckEndsBy-or_fault answer old new _ ends = (ap (or_fault Sim) ends.0, ends.1)
 
@@ -91,7 +95,7 @@ dump_in-or_fault (Err fault) = refl
 
 -- and one that ended with a fault is one that ended with it
 pub DeckEndsBy-Sim : (deck : Result (List ℕ × Report) DeckFault) (answer : Result (List ℕ × Report) SimFault) (old new : Option (List ℕ)) (fault : SimFault) →
-    deck ≡ or_fault Sim answer → EndsBy (dump_in answer) old new fault → DeckEndsBy (dump_in deck) old new (Sim fault)
+    deck ≡ or_fault Sim answer → RunEndsBy (dump_in answer) old new fault → DeckEndsBy (dump_in deck) old new (Sim fault)
 DeckEndsBy-Sim deck answer old new fault is ends =
     subst (λ d. DeckEndsBy d old new (Sim fault)) (sym (ap dump_in is ∙ dump_in-or_fault answer))
     (DeckEndsBy-or_fault (dump_in answer) old new fault ends)

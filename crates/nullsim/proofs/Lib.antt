@@ -1,24 +1,3 @@
-pub mod Answer
-pub mod Checks
-pub mod Cones
-pub mod Cut
-pub mod DeckText
-pub mod Decks
-pub mod Ends
-pub mod First
-pub mod Found
-pub mod Isolated
-pub mod Lines
-pub mod Nets
-pub mod OneAnswer
-pub mod Orders
-pub mod Readers
-pub mod Rows
-pub mod Rules
-pub mod Runs
-pub mod Signals
-pub mod Simulated
-pub mod Told
-pub mod Twins
-pub mod Viewed
-pub mod Words
+mod CommandEnds
+mod Decks
+mod Told

@@ -2,27 +2,41 @@
 ghost use Rattle.std.specs.Prelude.{◌≡◌, IfErr};
 ghost use Rattle.nullsim.specs.Command.{HelpsIfAsked, asks_for_help};
 
-use crate::commands::{ALONE, FIRST, OptionNames, SECOND, program};
-use crate::order::{NoOrder, Order, PickOptions, SourceOptions};
-use crate::view::{Show, View};
-use clap::error::ErrorKind;
-use clap::{ArgMatches, Error};
-use std::alloc::{AllocError, Global};
-use vcd_dump::TimeUnit;
+mod check;
+mod cone;
+mod help;
+mod options;
+mod plain;
+mod run;
+mod twin;
 
-impl<'a> Order<'a> {
-    /// What the words ask for, which don't have the program's own name.
-    ///
-    /// # Errors
-    /// The text of the help where a word asks for it, or a text that says what is wrong with the
-    /// words.
-    pub fn of_words(alloc: Global, words: &'a [String]) -> Result<Order<'a>, NoOrder>
-        ensures { IfErr result (HelpsIfAsked words.now) }
-    {
-        match read_order(alloc, words) {
-            Ok(order) => Ok(order),
-            Err(error) => Err(no_order(alloc, words, &error)),
-        }
+use crate::command_line::help::program;
+use clap::Error;
+use clap::error::ErrorKind;
+use orders::Order;
+use std::alloc::Global;
+
+/// Why words are no order.
+#[derive(Debug, Drop)]
+pub enum NoOrder {
+    /// Help is asked for: this is its text.
+    Help(String),
+    /// The words are wrong: this text says how.
+    Usage(String),
+    /// A growth was refused.
+    Memory,
+}
+
+/// What the words ask for, which don't have the program's own name.
+///
+/// # Errors
+/// The text of the help where a word asks for it, or a text that says what is wrong with the words.
+pub fn order_of_words<'a>(alloc: Global, words: &'a [String]) -> Result<Order<'a>, NoOrder>
+    ensures { IfErr result (HelpsIfAsked words.now) }
+{
+    match read_order(alloc, words) {
+        Ok(order) => Ok(order),
+        Err(error) => Err(no_order(alloc, words, &error)),
     }
 }
 
@@ -51,104 +65,11 @@ fn asks_for_help(words: &[String]) -> bool
 fn read_order<'a>(alloc: Global, words: &'a [String]) -> Result<Order<'a>, Error> {
     let matches = program(alloc)?.try_get_matches_from(words)?;
     match matches.subcommand() {
-        Some(("run", options)) => run_given(alloc, options),
-        Some(("plain", options)) => Ok(Order::Plain {
-            source: source_given(options, &ALONE, PickOptions::Nothing),
-            view: view_given(options),
-        }),
-        Some(("cone", options)) => Ok(Order::Cone {
-            bench: options.get_str("bench").unwrap_or(""),
-            names: names_given(alloc, options)?,
-        }),
-        Some(("twin", options)) => Ok(twin_given(options)),
-        Some(("check", options)) => Ok(Order::Check {
-            source: source_given(options, &ALONE, PickOptions::Nothing),
-            horizon: number_given(options, "horizon"),
-        }),
+        Some(("run", options)) => run::order_given(alloc, options),
+        Some(("plain", options)) => Ok(plain::order_given(options)),
+        Some(("cone", options)) => Ok(cone::order_given(alloc, options)?),
+        Some(("twin", options)) => Ok(twin::order_given(options)),
+        Some(("check", options)) => Ok(check::order_given(options)),
         _ => Err(program(alloc)?.error(ErrorKind::MissingSubcommand, "a command is missing")?),
     }
-}
-
-fn run_given<'a>(alloc: Global, options: &ArgMatches<'a>) -> Result<Order<'a>, Error> {
-    let picks = match (options.get_str("schedule"), number_given(options, "picks")) {
-        (None, 0) => PickOptions::Nothing,
-        (Some(name), 0) => PickOptions::File(name),
-        (None, picks) => PickOptions::Seeded {
-            seed: number_given(options, "seed"),
-            picks,
-        },
-        (Some(_), _) => return Err(program(alloc)?.error(ErrorKind::ArgumentConflict, BOTH)?),
-    };
-    Ok(Order::Run {
-        source: source_given(options, &ALONE, picks),
-        view: view_given(options),
-        counts: options.get_flag("counts"),
-    })
-}
-
-const BOTH: &str = "the argument '--schedule <FILE>' cannot be used with '--picks <N>' above 0";
-
-fn twin_given<'a>(options: &ArgMatches<'a>) -> Order<'a> {
-    Order::Twin {
-        first: source_given(options, &FIRST, side_picks(options, FIRST.schedule)),
-        second: source_given(options, &SECOND, side_picks(options, SECOND.schedule)),
-        net: options.get_str("net").unwrap_or("").as_bytes(),
-        horizon: number_given(options, "horizon"),
-    }
-}
-
-fn side_picks<'a>(options: &ArgMatches<'a>, id: &str) -> PickOptions<'a> {
-    match options.get_str(id) {
-        Some(name) => PickOptions::File(name),
-        None => PickOptions::Nothing,
-    }
-}
-
-fn source_given<'a>(
-    options: &ArgMatches<'a>,
-    names: &OptionNames,
-    picks: PickOptions<'a>,
-) -> SourceOptions<'a> {
-    SourceOptions {
-        bench: options.get_str(names.bench).unwrap_or(""),
-        delays: options.get_str(names.delays),
-        stimuli: options.get_str(names.stimuli),
-        delay: number_given(options, names.delay),
-        period: number_given(options, names.period),
-        picks,
-    }
-}
-
-fn names_given<'a>(alloc: Global, options: &ArgMatches<'a>) -> Result<Vec<&'a [u8]>, AllocError> {
-    options
-        .get_strs("names")
-        .unwrap_or(&[])
-        .iter()
-        .map(|name| name.as_bytes())
-        .collect(alloc)
-}
-
-fn view_given(options: &ArgMatches<'_>) -> View {
-    let show = match options.get_str("show") {
-        Some("outputs") => Show::Outputs,
-        _ => Show::All,
-    };
-    let unit = match options.get_str("unit") {
-        Some("s") => TimeUnit::S,
-        Some("ms") => TimeUnit::Ms,
-        Some("us") => TimeUnit::Us,
-        Some("ps") => TimeUnit::Ps,
-        Some("fs") => TimeUnit::Fs,
-        _ => TimeUnit::Ns,
-    };
-    View {
-        horizon: number_given(options, "horizon"),
-        show,
-        unit,
-    }
-}
-
-/// The number of an option that is required or has a default.
-fn number_given(options: &ArgMatches<'_>, id: &str) -> u64 {
-    options.get_one(id).unwrap_or(0)
 }

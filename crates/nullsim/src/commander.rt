@@ -3,19 +3,14 @@ ghost use Rattle.std.specs.Prelude.{◌≡◌, ◌⊎◌, IsTrue};
 ghost use Rattle.std.specs.Io.KnownBytes.{Keeps};
 ghost use Rattle.nullsim.specs.Command.{AnsweredSome, Explains, PartAnsweredSome, RefusedSome, asks_for_help};
 
-use crate::fault::SimFault;
-use crate::order::{NoOrder, Order};
-use crate::output::write_text;
-use crate::program_fault::{ProgramFault, SECTIONS, report};
-use crate::texts::Texts;
+use crate::command_line::{NoOrder, order_of_words};
 use cmb_kernel::Counts;
+use orders::status::{DONE, WRONG_WORDS};
+use orders::{ProgramFault, SECTIONS, Texts, report, write_text};
 use std::alloc::Global;
 use std::fmt::InlineText;
 use std::io::Write;
 use vcd_dump::write_all_bytes;
-
-/// The exit status of a usage fault.
-const USAGE_FAULT: u8 = 2;
 
 /// Carries out what the words ask for, which don't have the program's own name; answers the exit
 /// status.
@@ -39,11 +34,11 @@ pub fn command<T: Texts, W: Write, E: Write>(
     ensures part { IsTrue (asks_for_help words.now)
         ⊎ PartAnsweredSome (T.known texts.old) (W.contents out.old) (W.contents out.new) }
 {
-    match Order::of_words(alloc, words) {
+    match order_of_words(alloc, words) {
         Ok(order) => match order.carry_out(alloc, texts, out) {
             Ok(counts) => {
                 tell_counts(err, counts);
-                0
+                DONE
             }
             Err(fault) => report(err, fault, order.text_names(fault.side())),
         },
@@ -80,13 +75,13 @@ fn explain<W: Write, E: Write>(no_order: NoOrder, out: &mut W, err: &mut E) -> u
 {
     match no_order {
         NoOrder::Help(text) => match write_text(out, text.as_str().as_bytes()) {
-            Ok(()) => 0,
+            Ok(()) => DONE,
             Err(fault) => report(err, fault, SECTIONS),
         },
         NoOrder::Usage(text) => {
             let _ = write_all_bytes(err, text.as_str().as_bytes());
-            USAGE_FAULT
+            WRONG_WORDS
         }
-        NoOrder::Memory => report(err, ProgramFault::from(SimFault::Memory), SECTIONS),
+        NoOrder::Memory => report(err, ProgramFault::Memory, SECTIONS),
     }
 }

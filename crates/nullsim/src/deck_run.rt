@@ -2,15 +2,11 @@
 ghost use Rattle.std.specs.Prelude.{◌≡◌, IfErr, IfOk, IsOkAnd};
 ghost use Rattle.std.specs.Io.KnownBytes.{Appends};
 ghost use Rattle.nullsim.specs.declared.deck_run.DeckFault.TheVariants.{Sim};
-ghost use Rattle.nullsim.specs.Faults.{deck_of_text};
-ghost use Rattle.nullsim.specs.DeckRun.{dump_of_deck, simulated_deck};
-ghost use Rattle.nullsim.specs.Ends.{DeckEndsBy};
+ghost use Rattle.nullsim.specs.DeckRun.{DeckEndsBy, deck_of_text, dump_of_deck, fault_of_deck, simulated_deck};
 
-use crate::fault::SimFault;
-use crate::sections::{DeckTextFault, read_sections};
-use crate::simulation::{Report, simulate};
-use crate::source::{Picks, Source};
-use crate::view::{Show, View};
+use deck_text::{DeckTextFault, read_sections};
+use orders::ProgramFault;
+use runs::{Picks, Report, Show, SimFault, Source, View, simulate};
 use std::alloc::Global;
 use std::io::Write;
 use thiserror::Error;
@@ -25,6 +21,7 @@ pub enum DeckFault {
     /// The first line that breaks a rule of decks.
     #[error("BadDeck")]
     BadDeck { line: u64 },
+    /// The run of its sections ended early.
     #[error("{0}")]
     Sim(SimFault),
 }
@@ -45,6 +42,18 @@ impl From<SimFault> for DeckFault {
 
     fn from(fault: SimFault) -> DeckFault {
         DeckFault::Sim(fault)
+    }
+}
+
+impl From<DeckFault> for ProgramFault<'_> {
+    ghost from_gives = { λ fault e. e ≡ fault_of_deck fault };
+
+    fn from(fault: DeckFault) -> Self {
+        match fault {
+            DeckFault::TooLong => ProgramFault::Deck(DeckTextFault::TooLong),
+            DeckFault::BadDeck { line } => ProgramFault::Deck(DeckTextFault::BadDeck { line }),
+            DeckFault::Sim(fault) => ProgramFault::from(fault),
+        }
     }
 }
 

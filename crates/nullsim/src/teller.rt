@@ -2,13 +2,12 @@
 ghost use Rattle.std.specs.Prelude.{◌≡◌, IfErr, IfSome, IsErr, OnOk};
 ghost use Rattle.std.specs.Io.KnownBytes.{Keeps};
 ghost use Rattle.nullsim.specs.DeckRun.{dump_of_deck};
-ghost use Rattle.nullsim.specs.Ends.{WritesPart};
+ghost use Rattle.runs.specs.Ends.{WritesPart};
 ghost use Rattle.nullsim.specs.Tell.{TellEndsBy, Told};
 
 use crate::deck_run::deck;
-use crate::input::read_text;
-use crate::output::flush;
-use crate::program_fault::{ProgramFault, SECTIONS, report};
+use orders::status::DONE;
+use orders::{ProgramFault, SECTIONS, flush, read_text, report};
 use std::alloc::Global;
 use std::io::{Read, Write};
 
@@ -30,7 +29,7 @@ pub fn tell<R: Read, W: Write, E: Write>(
         WritesPart (dump_of_deck bytes) (W.contents out.old) (W.contents out.new)) }
 {
     match answer(alloc, input, out) {
-        Ok(()) => 0,
+        Ok(()) => DONE,
         Err(fault) => report(err, fault, SECTIONS),
     }
 }

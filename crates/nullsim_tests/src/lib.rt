@@ -1,8 +1,6 @@
-//! Tests that cross crates: worked examples, limits at full size, statuses, faulty streams.
+//! Tests of whole runs and of the command lines: worked examples, statuses, faulty streams.
 #![tactic(auto)]
 
-#[cfg(test)]
-mod channels;
 #[cfg(test)]
 mod checking;
 #[cfg(test)]
@@ -10,7 +8,9 @@ mod commanding;
 #[cfg(test)]
 mod comparing;
 #[cfg(test)]
-mod cones;
+mod dumps;
+#[cfg(test)]
+mod far_runs;
 #[cfg(test)]
 mod files;
 #[cfg(test)]
@@ -18,26 +18,14 @@ mod helping;
 #[cfg(test)]
 mod inputs;
 #[cfg(test)]
-mod kernels;
-#[cfg(test)]
-mod plain_engine;
-#[cfg(test)]
-mod processes;
-#[cfg(test)]
-mod reading;
-#[cfg(test)]
 mod refusals;
 #[cfg(test)]
 mod running;
-#[cfg(test)]
-mod schedules;
 #[cfg(test)]
 mod simulations;
 #[cfg(test)]
 mod telling;
 #[cfg(test)]
-mod texts;
-#[cfg(test)]
-mod timing;
-#[cfg(test)]
 mod twins;
+#[cfg(test)]
+mod writers;

@@ -1,5 +1,5 @@
 //! Each fault of a deck through `tell`: the place and the line that it names, and the exit status.
-use crate::telling::Narrow;
+use crate::writers::Narrow;
 use nullsim::tell;
 use std::alloc::Global;
 use std::process::Abort;
@@ -20,16 +20,47 @@ fn refuses(rt: &impl Abort, alloc: Global, deck: &str, fault: &str) {
 fn decks(rt: HostRuntime) {
     for (deck, fault) in [
         ("", "deck:1: BadDeck\n"),
+        ("nullsim 5", "deck:1: BadDeck\n"),
         ("\n%nullsim 5\n", "deck:1: BadDeck\n"),
+        ("%nullsim 5 # c\n", "deck:1: BadDeck\n"),
         ("%nullsim x\n%bench\n", "deck:1: BadDeck\n"),
+        ("%nullsim 5\nwords\n%bench\n", "deck:2: BadDeck\n"),
         ("%nullsim 5\n\nx\n%bench\n", "deck:3: BadDeck\n"),
+        ("%nullsim 5\n%bench\n%bench\n", "deck:3: BadDeck\n"),
         (
             "%nullsim 5\n%bench\n%stimuli\n%bench\n",
             "deck:4: BadDeck\n",
         ),
         (
+            "%nullsim 5\n%schedule\n%bench\nINPUT(a)\n%schedule\n",
+            "deck:5: BadDeck\n",
+        ),
+        (
             "%nullsim 10000001\n%bench\nx y\n",
             "options:0: BadHorizon\n",
+        ),
+        ("%nullsim 5", "bench:0: NoNets\n"),
+        ("%nullsim 5\n%bench\nx\n", "bench:1: BadLine\n"),
+        (
+            "%nullsim 5\n%bench\nINPUT(a)\n%delays\n\nzz 1\n",
+            "delays:2: UnknownNet\n",
+        ),
+        (
+            "%nullsim 5\n%bench\nINPUT(a)\n%stimuli\n0 a 2\n",
+            "stimuli:1: BadValue\n",
+        ),
+        (
+            "%nullsim 5\n%schedule\nAdvance y\n%bench\nINPUT(a)\ny = NOT(a)\n",
+            "schedule:1: BadLine\n",
+        ),
+        (
+            "%nullsim 5\n%bench\nINPUT(a)\n%schedule\n%foo\n",
+            "schedule:1: BadLine\n",
+        ),
+        // A fault of the stimuli comes first.
+        (
+            "%nullsim 5\n%schedule\nadvance zz\n%bench\nINPUT(a)\n%stimuli\n0 a 2\n",
+            "stimuli:1: BadValue\n",
         ),
     ] {
         refuses(&rt, rt.alloc(), deck, fault);
@@ -103,8 +134,10 @@ fn stimuli(rt: HostRuntime) -> Result<(), Fail> {
 #[test]
 fn schedules(rt: HostRuntime) -> Result<(), Fail> {
     for (schedule, fault) in [
+        ("deliver y 1\n", "schedule:1: BadPin\n"),
         ("advance y 0\n", "schedule:1: BadLine\n"),
         ("advance y\nadvance zz\n", "schedule:2: UnknownNet\n"),
+        ("\nadvance y\nadvance zz\n", "schedule:3: UnknownNet\n"),
         ("\n\ndeliver y 1\n", "schedule:3: BadPin\n"),
         (
             "deliver y 9999999999999999999999999999999999999999\n",

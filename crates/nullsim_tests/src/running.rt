@@ -1,9 +1,7 @@
 //! Command lines through `command`: `run`, with schedules and counts.
-use crate::commanding::{
-    AT_OUTPUTS, Shelf, breaks_off, goes_out, misuses, refuses, tells, words_of,
-};
-use crate::simulations::EDGE_DUMP;
-use crate::telling::{INVERTER_DUMP, Narrow};
+use crate::commanding::{Shelf, breaks_off, goes_out, misuses, refuses, tells, words_of};
+use crate::dumps::{EDGE_DUMP, INVERTER_DUMP, OUTPUTS_DUMP};
+use crate::writers::Narrow;
 use nullsim::command;
 use std::alloc::Global;
 use std::process::Abort;
@@ -25,7 +23,7 @@ fn inverter(rt: HostRuntime) -> Result<(), Fail> {
 fn views(rt: HostRuntime) -> Result<(), Fail> {
     let outputs =
         "run --bench inv.bench --stimuli inv.stim --horizon 5 --show outputs --unit ps --counts";
-    tells(&rt, rt.alloc(), outputs, AT_OUTPUTS, COUNTS)?;
+    tells(&rt, rt.alloc(), outputs, OUTPUTS_DUMP, COUNTS)?;
     let first_tick = "run --counts --horizon 0 --stimuli inv.stim --bench inv.bench";
     let counts = "events 2 changes 1 nulls 1 rounds 1\n";
     tells(&rt, rt.alloc(), first_tick, &INVERTER_DUMP[..169], counts)
@@ -41,25 +39,12 @@ fn runs_edge(rt: &impl Abort, alloc: Global, options: &str, counts: &str) -> Res
 
 #[test]
 fn schedules(rt: HostRuntime) -> Result<(), Fail> {
-    for options in [
-        "",
-        "--schedule none.sched",
-        "--schedule fifty.sched",
-        "--schedule deliveries.sched",
-        "--schedule ahead.sched",
-        "--seed 7 --picks 1000",
-        "--picks 1000",
-        "--seed 18446744073709551615 --picks 1",
-        "--schedule ahead.sched --picks 0 --seed 7",
-    ] {
-        runs_edge(&rt, rt.alloc(), options, "")?;
-    }
-    Ok(())
-}
-
-#[test]
-fn counts_of_schedules(rt: HostRuntime) -> Result<(), Fail> {
     for (options, counts) in [
+        ("", ""),
+        ("--seed 7 --picks 1000", ""),
+        ("--picks 1000", ""),
+        ("--seed 18446744073709551615 --picks 1", ""),
+        ("--schedule ahead.sched --picks 0 --seed 7", ""),
         ("--counts", "events 19 changes 7 nulls 6 rounds 3\n"),
         (
             "--counts --schedule none.sched",

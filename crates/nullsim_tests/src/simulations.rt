@@ -1,4 +1,8 @@
 //! Runs by the kernel: dumps byte for byte, what is reported, schedules.
+use crate::dumps::{
+    EDGE_DUMP, INVERTER_DUMP, OSCILLATOR_DUMP, OUTPUTS_DUMP, RING_COUNTER_DUMP, SAMPLER_DUMP,
+    SELF_INVERTER_DUMP, SLOW_DUMP,
+};
 use cmb_kernel::{Counts, ScheduleFault};
 use design::StimulusFault;
 use nullsim::{Picks, Report, Show, SimFault, Source, View, plain, simulate};
@@ -15,9 +19,6 @@ const INVERTER: Source<'static> = Source {
     picks: Picks::Nothing,
 };
 
-const INVERTER_DUMP: &[u8] =
-    b"$version nullsim 1 $end\n$timescale 1 ns $end\n$scope module top $end\n$var wire 1 ! a $end\n$var wire 1 \" y $end\n$upscope $end\n$enddefinitions $end\n#0\n$dumpvars\n0!\nx\"\n$end\n#1\n1\"\n#3\n1!\n#4\n0\"\n#5\n";
-
 // A buffer and a gate that compares its two sides.
 const EDGE: Source<'static> = Source {
     bench: b"INPUT(a)\nb = BUFF(a)\ny = XOR(a, b)\n",
@@ -25,8 +26,37 @@ const EDGE: Source<'static> = Source {
     ..INVERTER
 };
 
-pub(crate) const EDGE_DUMP: &[u8] =
-    b"$version nullsim 1 $end\n$timescale 1 ns $end\n$scope module top $end\n$var wire 1 ! a $end\n$var wire 1 \" b $end\n$var wire 1 # y $end\n$upscope $end\n$enddefinitions $end\n#0\n$dumpvars\n0!\nx\"\nx#\n$end\n#1\n0\"\n#2\n0#\n#5\n1!\n#6\n1\"\n1#\n#7\n0#\n#8\n";
+const SLOW_INVERTER: Source<'static> = Source {
+    delays: b"y 9",
+    ..INVERTER
+};
+
+const SELF_INVERTER: Source<'static> = Source {
+    bench: b"y = NOT(y)",
+    stimuli: b"",
+    ..INVERTER
+};
+
+const OSCILLATOR: Source<'static> = Source {
+    bench: b"INPUT(e)\ny = NAND(e, y)\n",
+    delays: b"y 2",
+    stimuli: b"0 e 0\n5 e 1\n",
+    ..INVERTER
+};
+
+const SAMPLER: Source<'static> = Source {
+    bench: b"INPUT(d)\nq = DFF(d)\n",
+    stimuli: b"4 d 1\n5 d 0\n",
+    period: 4,
+    ..INVERTER
+};
+
+const RING_COUNTER: Source<'static> = Source {
+    bench: b"q = DFF(n)\nn = NOT(q)\n",
+    stimuli: b"",
+    period: 3,
+    ..INVERTER
+};
 
 fn counts(events: u64, changes: u64, nulls: u64, rounds: u64) -> Counts {
     Counts {
@@ -76,80 +106,20 @@ fn completes(
 }
 
 #[test]
-fn inverter(rt: HostRuntime) {
+fn worked_runs(rt: HostRuntime) {
     assert_eq!(rt; INVERTER_DUMP.len(), 190);
-    completes(
-        &rt,
-        rt.alloc(),
-        INVERTER,
-        5,
-        counts(7, 4, 3, 2),
-        INVERTER_DUMP,
-    );
-    let at_zero = &INVERTER_DUMP[..169];
-    completes(&rt, rt.alloc(), INVERTER, 0, counts(2, 1, 1, 1), at_zero);
-}
-
-#[test]
-fn slow_inverter(rt: HostRuntime) {
-    let slow = Source {
-        delays: b"y 9",
-        ..INVERTER
-    };
-    let dump =
-        b"$version nullsim 1 $end\n$timescale 1 ns $end\n$scope module top $end\n$var wire 1 ! a $end\n$var wire 1 \" y $end\n$upscope $end\n$enddefinitions $end\n#0\n$dumpvars\n0!\nx\"\n$end\n#3\n1!\n#5\n";
-    completes(&rt, rt.alloc(), slow, 5, counts(2, 2, 2, 1), dump);
-}
-
-#[test]
-fn self_inverter(rt: HostRuntime) {
-    let ring = Source {
-        bench: b"y = NOT(y)",
-        stimuli: b"",
-        ..INVERTER
-    };
-    let dump =
-        b"$version nullsim 1 $end\n$timescale 1 ns $end\n$scope module top $end\n$var wire 1 ! y $end\n$upscope $end\n$enddefinitions $end\n#0\n$dumpvars\nx!\n$end\n#3\n";
-    completes(&rt, rt.alloc(), ring, 3, counts(7, 0, 4, 4), dump);
-}
-
-#[test]
-fn gate_that_feeds_itself(rt: HostRuntime) {
-    let ring = Source {
-        bench: b"INPUT(e)\ny = NAND(e, y)\n",
-        delays: b"y 2",
-        stimuli: b"0 e 0\n5 e 1\n",
-        ..INVERTER
-    };
-    let dump =
-        b"$version nullsim 1 $end\n$timescale 1 ns $end\n$scope module top $end\n$var wire 1 ! e $end\n$var wire 1 \" y $end\n$upscope $end\n$enddefinitions $end\n#0\n$dumpvars\n0!\nx\"\n$end\n#2\n1\"\n#5\n1!\n#7\n0\"\n#9\n1\"\n#11\n0\"\n#12\n";
-    completes(&rt, rt.alloc(), ring, 12, counts(24, 6, 5, 7), dump);
-}
-
-#[test]
-fn flip_flop(rt: HostRuntime) {
-    let flop = Source {
-        bench: b"INPUT(d)\nq = DFF(d)\n",
-        stimuli: b"4 d 1\n5 d 0\n",
-        period: 4,
-        ..INVERTER
-    };
-    let dump =
-        b"$version nullsim 1 $end\n$timescale 1 ns $end\n$scope module top $end\n$var wire 1 ! d $end\n$var wire 1 \" q $end\n$upscope $end\n$enddefinitions $end\n#0\n$dumpvars\nx!\nx\"\n$end\n#4\n1!\n#5\n0!\n1\"\n#9\n0\"\n";
-    completes(&rt, rt.alloc(), flop, 9, counts(7, 4, 2, 2), dump);
-}
-
-#[test]
-fn flip_flop_that_feeds_itself(rt: HostRuntime) {
-    let ring = Source {
-        bench: b"q = DFF(n)\nn = NOT(q)\n",
-        stimuli: b"",
-        period: 3,
-        ..INVERTER
-    };
-    let dump =
-        b"$version nullsim 1 $end\n$timescale 1 ns $end\n$scope module top $end\n$var wire 1 ! q $end\n$var wire 1 \" n $end\n$upscope $end\n$enddefinitions $end\n#0\n$dumpvars\nx!\nx\"\n$end\n#10\n";
-    completes(&rt, rt.alloc(), ring, 10, counts(21, 0, 8, 7), dump);
+    for (source, horizon, total, dump) in [
+        (INVERTER, 5, counts(7, 4, 3, 2), INVERTER_DUMP),
+        (INVERTER, 0, counts(2, 1, 1, 1), &INVERTER_DUMP[..169]),
+        (SLOW_INVERTER, 5, counts(2, 2, 2, 1), SLOW_DUMP),
+        (SELF_INVERTER, 3, counts(7, 0, 4, 4), SELF_INVERTER_DUMP),
+        (OSCILLATOR, 12, counts(24, 6, 5, 7), OSCILLATOR_DUMP),
+        (SAMPLER, 9, counts(7, 4, 2, 2), SAMPLER_DUMP),
+        (RING_COUNTER, 10, counts(21, 0, 8, 7), RING_COUNTER_DUMP),
+        (EDGE, 8, counts(19, 7, 6, 3), EDGE_DUMP),
+    ] {
+        completes(&rt, rt.alloc(), source, horizon, total, dump);
+    }
 }
 
 #[test]
@@ -182,7 +152,6 @@ fn schedules(rt: HostRuntime) {
         };
         runs(&rt, rt.alloc(), source, 8, report, EDGE_DUMP);
     }
-    completes(&rt, rt.alloc(), EDGE, 8, counts(19, 7, 6, 3), EDGE_DUMP);
 }
 
 #[test]
@@ -253,4 +222,30 @@ fn writer_without_room(rt: HostRuntime) {
     let fault = SimFault::Dump(DumpFault::WroteNothing);
     assert_eq!(rt; answer, Err(fault));
     assert!(rt; room.as_slice() == &INVERTER_DUMP[..100]);
+}
+
+// The dump of the outputs of a circuit, in picoseconds, up to tick 5.
+fn dumps_outputs(rt: &impl Abort, alloc: Global, source: Source, dump: &[u8]) {
+    let view = View {
+        horizon: 5,
+        show: Show::Outputs,
+        unit: TimeUnit::Ps,
+    };
+    let mut out = Vec::new(alloc);
+    assert_eq!(rt; plain(alloc, &source, &view, &mut out), Ok(()));
+    assert!(rt; out.as_slice() == dump);
+}
+
+#[test]
+fn outputs_only(rt: HostRuntime) {
+    assert_eq!(rt; OUTPUTS_DUMP.len(), 160);
+    dumps_outputs(&rt, rt.alloc(), INVERTER, OUTPUTS_DUMP);
+    let without_outputs = Source {
+        bench: b"INPUT(a)",
+        stimuli: b"",
+        ..INVERTER
+    };
+    let dump =
+        b"$version nullsim 1 $end\n$timescale 1 ps $end\n$scope module top $end\n$upscope $end\n$enddefinitions $end\n#0\n$dumpvars\n$end\n#5\n";
+    dumps_outputs(&rt, rt.alloc(), without_outputs, dump);
 }

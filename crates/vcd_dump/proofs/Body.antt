@@ -9,7 +9,7 @@ use Rattle.std.proofs.lemmas.Grind.{flat_map-append}
 use Rattle.logic3.specs.declared.value.Value.{Value}
 use Rattle.logic3.specs.declared.value.Value.TheVariants.{Zero, One, Unknown}
 use Rattle.logic3.specs.Value.{is_same}
-use Rattle.logic3.proofs.Equal.{is_same-true}
+use Rattle.logic3.proofs.CallerLemmas.{is_same-true}
 use Rattle.bench_text.specs.Text.{is_empty}
 use Rattle.vcd_dump.specs.Dump.{Variable, value_text, changes_at}
 use Rattle.vcd_dump.specs.Shown.{is_time_above, change_of, value_of_byte, is_time, value_in_body}

@@ -1,18 +1,18 @@
-pub mod Between
-pub mod Body
-pub mod BytesLemmas
-pub mod Changes
-pub mod Codes
-pub mod Declared
-pub mod Lists
-pub mod Order
-pub mod PendingLemmas
-pub mod Reached
-pub mod Rest
-pub mod Rows
-pub mod Shown
-pub mod ShownCodes
-pub mod Text
-pub mod Times
-pub mod Tokens
-pub mod Variables
+mod Between
+mod Body
+mod BytesLemmas
+pub mod CallerLemmas
+mod Changes
+mod CodeLemmas
+mod Declared
+mod Lists
+mod Order
+mod PendingLemmas
+mod Reached
+mod Readings
+mod Rest
+mod ShownValues
+mod Text
+mod Times
+mod Tokens
+mod Variables

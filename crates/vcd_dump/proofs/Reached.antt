@@ -12,11 +12,12 @@ use Rattle.logic3.specs.declared.value.Value.TheVariants.{Zero, One, Unknown}
 use Rattle.logic3.specs.declared.change.Change.{Change}
 use Rattle.logic3.specs.Value.{is_same}
 use Rattle.logic3.specs.Wave.{Wave, value_at, IsWave}
-use Rattle.logic3.proofs.Equal.{is_same-true}
+use Rattle.logic3.proofs.CallerLemmas.{is_same-true}
 use Rattle.bench_text.specs.Text.{is_empty}
 use Rattle.vcd_dump.specs.declared.pending.Pending.{Pending}
 use Rattle.vcd_dump.specs.Bytes.{AppendsPrefix}
-use Rattle.vcd_dump.specs.Dump.{code_at, change_text, time_line, time_line_after, lines_at}
+use Rattle.vcd_dump.specs.Codes.{code_at}
+use Rattle.vcd_dump.specs.Dump.{change_text, time_line, time_line_after, lines_at}
 use Rattle.vcd_dump.specs.Traces.{EndsBy, unnamed}
 use Rattle.vcd_dump.specs.Pending.{tick_of, count_from, total_count, AddsChange, IsFrom, HoldsPending}
 use Rattle.vcd_dump.proofs.Between.{between, between-none}

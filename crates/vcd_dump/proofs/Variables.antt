@@ -9,7 +9,8 @@ use Rattle.logic3.specs.Wave.{Wave, value_at}
 use Rattle.design.specs.Circuit.{Net, Circuit}
 use Rattle.bench_text.specs.Text.{is_empty}
 use Rattle.vcd_dump.specs.declared.unit.TimeUnit.{TimeUnit}
-use Rattle.vcd_dump.specs.Dump.{Variable, code_at, variable_at, variables_of, line, heading, declaration, declaration_text, declarations, change_text, change_line, time_line, first_values, changes_at, lines_at, dump_text}
+use Rattle.vcd_dump.specs.Codes.{code_at}
+use Rattle.vcd_dump.specs.Dump.{Variable, variable_at, variables_of, line, heading, declaration, declaration_text, declarations, change_text, change_line, time_line, first_values, changes_at, lines_at, dump_text}
 use Rattle.vcd_dump.specs.Traces.{name_of, traces, named, unnamed}
 use Rattle.vcd_dump.proofs.Between.{between}
 use Rattle.vcd_dump.proofs.Rest.{lines}

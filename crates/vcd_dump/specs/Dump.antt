@@ -1,5 +1,5 @@
 -- The text of a value change dump.
-use Rattle.std.specs.Prelude.{ℕ, ◌+◌, ◌-◌, ◌/◌, ◌%◌, ◌==◌, ◌&&◌, not, nat_lt, if◌then◌else◌, List, [], ◌∷◌, ◌++◌, zero, suc, map, flat_map, codes, decimal}
+use Rattle.std.specs.Prelude.{ℕ, ◌-◌, ◌==◌, ◌&&◌, not, nat_lt, if◌then◌else◌, List, [], ◌∷◌, ◌++◌, map, flat_map, codes, decimal}
 use Rattle.std.specs.List.{enumerate_from, range_with_len}
 use Rattle.logic3.specs.declared.value.Value.{Value}
 use Rattle.logic3.specs.declared.value.Value.TheVariants.{Zero, One, Unknown}
@@ -7,6 +7,7 @@ use Rattle.logic3.specs.Value.{is_same}
 use Rattle.bench_text.specs.Text.{is_empty}
 use Rattle.vcd_dump.specs.declared.unit.TimeUnit.{TimeUnit}
 use Rattle.vcd_dump.specs.declared.unit.TimeUnit.TheVariants.{S, Ms, Us, Ns, Ps, Fs}
+use Rattle.vcd_dump.specs.Codes.{code_at}
 
 -- a shown net: its identifier code, its name, and what it shows at each tick
 pub record Variable : Type 0 where
@@ -14,29 +15,22 @@ pub record Variable : Type 0 where
   pub name : List ℕ
   pub signal : ℕ → Value
 
--- the code of a place, of so many characters at most: one of the 94 from '!' to '~', and from place 94 on a code behind it
-abbrev pub code_within : ℕ → ℕ → List ℕ
-code_within zero place = []
-code_within (suc characters) place =
-    let behind = code_within characters (place / 94 - 1) in
-    (33 + place % 94) ∷ (if nat_lt place 94 then [] else behind)
-
--- the identifier code of a place
-abbrev pub code_at : ℕ → List ℕ
-code_at place = code_within (place + 1) place
-
 -- the keywords of a dump
 abbrev pub dump_keywords : List (List ℕ)
 dump_keywords =
     codes "$version" ∷ codes "$timescale" ∷ codes "$scope" ∷ codes "$var" ∷ codes "$upscope"
     ∷ codes "$enddefinitions" ∷ codes "$dumpvars" ∷ codes "$end" ∷ []
 
+-- what is to be shown: a name with what it shows at each tick
+abbrev pub Trace : Type 0
+Trace = List ℕ × (ℕ → Value)
+
 -- the shown net at a place, with the code of that place
-abbrev pub variable_at : ℕ × (List ℕ × (ℕ → Value)) → Variable
+abbrev pub variable_at : ℕ × Trace → Variable
 variable_at (place, (name, signal)) = record { code = code_at place; name = name; signal = signal }
 
 -- the shown nets with their codes, in order
-abbrev pub variables_of : List (List ℕ × (ℕ → Value)) → List Variable
+abbrev pub variables_of : List Trace → List Variable
 variables_of shown = map variable_at (enumerate_from 0 shown)
 
 abbrev pub line : List ℕ → List ℕ
@@ -109,6 +103,6 @@ dump_of unit horizon variables =
     declarations unit variables ++ first_values variables
     ++ flat_map (lines_at variables horizon) (range_with_len 1 horizon)
 
--- the dump up to a horizon of the shown nets, each a name with what it shows at each tick
-abbrev pub dump_text : TimeUnit → ℕ → List (List ℕ × (ℕ → Value)) → List ℕ
+-- the dump up to a horizon of what is to be shown
+abbrev pub dump_text : TimeUnit → ℕ → List Trace → List ℕ
 dump_text unit horizon shown = dump_of unit horizon (variables_of shown)

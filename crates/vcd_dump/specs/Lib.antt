@@ -3,6 +3,7 @@ pub use Rattle.bench_text.specs.Text
 pub use Rattle.logic3.specs.Wave
 pub use Rattle.design.specs.Circuit
 pub mod Bytes
+pub mod Codes
 pub mod Dump
 pub mod Pending
 pub mod Traces

@@ -1,12 +1,11 @@
 -- The shown nets of a circuit, with their names and waveforms.
 use Rattle.std.specs.Prelude.{ℕ, ◌≤◌, List, [], ◌∷◌, map, slice_get, All}
 use Rattle.std.specs.Option.{option_map_or}
-use Rattle.logic3.specs.declared.value.Value.{Value}
 use Rattle.logic3.specs.declared.value.Value.TheVariants.{Unknown}
 use Rattle.logic3.specs.declared.change.Change.{Change}
 use Rattle.logic3.specs.Wave.{Wave, value_at}
 use Rattle.design.specs.Circuit.{Net, Circuit}
-use Rattle.vcd_dump.specs.Dump.{Variable, variables_of}
+use Rattle.vcd_dump.specs.Dump.{Trace, Variable, variables_of}
 
 -- a waveform without changes after a tick
 abbrev pub EndsBy : ℕ → Wave → Type 0
@@ -17,7 +16,7 @@ abbrev pub name_of : Circuit → ℕ → List ℕ
 name_of circuit net = option_map_or (λ (n : Net). n.name) (slice_get circuit net) []
 
 -- the names of shown nets, each with what its waveform shows
-abbrev pub traces : Circuit → List ℕ → List Wave → List (List ℕ × (ℕ → Value))
+abbrev pub traces : Circuit → List ℕ → List Wave → List Trace
 traces circuit (net ∷ shown) (wave ∷ waves) = (name_of circuit net, value_at wave) ∷ traces circuit shown waves
 traces circuit shown waves = []
 

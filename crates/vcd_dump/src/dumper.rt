@@ -1,10 +1,11 @@
-ghost use Rattle.std.specs.Prelude.{◌≡◌, ◌≢◌, ℕ, ◌<◌, ◌≤◌, ◌++◌, length, flat_map, All, AllPairs, OnOk, OnErr};
+ghost use Rattle.std.specs.Prelude.{◌≡◌, ◌≢◌, ℕ, ◌<◌, ◌++◌, length, flat_map, All, AllPairs, OnOk, OnErr};
 ghost use Rattle.std.specs.List.{range_with_len};
 ghost use Rattle.std.specs.Io.KnownBytes.{Appends};
 ghost use Rattle.logic3.specs.declared.value.Value.TheVariants.{Unknown};
 ghost use Rattle.logic3.specs.Wave.{Wave, IsWave};
 ghost use Rattle.vcd_dump.specs.Bytes.{AppendsPrefix};
-ghost use Rattle.vcd_dump.specs.Dump.{code_at, declaration, declarations, change_text, change_line, first_values, time_line_after, lines_at, dump_text};
+ghost use Rattle.vcd_dump.specs.Codes.{code_at};
+ghost use Rattle.vcd_dump.specs.Dump.{declaration, declarations, change_text, change_line, first_values, time_line_after, lines_at, dump_text};
 ghost use Rattle.vcd_dump.specs.Traces.{EndsBy, traces, named, unnamed};
 ghost use Rattle.vcd_dump.specs.Pending.{HoldsPending};
 

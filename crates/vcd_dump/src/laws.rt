@@ -1,11 +1,10 @@
 //! Facts about the definitions alone.
-ghost use Rattle.std.specs.Prelude.{◌≡◌, ◌≢◌, ℕ, ◌<◌, ◌≤◌, ◌^◌, List, ◌∷◌, ◌++◌, length, flat_map, All, AllPairs, Contains, Some, slice_get};
-ghost use Rattle.logic3.specs.declared.value.Value.{Value};
+ghost use Rattle.std.specs.Prelude.{◌≡◌, ◌≢◌, ℕ, ◌<◌, ◌≤◌, ◌^◌, List, ◌∷◌, ◌++◌, length, flat_map, All, Contains};
 ghost use Rattle.bench_text.specs.Text.{lines_of, words_of};
-ghost use Rattle.bench_text.specs.Name.{IsName};
 ghost use Rattle.vcd_dump.specs.declared.unit.TimeUnit.{TimeUnit};
-ghost use Rattle.vcd_dump.specs.Dump.{code_at, dump_keywords, dump_text};
-ghost use Rattle.vcd_dump.specs.Shown.{dump_tokens, shown_value};
+ghost use Rattle.vcd_dump.specs.Codes.{code_at};
+ghost use Rattle.vcd_dump.specs.Dump.{dump_keywords, Trace, dump_text};
+ghost use Rattle.vcd_dump.specs.Shown.{dump_tokens, IsReadable, Shows};
 
 /// The identifier codes of distinct places differ.
 pub fn distinct_codes()
@@ -28,10 +27,6 @@ pub fn tokens_of_lines()
 /// The dump of at most 100,000 distinct proper names shows for each of them its signal, at every
 /// tick up to the horizon.
 pub fn shown()
-    ensures { (unit : TimeUnit) (horizon : ℕ) (shown : List (List ℕ × (ℕ → Value)))
-        (place tick : ℕ) (name : List ℕ) (signal : ℕ → Value) →
-        length shown ≤ 100_000 → All (λ (name, signal). IsName name) shown →
-        AllPairs (λ (earlier, signal) (later, other). earlier ≢ later) shown →
-        slice_get shown place ≡ Some (name, signal) → tick ≤ horizon → horizon < 2 ^ 64 →
-        shown_value (dump_text unit horizon shown) name tick ≡ Some (signal tick) }
+    ensures { (unit : TimeUnit) (horizon : ℕ) (traces : List Trace) → horizon < 2 ^ 64 → IsReadable traces →
+        All (Shows (dump_text unit horizon traces) horizon) traces }
 {}

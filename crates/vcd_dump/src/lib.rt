@@ -2,6 +2,7 @@
 #![tactic(auto)]
 
 mod bytes;
+mod codes;
 mod dumper;
 mod fault;
 pub mod laws;
@@ -12,4 +13,5 @@ mod unit;
 pub use bytes::write_all_bytes;
 pub use dumper::dump;
 pub use fault::DumpFault;
+pub use lines::value_text;
 pub use unit::TimeUnit;

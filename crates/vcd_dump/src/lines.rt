@@ -1,15 +1,12 @@
 ghost use Rattle.std.specs.Prelude.{◌≡◌, ◌++◌, OnOk};
-ghost use Rattle.vcd_dump.specs.Dump.{code_at, unit_text, value_text, heading, time_line, time_line_after, change_text, declaration_text};
+ghost use Rattle.vcd_dump.specs.Codes.{code_at};
+ghost use Rattle.vcd_dump.specs.Dump.{unit_text, value_text, heading, time_line, time_line_after, change_text, declaration_text};
 
+use crate::codes::push_code;
 use crate::unit::TimeUnit;
 use itoa::Buffer;
 use logic3::Value;
 use std::alloc::AllocError;
-
-// The 94 characters of codes begin at '!'.
-const FIRST_CHARACTER: u8 = 33;
-
-const CHARACTERS: usize = 94;
 
 /// The word of a unit.
 pub fn unit_text(unit: TimeUnit) -> &'static [u8]
@@ -25,28 +22,14 @@ pub fn unit_text(unit: TimeUnit) -> &'static [u8]
     }
 }
 
-/// The character of a value.
-fn value_text(value: Value) -> &'static [u8]
+/// How a dump writes a value: `0`, `1`, and `x` for one that isn't known.
+pub fn value_text(value: Value) -> &'static str
     ensures { result.now ≡ value_text value }
 {
     match value {
-        Value::Zero => b"0",
-        Value::One => b"1",
-        Value::Unknown => b"x",
-    }
-}
-
-/// Adds the identifier code of a place.
-fn push_code(line: &mut Vec<u8>, place: usize) -> Result<(), AllocError>
-    ensures { OnOk result (line.new.items ≡ line.old.items ++ code_at place) }
-{
-    let mut rest = place;
-    loop {
-        line.push(FIRST_CHARACTER + (rest % CHARACTERS) as u8)?;
-        if rest < CHARACTERS {
-            return Ok(());
-        }
-        rest = rest / CHARACTERS - 1;
+        Value::Zero => "0",
+        Value::One => "1",
+        Value::Unknown => "x",
     }
 }
 
@@ -65,7 +48,7 @@ pub fn push_time(line: &mut Vec<u8>, tick: u64) -> Result<(), AllocError>
 pub fn push_change(line: &mut Vec<u8>, value: Value, place: usize) -> Result<(), AllocError>
     ensures { OnOk result (line.new.items ≡ line.old.items ++ change_text value (code_at place)) }
 {
-    line.extend_from_slice(value_text(value))?;
+    line.extend_from_slice(value_text(value).as_bytes())?;
     push_code(line, place)?;
     line.push(b'\n')?;
     Ok(())

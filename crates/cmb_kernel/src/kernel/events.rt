@@ -1,10 +1,12 @@
-ghost use Rattle.std.specs.Prelude.{◌≡◌, ◌≢◌, ◌<◌, true, false, None, length, IfOk, IfErr, OnOk, OnErr};
+ghost use Rattle.std.specs.Prelude.{◌≡◌, ◌<◌, true, false, None, length, IfOk, OnOk, OnErr};
 ghost use Rattle.design.specs.Circuit.{IsCircuit, pin_count};
 ghost use Rattle.cmb_channels.specs.Lists.{sent};
 ghost use Rattle.cmb_kernel.specs.declared.event.Event.TheVariants.{Deliver, Advance};
-ghost use Rattle.cmb_kernel.specs.Step.{step, steps, is_useful};
+ghost use Rattle.cmb_kernel.specs.Step.{step, steps};
+ghost use Rattle.cmb_kernel.specs.Useful.{is_useful};
 ghost use Rattle.cmb_kernel.specs.Sound.{Exists, IsSound};
 ghost use Rattle.cmb_kernel.specs.Refusals.{event_fault, list_fault, refusal, answer};
+ghost use Rattle.cmb_kernel.specs.Calls.{IsOutcome};
 
 use crate::event::{Event, MOST_EVENTS};
 use crate::fault::KernelFault;
@@ -20,13 +22,8 @@ impl<'d, F: Fabric> Kernel<'d, F> {
     /// [`KernelFault::Failed`], and [`KernelFault::NoSuchPin`] or [`KernelFault::NoSuchNet`] at
     /// place 0; nothing changed. [`KernelFault::Memory`]; the kernel has failed from then on.
     pub fn apply(&mut self, event: Event) -> Result<bool, KernelFault>
-        ensures answer { result ≢ Err KernelFault.Memory →
-            result ≡ answer (refusal self.old (event_fault self.old.circuit 0 event)) (is_useful self.old.state event) }
-        ensures ok { OnOk result (self.new ≡ record self.old { state = step self.old.state event }) }
-        ensures refused { IfErr result (λ fault. fault ≢ KernelFault.Memory → self.new ≡ self.old) }
-        ensures memory { result ≡ Err KernelFault.Memory →
-            (refusal self.old (event_fault self.old.circuit 0 event) ≡ None) × (self.new.failed ≡ true) }
-        ensures sound { self.new.failed ≡ false → IsSound self.new.circuit self.new.end self.new.state }
+        ensures outcome { IsOutcome self.old self.new (event_fault self.old.circuit 0 event)
+            (step self.old.state event) (is_useful self.old.state event) result }
     {
         self.check_running()?;
         check_event(self.design, 0, event)?;
@@ -39,13 +36,8 @@ impl<'d, F: Fabric> Kernel<'d, F> {
     /// [`KernelFault::Failed`], [`KernelFault::TooManyEvents`], and the fault of the first bad event;
     /// nothing changed. [`KernelFault::Memory`]; the kernel has failed from then on.
     pub fn apply_all(&mut self, events: &[Event]) -> Result<(), KernelFault>
-        ensures answer { result ≢ Err KernelFault.Memory →
-            result ≡ answer (refusal self.old (list_fault self.old.circuit events.now)) tt }
-        ensures ok { OnOk result (self.new ≡ record self.old { state = steps self.old.state events.now }) }
-        ensures refused { IfErr result (λ fault. fault ≢ KernelFault.Memory → self.new ≡ self.old) }
-        ensures memory { result ≡ Err KernelFault.Memory →
-            (refusal self.old (list_fault self.old.circuit events.now) ≡ None) × (self.new.failed ≡ true) }
-        ensures sound { self.new.failed ≡ false → IsSound self.new.circuit self.new.end self.new.state }
+        ensures outcome { IsOutcome self.old self.new (list_fault self.old.circuit events.now)
+            (steps self.old.state events.now) tt result }
     {
         self.check_running()?;
         check_events(self.design, events)?;

@@ -1,12 +1,11 @@
-ghost use Rattle.std.specs.Prelude.{◌≡◌, ◌≢◌, ℕ, ◌+◌, ◌<◌, ◌≤◌, min, true, false, None, length, map, replicate, slice_index_or, [], IfErr, OnOk, OnErr};
+ghost use Rattle.std.specs.Prelude.{◌≡◌, ℕ, ◌+◌, ◌<◌, ◌≤◌, min, true, false, None, length, map, replicate, slice_index_or, [], OnOk, OnErr};
 ghost use Rattle.std.specs.List.{range_with_len};
 ghost use Rattle.design.specs.Circuit.{pin_count};
 ghost use Rattle.design.specs.Equations.{waves_of};
 ghost use Rattle.cmb_kernel.specs.declared.event.Event.TheVariants.{Deliver, Advance};
 ghost use Rattle.cmb_kernel.specs.State.{started, least_frontier, least_delay, most_rounds, IsComplete, waves_in};
 ghost use Rattle.cmb_kernel.specs.Step.{steps, deliveries_from, round_of, rounds, completed_within};
-ghost use Rattle.cmb_kernel.specs.Sound.{IsSound};
-ghost use Rattle.cmb_kernel.specs.Refusals.{refusal, answer};
+ghost use Rattle.cmb_kernel.specs.Calls.{IsOutcome};
 
 use crate::event::Event;
 use crate::fault::KernelFault;
@@ -22,11 +21,7 @@ impl<'d, F: Fabric> Kernel<'d, F> {
     /// [`KernelFault::Failed`]; nothing changed. [`KernelFault::Memory`]; the kernel has failed from
     /// then on.
     pub fn round(&mut self) -> Result<(), KernelFault>
-        ensures answer { result ≢ Err KernelFault.Memory → result ≡ answer (refusal self.old None) tt }
-        ensures ok { OnOk result (self.new ≡ record self.old { state = round_of self.old.state }) }
-        ensures refused { IfErr result (λ fault. fault ≢ KernelFault.Memory → self.new ≡ self.old) }
-        ensures memory { result ≡ Err KernelFault.Memory → (refusal self.old None ≡ None) × (self.new.failed ≡ true) }
-        ensures sound { self.new.failed ≡ false → IsSound self.new.circuit self.new.end self.new.state }
+        ensures outcome { IsOutcome self.old self.new None (round_of self.old.state) tt result }
         // It raises the least frontier by at least the least delay, or to the end.
         ensures raises { OnOk result
             (min self.old.end (least_frontier self.old.end self.old.state + least_delay self.old.end self.old.circuit)
@@ -48,18 +43,13 @@ impl<'d, F: Fabric> Kernel<'d, F> {
     /// [`KernelFault::Failed`]; nothing changed. [`KernelFault::Memory`]; the kernel has failed from
     /// then on.
     pub fn complete(&mut self) -> Result<(), KernelFault>
-        ensures answer { result ≢ Err KernelFault.Memory → result ≡ answer (refusal self.old None) tt }
-        ensures ok { OnOk result (self.new ≡ record self.old {
-          state = completed_within (most_rounds self.old.end self.old.circuit) self.old.state;
-        }) }
+        ensures outcome { IsOutcome self.old self.new None
+            (completed_within (most_rounds self.old.end self.old.circuit) self.old.state) tt result }
         ensures complete { OnOk result (IsComplete self.new.state) }
         ensures waves { OnOk result (waves_in self.new.state ≡ waves_of self.new.circuit self.new.end) }
         // Rounds that complete a fresh kernel are enough here.
         ensures fresh { OnOk result ((count : ℕ) → IsComplete (rounds count (started self.old.circuit self.old.end)) →
             self.new.state ≡ completed_within count self.old.state) }
-        ensures refused { IfErr result (λ fault. fault ≢ KernelFault.Memory → self.new ≡ self.old) }
-        ensures memory { result ≡ Err KernelFault.Memory → (refusal self.old None ≡ None) × (self.new.failed ≡ true) }
-        ensures sound { self.new.failed ≡ false → IsSound self.new.circuit self.new.end self.new.state }
     {
         self.check_running()?;
         while !self.is_complete() {

@@ -1,13 +1,14 @@
 use Rattle.std.proofs.Common.{◌≡◌, nat_lt, rules, arith}
 use Rattle.std.proofs.lemmas.List.Sorted.{IsPartitionPoint-from_clause, IsPartitionedBy-ltb}
 use Rattle.bench_text.specs.Pick.{place_in}
-use Rattle.bench_text.proofs.Rising.{Rises-ascends, place_in-le, place_in-partition}
+use Rattle.logic3.proofs.CallerLemmas.{RisesBy-ascends}
+use Rattle.bench_text.proofs.Rising.{place_in-le, place_in-partition}
 use Rattle.bench_text.proofs.pick.place_in.Goals as goal
 use Rattle.bench_text.proofs.pick.place_in.Goals.{After-partition_point}
 
 found : (c : After-partition_point) → c.partition_point.result ≡ place_in c.args.keep.now c.args.number
 found c =
-    let parted = IsPartitionedBy-ltb (λ kept. kept) _ c.args.number (Rises-ascends _ c.requires.rising) in
+    let parted = IsPartitionedBy-ltb (λ kept. kept) _ c.args.number (RisesBy-ascends (λ kept. kept) _ c.requires.rising) in
     let point = IsPartitionPoint-from_clause (λ kept. nat_lt kept c.args.number) _ _ c.partition_point.ensures.partitioned parted (λ a r q k. search rules) in
     place_in-partition _ c.requires.rising c.args.number c.requires.kept c.partition_point.result c.partition_point.ensures.bound point
 

@@ -1,9 +1,9 @@
 use Rattle.std.proofs.Common.{◌≡◌}
-use Rattle.bench_text.specs.Netlist.{statements_of}
+use Rattle.bench_text.specs.Fold.{fold_lines, one_a_line}
+use Rattle.bench_text.specs.Netlist.{numbered_statement, statements_of}
 use Rattle.bench_text.specs.Stages.{seen_lines}
-use Rattle.bench_text.proofs.LinesLeft.{said_from}
 use Rattle.bench_text.proofs.reader.statements.Given as goal
 
--- what the lines so far say and what those left say is all
+-- the lines left, after what those so far say, say all
 abbrev pub invariant-loop-line : goal.invariant-loop-line
-invariant-loop-line l = said_from (seen_lines l.lines.items) l.line-iterator ≡ statements_of l.text
+invariant-loop-line l = fold_lines (one_a_line numbered_statement) (seen_lines l.lines.items) l.line-iterator ≡ statements_of l.text

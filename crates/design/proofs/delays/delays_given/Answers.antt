@@ -13,10 +13,10 @@ loop-line-init c =
 pub returns-then-is_some : goal.returns-then-is_some
 returns-then-is_some c = λ _.
     let netlist = c.args.netlist.now in
-    let twice = Given-twice c.loop-line.invariant c.in-Some.ensures.steps c.in_ok-delay.ensures.net (c.in_ok-delay.ensures.delay (λ same. cc)) c.index.ensures (sym c.if-is_some.ensures) in
+    let twice = Given-twice c.loop-line.invariant c.in-Some.ensures.steps c.in_ok-delay.ensures.net c.in_ok-delay.ensures.delay c.index.ensures (sym c.if-is_some.ensures) in
     ap (result_map_both (net_ticks netlist) (λ fault. fault)) (sym (delays_of-lines netlist c.args.text.now c.if-text-gt-LONGEST_TEXT.false ∙ twice))
 
 pub loop-line-preserved : goal.loop-line-preserved
 loop-line-preserved c =
     Given-more c.nets.ensures.well_formed.distinct c.loop-line.invariant c.in-Some.ensures.steps c.in_ok-delay.ensures.net
-    (c.in_ok-delay.ensures.delay (λ same. cc)) c.index.ensures (sym c.if-is_some.ensures)
+    c.in_ok-delay.ensures.delay c.index.ensures (sym c.if-is_some.ensures)

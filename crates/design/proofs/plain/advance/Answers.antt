@@ -1,7 +1,7 @@
 use Rattle.std.proofs.Common.{◌<◌, length, get_or, ap, sym, ◌∙◌, subst, arith, All, slice_get}
 use Rattle.logic3.specs.declared.change.Change.{Change}
 use Rattle.logic3.specs.Wave.{Wave}
-use Rattle.logic3.proofs.Waves.{All-wave_of}
+use Rattle.logic3.proofs.CallerLemmas.{All-wave_of}
 use Rattle.design.specs.Equations.{equation_at, value_of, signals_in}
 use Rattle.design.proofs.WellFormed.{IsCircuit-from_IsDesign}
 use Rattle.design.proofs.Ticks.{length-ahead_at, get_or-ahead_at, set-ahead_at, ahead_at-all, equation-ahead_at, carried}

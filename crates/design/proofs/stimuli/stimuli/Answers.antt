@@ -23,7 +23,7 @@ returns-then-not-is_after c = λ _.
     let given = c.in_ok-given in
     let held = Given-had (λ changes. changes.items) c.loop-line.stimuli.items c.loop-line.invariant given.ensures.net c.index_mut-changes.ensures.value in
     let early = ap (is_after_last given.given.change.tick) (sym c.deref.ensures.value) ∙ sym c.is_after.ensures ∙ c.if-not-is_after.true in
-    let stops = Given-stops c.loop-line.invariant c.in-Some.ensures.steps given.ensures.net (given.ensures.change (λ same. cc)) held early in
+    let stops = Given-stops c.loop-line.invariant c.in-Some.ensures.steps given.ensures.net given.ensures.change held early in
     ap (result_map_both (net_stimuli netlist) (λ fault. fault)) (sym (stimuli_of-lines netlist c.args.text.now c.if-text-gt-LONGEST_TEXT.false ∙ stops))
 
 pub loop-line-preserved : goal.loop-line-preserved
@@ -32,4 +32,4 @@ loop-line-preserved c =
     let held = Given-had (λ changes. changes.items) c.loop-line.stimuli.items c.loop-line.invariant given.ensures.net c.index_mut-changes.ensures.value in
     let later = ap (is_after_last given.given.change.tick) (sym c.deref.ensures.value) ∙ sym c.is_after.ensures ∙ c.if-not-is_after.false in
     rw (map-set, c.in_ok-push.ensures.items)
-    (Given-more c.nets.ensures.well_formed.distinct c.loop-line.invariant c.in-Some.ensures.steps given.ensures.net (given.ensures.change (λ same. cc)) held later)
+    (Given-more c.nets.ensures.well_formed.distinct c.loop-line.invariant c.in-Some.ensures.steps given.ensures.net given.ensures.change held later)

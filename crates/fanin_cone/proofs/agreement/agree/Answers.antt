@@ -2,9 +2,10 @@ use Rattle.std.proofs.Common.{◌≡◌, ℕ, List, ◌∷◌, [], get_or, refl,
 use Rattle.std.specs.Option.{is_some}
 use Rattle.std.proofs.lemmas.List.{take_all}
 use Rattle.std.proofs.lemmas.List.Elements.{All-more, Contains-get_or}
-use Rattle.design.proofs.Stored.{length-circuit}
+use Rattle.design.proofs.CallerLemmas.{length-circuit}
 use Rattle.bench_text.specs.Netlist.{NetlistView}
-use Rattle.fanin_cone.specs.Cone.{name_at, IsConeOf}
+use Rattle.bench_text.specs.Canonical.{name_at}
+use Rattle.fanin_cone.specs.Cone.{IsConeOf}
 use Rattle.fanin_cone.specs.Agreement.{AgreesAt}
 use Rattle.fanin_cone.proofs.Agreeing.{AgreesOn-all, AgreesAt-of}
 use Rattle.fanin_cone.proofs.NetOf.{net_of-none, net_of-some}

@@ -1,6 +1,5 @@
 use Rattle.std.proofs.Common.{arith, sym, true≢false}
-use Rattle.design.proofs.Named.{net_at-named}
-use Rattle.design.proofs.Stored.{length-circuit}
+use Rattle.design.proofs.CallerLemmas.{net_at-named, length-circuit}
 use Rattle.fanin_cone.proofs.Agreeing.{AgreesAt-found, AgreesAt-none}
 use Rattle.fanin_cone.proofs.agreement.agrees_at.Goals as goal
 

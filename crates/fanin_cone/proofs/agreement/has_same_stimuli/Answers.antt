@@ -2,7 +2,7 @@ use Rattle.std.proofs.Common.{◌≡◌, rules}
 use Rattle.std.specs.Cmp.Lexicographic.{pointwise}
 use Rattle.std.proofs.lemmas.Slice.Eq.{slice_eq-Decides}
 use Rattle.logic3.specs.Wave.{is_same_change}
-use Rattle.logic3.proofs.Equal.{is_same_change-Decides}
+use Rattle.logic3.proofs.CallerLemmas.{is_same_change-Decides}
 use Rattle.fanin_cone.proofs.agreement.has_same_stimuli.Goals as goal
 
 pub returns : goal.returns

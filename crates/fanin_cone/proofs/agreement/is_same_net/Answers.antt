@@ -1,4 +1,4 @@
-use Rattle.design.proofs.WellFormed.{pins_below}
+use Rattle.design.proofs.CallerLemmas.{pins_below}
 use Rattle.fanin_cone.proofs.Stimuli.{rising_stimuli}
 use Rattle.fanin_cone.proofs.agreement.is_same_net.Goals as goal
 

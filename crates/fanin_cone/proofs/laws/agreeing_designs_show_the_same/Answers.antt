@@ -1,11 +1,13 @@
-use Rattle.std.proofs.Common.{IsTrue}
-use Rattle.fanin_cone.specs.Cone.{InCone}
+use Rattle.fanin_cone.specs.Cone.{Passes, InCone}
 use Rattle.fanin_cone.proofs.Agreed.{value_agrees}
 use Rattle.fanin_cone.proofs.Least.{cone_closed}
 use Rattle.fanin_cone.proofs.laws.agreeing_designs_show_the_same.Goals as goal
 
 pub returns-clause-closed : goal.returns-clause-closed
-returns-clause-closed c a b K horizon ok_a ok_b closed agree = value_agrees a b ok_a ok_b (λ name. IsTrue (K name)) horizon closed agree
+returns-clause-closed c a b K horizon closed designs name in_set m n tick =
+    value_agrees a b designs.first designs.second (Passes K) horizon closed designs.agree name m n tick in_set
 
 pub returns-clause-cone : goal.returns-clause-cone
-returns-clause-cone c a b names horizon ok_a ok_b agree = value_agrees a b ok_a ok_b (InCone a.netlist names) horizon (cone_closed a.netlist names) agree
+returns-clause-cone c a b names horizon designs name in_cone m n tick =
+    let closed = cone_closed a.netlist names in
+    value_agrees a b designs.first designs.second (InCone a.netlist names) horizon closed designs.agree name m n tick in_cone

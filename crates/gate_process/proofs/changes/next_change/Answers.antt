@@ -2,7 +2,7 @@ use Rattle.std.proofs.Common.{◌≡◌, leb, rules, true, false, ap, arith, leb
 use Rattle.std.specs.List.Sorted.{IsPartitionPoint}
 use Rattle.std.proofs.lemmas.List.Sorted.{IsPartitionPoint-from_clause, IsPartitionedBy-leb}
 use Rattle.logic3.specs.declared.change.Change.{Change}
-use Rattle.logic3.proofs.Rising.{rising-ascends}
+use Rattle.logic3.proofs.CallerLemmas.{RisesBy-ascends}
 use Rattle.gate_process.proofs.Steady.{value_after-next}
 use Rattle.gate_process.proofs.changes.next_change.Goals as goal
 use Rattle.gate_process.proofs.changes.next_change.Goals.{After-partition_point-due}
@@ -11,7 +11,7 @@ point : (c : After-partition_point-due) →
     IsPartitionPoint (λ (change : Change). leb change.tick c.args.tick ≡ true) (λ (change : Change). leb change.tick c.args.tick ≡ false)
     c.args.changes.now c.partition_point-due.result
 point c =
-    let parted = IsPartitionedBy-leb (λ (change : Change). change.tick) c.args.changes.now c.args.tick (rising-ascends c.args.changes.now c.requires) in
+    let parted = IsPartitionedBy-leb (λ (change : Change). change.tick) c.args.changes.now c.args.tick (RisesBy-ascends (λ (change : Change). change.tick) c.args.changes.now c.requires) in
     IsPartitionPoint-from_clause (λ (change : Change). leb change.tick c.args.tick) c.args.changes.now c.partition_point-due.result
     c.partition_point-due.ensures.partitioned parted (λ a r q k. search rules)
 

@@ -1,5 +1,6 @@
 use Rattle.std.proofs.Common.{◌≡◌, ℕ, ◌<◌, ◌≤◌, take}
-use Rattle.gate_process.specs.Step.{signals_of, values_at}
+use Rattle.design.specs.Equations.{values_at}
+use Rattle.gate_process.specs.Step.{signals_of}
 use Rattle.gate_process.proofs.equation.next_pin_change.Given as goal
 
 abbrev pub invariant-loop-pin : goal.invariant-loop-pin

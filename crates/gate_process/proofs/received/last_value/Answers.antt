@@ -1,5 +1,5 @@
 use Rattle.std.proofs.Common.{rules}
-use Rattle.logic3.proofs.Rising.{value_in_the_end-last}
+use Rattle.logic3.proofs.CallerLemmas.{value_in_the_end-last}
 use Rattle.gate_process.proofs.received.last_value.Goals as goal
 
 pub returns : goal.returns

@@ -1,5 +1,5 @@
 use Rattle.std.proofs.Common.{◌∙◌}
-use Rattle.nullsim.proofs.Orders.{Explains-broken}
+use Rattle.nullsim.proofs.CommandEnds.{Explains-broken}
 use Rattle.nullsim.proofs.commander.explain.Goals as goal
 
 pub returns-in-Help : goal.returns-in-Help

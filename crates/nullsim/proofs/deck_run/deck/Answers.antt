@@ -1,15 +1,15 @@
 use Rattle.std.proofs.Common.{sym}
 use Rattle.std.proofs.lemmas.Result.{err_from_is_err_and}
 use Rattle.nullsim.specs.DeckRun.{source_of_deck, view_of_deck}
-use Rattle.nullsim.specs.Seen.{seen_sections}
-use Rattle.nullsim.specs.Simulated.{simulated}
-use Rattle.nullsim.proofs.Decks.{simulated_deck-sections, dump_of_deck-bad_text, DeckEndsBy-bad_text, DeckEndsBy-Sim, IsOkAnd-Sim}
+use Rattle.deck_text.specs.Seen.{seen_sections}
+use Rattle.runs.specs.Simulated.{simulated}
+use Rattle.nullsim.proofs.Decks.{simulated_deck-sections, DeckEndsBy-Sim, DeckEndsBy-bad_text, IsOkAnd-Sim}
 use Rattle.nullsim.proofs.deck_run.deck.Goals as goal
 
 pub returns-in_err-sections-clause-err : goal.returns-in_err-sections-clause-err
 returns-in_err-sections-clause-err g c =
     let p = err_from_is_err_and c.from_residual.result c.from_residual.ensures.1 in
-    rw (p.1, p.2) (DeckEndsBy-bad_text _ _ _ (dump_of_deck-bad_text c.args.text.now _ (sym c.in_err-sections.ensures)))
+    rw (p.1, p.2) (DeckEndsBy-bad_text c.args.text.now _ _ (sym c.in_err-sections.ensures))
 
 pub returns-in_err-simulate-clause-err : goal.returns-in_err-simulate-clause-err
 returns-in_err-simulate-clause-err g c =

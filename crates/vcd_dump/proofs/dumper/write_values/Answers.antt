@@ -4,7 +4,8 @@ use Rattle.std.proofs.lemmas.Option.{slice_get_read}
 use Rattle.logic3.specs.declared.value.Value.{Value}
 use Rattle.logic3.specs.Wave.{Wave, value_at}
 use Rattle.vcd_dump.specs.Bytes.{AppendsPrefix}
-use Rattle.vcd_dump.specs.Dump.{code_at, change_text, change_line}
+use Rattle.vcd_dump.specs.Codes.{code_at}
+use Rattle.vcd_dump.specs.Dump.{change_text, change_line}
 use Rattle.vcd_dump.proofs.BytesLemmas.{AppendsPrefix-between, AppendsPrefix-next, Appends-next, OnErr-always, emptied}
 use Rattle.vcd_dump.proofs.Between.{between}
 use Rattle.vcd_dump.proofs.Variables.{flat_map-variables_of, unnamed_at, change_line-unnamed_at}

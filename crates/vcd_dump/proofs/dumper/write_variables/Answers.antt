@@ -3,7 +3,8 @@ use Rattle.std.specs.Io.KnownBytes.{Appends}
 use Rattle.std.proofs.lemmas.Option.{slice_get-get_or}
 use Rattle.design.specs.Circuit.{Circuit, Net}
 use Rattle.vcd_dump.specs.Bytes.{AppendsPrefix}
-use Rattle.vcd_dump.specs.Dump.{code_at, declaration, declaration_text}
+use Rattle.vcd_dump.specs.Codes.{code_at}
+use Rattle.vcd_dump.specs.Dump.{declaration, declaration_text}
 use Rattle.vcd_dump.proofs.BytesLemmas.{AppendsPrefix-between, AppendsPrefix-next, Appends-next, OnErr-always, emptied}
 use Rattle.vcd_dump.proofs.Between.{between}
 use Rattle.vcd_dump.proofs.Variables.{flat_map-variables_of, named_at, declaration-named_at}

@@ -1,6 +1,6 @@
 use Rattle.std.proofs.Common.{arith}
-use Rattle.vcd_dump.specs.Dump.{code_at}
-use Rattle.vcd_dump.proofs.ShownCodes.{length-code_at, keyword_is_long}
+use Rattle.vcd_dump.specs.Codes.{code_at}
+use Rattle.vcd_dump.proofs.CodeLemmas.{length-code_at, keyword_is_long}
 use Rattle.vcd_dump.proofs.laws.codes_are_no_keywords.Goals as goal
 
 pub returns-clause-short : goal.returns-clause-short

@@ -1,4 +1,4 @@
-use Rattle.vcd_dump.proofs.ShownCodes.{code_at-same}
+use Rattle.vcd_dump.proofs.CodeLemmas.{code_at-same}
 use Rattle.vcd_dump.proofs.laws.distinct_codes.Goals as goal
 
 pub returns : goal.returns

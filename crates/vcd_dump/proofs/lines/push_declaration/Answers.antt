@@ -1,5 +1,5 @@
 use Rattle.std.proofs.Common.{◌≡◌, ℕ, List, ◌++◌, codes, append_assoc}
-use Rattle.vcd_dump.specs.Dump.{code_at}
+use Rattle.vcd_dump.specs.Codes.{code_at}
 use Rattle.vcd_dump.proofs.lines.push_declaration.Goals as goal
 
 -- five pieces that were added one by one

@@ -1,7 +1,7 @@
 use Rattle.std.proofs.Common.{◌≡◌, length, ap, sym, ◌∙◌}
 use Rattle.std.proofs.lemmas.List.{length-map, length-replicate}
 use Rattle.design.specs.Pins.{sources_of}
-use Rattle.design.proofs.Numbers.{length-sources}
+use Rattle.design.proofs.CallerLemmas.{length-sources}
 use Rattle.cmb_channels.specs.Channels.{all_fed, pins_in}
 use Rattle.cmb_channels.proofs.FedPins.{length-all_fed}
 use Rattle.cmb_channels.proofs.queues.QueuesFabric.empty_for.Goals as goal

@@ -1,7 +1,7 @@
 use Rattle.std.proofs.Common.{[], length, replicate, ap, sym, ◌∙◌, arith}
 use Rattle.std.proofs.lemmas.List.{take_all}
 use Rattle.design.specs.Pins.{sources_of}
-use Rattle.design.proofs.Numbers.{length-sources}
+use Rattle.design.proofs.CallerLemmas.{length-sources}
 use Rattle.cmb_channels.specs.Channels.{all_fed}
 use Rattle.cmb_channels.proofs.FedPins.{all_fed-first, stored_more}
 use Rattle.cmb_channels.proofs.queues.building.fed_pins.Goals as goal

@@ -1,7 +1,7 @@
 use Rattle.std.proofs.Common.{◌++◌, [], ◌∷◌, ap, sym, ◌∙◌, arith}
 use Rattle.std.proofs.lemmas.List.{take_all}
 use Rattle.design.specs.Pins.{sources_of}
-use Rattle.design.proofs.Numbers.{length-sources}
+use Rattle.design.proofs.CallerLemmas.{length-sources}
 use Rattle.cmb_channels.proofs.FedPins.{take-source}
 use Rattle.cmb_channels.proofs.queues.building.pin_sources.Goals as goal
 

@@ -1,7 +1,7 @@
-use Rattle.std.proofs.Common.{get_or, ap, sym, subst, ◌∙◌, arith}
+use Rattle.std.proofs.Common.{get_or, ap, sym, subst, ◌∙◌, arith, rules}
 use Rattle.std.proofs.lemmas.List.Elements.{All-get_or}
 use Rattle.std.proofs.lemmas.Result.{err_from_is_err_and}
-use Rattle.cmb_kernel.specs.State.{Run}
+use Rattle.cmb_kernel.specs.State.{KernelView}
 use Rattle.cmb_kernel.specs.Step.{step}
 use Rattle.cmb_kernel.specs.Sound.{Exists}
 use Rattle.cmb_kernel.specs.declared.event.Event.TheVariants.{Deliver}
@@ -9,15 +9,23 @@ use Rattle.cmb_kernel.proofs.Moved.{moved_on, steps_more}
 use Rattle.cmb_kernel.proofs.Refused.{never_memory, all_exist}
 use Rattle.cmb_kernel.proofs.kernel.Kernel.apply_all.Goals as goal
 
-pub returns-in_err-check_events-clause-memory : goal.returns-in_err-check_events-clause-memory
-returns-in_err-check_events-clause-memory g c =
+pub returns-in_err-check_events : goal.returns-in_err-check_events
+returns-in_err-check_events g c =
     let lifted = err_from_is_err_and c.from_residual-in_err-check_events.result c.from_residual-in_err-check_events.ensures.1 in
     let other = never_memory c.self.inside.design.now.circuit c.args.events.now c.in_err-check_events.field-0.0 c.in_err-check_events.ensures in
-    λ e. absurd (other (let a = lifted.1 in let b = lifted.2 in cc))
+    record {
+      outcome = record {
+        answer = search rules;
+        ok = search rules;
+        refused = search rules;
+        memory = λ e. absurd (other (let a = lifted.1 in let b = lifted.2 in cc));
+        sound = search rules;
+      };
+    }
 
 pub step-requires-clause-exists : goal.step-requires-clause-exists
 step-requires-clause-exists g c =
-    let same = ap (λ (r : Run). r.circuit) c.self.view_is ∙ ap (λ (r : Run). r.circuit) (sym c.loop-event.invariant.run) in
+    let same = ap (λ (r : KernelView). r.circuit) c.self.view_is ∙ ap (λ (r : KernelView). r.circuit) (sym c.loop-event.invariant.run) in
     subst (λ circuit. Exists circuit (get_or c.args.events.now c.loop-event.event-index (Deliver 0))) same
     (All-get_or (Exists c.self.inside.design.now.circuit) c.args.events.now c.loop-event.event-index (Deliver 0) (omega arith)
     (all_exist c.self.inside.design.now.circuit c.args.events.now c.in_ok-check_events.field-0 c.in_ok-check_events.ensures))

@@ -1,4 +1,4 @@
-use Rattle.std.proofs.Common.{sym, ◌∙◌}
+use Rattle.std.proofs.Common.{sym, ◌∙◌, rules}
 use Rattle.std.proofs.lemmas.Bool.{OnTrue_at}
 use Rattle.cmb_kernel.proofs.Ahead.{never_costs}
 use Rattle.cmb_kernel.proofs.Completion.{led}
@@ -7,18 +7,23 @@ use Rattle.cmb_kernel.proofs.kernel.Kernel.complete.Goals as goal
 
 pub loop-self-smaller : goal.loop-self-smaller
 loop-self-smaller g c =
-    less_left c.args.self.now c.loop-self.self c.in_ok-check_running.ensures.circuit c.loop-self.invariant c.round.new.self c.in_ok-round.ensures.ok
+    less_left c.args.self.now c.loop-self.self c.in_ok-check_running.ensures.circuit c.loop-self.invariant c.round.new.self c.in_ok-round.ensures.outcome.ok
     (sym c.is_complete.ensures.complete ∙ c.loop-self-test.true)
 
 pub loop-self-preserved : goal.loop-self-preserved
 loop-self-preserved g c =
-    one_more_round c.args.self.now c.loop-self.self c.in_ok-check_running.ensures.circuit c.loop-self.invariant c.round.new.self c.in_ok-round.ensures.ok
+    one_more_round c.args.self.now c.loop-self.self c.in_ok-check_running.ensures.circuit c.loop-self.invariant c.round.new.self c.in_ok-round.ensures.outcome.ok
     (sym c.is_complete.ensures.complete ∙ c.loop-self-test.true)
 
-pub returns-clause-ok : goal.returns-clause-ok
-returns-clause-ok g c =
-    completed c.args.self.now c.loop-self.self c.in_ok-check_running.ensures.circuit c.loop-self.invariant c.in_ok-check_running.ensures.sound
-    (sym c.is_complete.ensures.complete ∙ c.loop-self-test.false)
+pub returns-clause-outcome : goal.returns-clause-outcome
+returns-clause-outcome g c = record {
+  answer = search rules;
+  ok = completed c.args.self.now c.loop-self.self c.in_ok-check_running.ensures.circuit c.loop-self.invariant c.in_ok-check_running.ensures.sound
+      (sym c.is_complete.ensures.complete ∙ c.loop-self-test.false);
+  refused = search rules;
+  memory = search rules;
+  sound = search rules;
+}
 
 pub returns-clause-waves : goal.returns-clause-waves
 returns-clause-waves g c = OnTrue_at c.loop-self-test.false c.is_complete.ensures.waves

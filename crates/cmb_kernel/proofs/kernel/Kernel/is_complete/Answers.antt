@@ -1,6 +1,6 @@
 use Rattle.std.proofs.Common.{◌==◌, eqb-true, ap, subst, ◌∙◌, arith}
 use Rattle.std.proofs.lemmas.Bool.{OnTrue_from}
-use Rattle.cmb_kernel.specs.State.{Run, least_frontier}
+use Rattle.cmb_kernel.specs.State.{KernelView, least_frontier}
 use Rattle.cmb_kernel.specs.Sound.{IsSound}
 use Rattle.cmb_kernel.proofs.Running.{waves_are}
 use Rattle.cmb_kernel.proofs.Completion.{complete_from_least, least_tells}
@@ -10,9 +10,9 @@ pub returns-clause-complete : goal.returns-clause-complete
 returns-clause-complete g c =
     let all = c.self.invariant (rw (← c.self.view_is) at c.requires) in
     ap (λ n. n == c.self.inside.end) c.least_frontier.ensures
-    ∙ ap (λ n. least_frontier c.args.self.now.end c.args.self.now.state == n) (ap (λ (r : Run). r.end) c.self.view_is)
+    ∙ ap (λ n. least_frontier c.args.self.now.end c.args.self.now.state == n) (ap (λ (r : KernelView). r.end) c.self.view_is)
     ∙ least_tells c.args.self.now.circuit c.args.self.now.end c.args.self.now.state
-    (subst (λ (run : Run). IsSound run.circuit run.end run.state) c.self.view_is all.sound)
+    (subst (λ (kernel : KernelView). IsSound kernel.circuit kernel.end kernel.state) c.self.view_is all.sound)
 
 pub returns-clause-waves : goal.returns-clause-waves
 returns-clause-waves g c =

@@ -1,11 +1,11 @@
-use Rattle.std.proofs.Common.{◌≡◌, ◌+◌, ◌≤◌, min, map, length, ap, sym, subst, ◌∙◌}
+use Rattle.std.proofs.Common.{◌≡◌, ◌+◌, ◌≤◌, min, map, length, ap, sym, subst, ◌∙◌, rules}
 use Rattle.std.specs.List.{range_with_len}
 use Rattle.cmb_kernel.specs.declared.event.Event.TheVariants.{Advance}
-use Rattle.cmb_kernel.specs.State.{State, Run, least_frontier, least_delay}
+use Rattle.cmb_kernel.specs.State.{State, KernelView, least_frontier, least_delay}
 use Rattle.cmb_kernel.specs.Step.{steps, round_events, with_round}
 use Rattle.cmb_kernel.proofs.Running.{with_rounds}
 use Rattle.cmb_kernel.proofs.Moved.{moved_on, round_steps}
-use Rattle.cmb_kernel.proofs.Progress.{round_raises}
+use Rattle.cmb_kernel.proofs.LeastFrontier.{round_raises}
 use Rattle.cmb_kernel.proofs.kernel.Kernel.round.Given.{Over}
 use Rattle.cmb_kernel.proofs.kernel.Kernel.round.Goals as goal
 use Rattle.cmb_kernel.proofs.kernel.Kernel.round.Goals.{In_ok-advance_all}
@@ -20,18 +20,21 @@ stepped g c =
 pub invariant_of-self : goal.invariant_of-self
 invariant_of-self g c = λ runs. with_rounds c.saturating_add-self-inside.result (c.self.invariant runs)
 
-pub returns-clause-ok : goal.returns-clause-ok
-returns-clause-ok g c =
-    let came = c.self.view_is ∙ stepped g (goal.at.returns-clause-ok g c).In_ok-advance_all in
-    rw c.saturating_add-self-inside.ensures (ap (λ (r : Run). record r { state = with_round r.state }) came)
-
-pub returns-clause-sound : goal.returns-clause-sound
-returns-clause-sound g c = λ runs. (with_rounds c.saturating_add-self-inside.result (c.self.invariant runs)).sound
+pub returns-clause-outcome : goal.returns-clause-outcome
+returns-clause-outcome g c =
+    let came = c.self.view_is ∙ stepped g (goal.at.returns-clause-outcome g c).In_ok-advance_all in
+    record {
+      answer = search rules;
+      ok = rw c.saturating_add-self-inside.ensures (ap (λ (r : KernelView). record r { state = with_round r.state }) came);
+      refused = search rules;
+      memory = search rules;
+      sound = λ runs. (with_rounds c.saturating_add-self-inside.result (c.self.invariant runs)).sound;
+    }
 
 pub returns-clause-raises : goal.returns-clause-raises
 returns-clause-raises g c =
     let came = c.self.view_is ∙ stepped g (goal.at.returns-clause-raises g c).In_ok-advance_all in
-    subst (λ (r : Run). min c.args.self.now.end (least_frontier c.args.self.now.end c.args.self.now.state
+    subst (λ (r : KernelView). min c.args.self.now.end (least_frontier c.args.self.now.end c.args.self.now.state
     + least_delay c.args.self.now.end c.args.self.now.circuit) ≤ least_frontier r.end r.state) (sym came)
     (round_raises c.args.self.now.circuit c.in_ok-check_running.ensures.circuit c.args.self.now.end c.args.self.now.state
     c.in_ok-check_running.ensures.sound)

@@ -1,12 +1,12 @@
 use Rattle.std.proofs.Common.{◌≢◌, map, sym, ap, subst, ◌∙◌, refl, arith}
 use Rattle.design.specs.Circuit.{IsCircuit}
 use Rattle.gate_process.specs.Step.{ProcessState}
-use Rattle.gate_process.proofs.Frontiers.{least-bound}
-use Rattle.cmb_kernel.specs.State.{Run, least_frontier, IsComplete}
+use Rattle.gate_process.proofs.CallerLemmas.{least-bound}
+use Rattle.cmb_kernel.specs.State.{KernelView, least_frontier, IsComplete}
 use Rattle.cmb_kernel.specs.Sound.{IsSound}
 use Rattle.cmb_kernel.proofs.Running.{circuit_ok}
 use Rattle.cmb_kernel.proofs.Completion.{complete_from_least, least_when_complete}
-use Rattle.cmb_kernel.proofs.Useful.{waiting_useful, slowest_useful}
+use Rattle.cmb_kernel.proofs.UsefulEvents.{waiting_useful, slowest_useful}
 use Rattle.cmb_kernel.proofs.kernel.Kernel.useful.Given.{Over}
 use Rattle.cmb_kernel.proofs.kernel.Kernel.useful.Goals as goal
 use Rattle.cmb_kernel.proofs.kernel.Kernel.useful.Goals.{After-frontier, After-waiting_pin}
@@ -14,28 +14,28 @@ use Rattle.cmb_kernel.proofs.kernel.Kernel.useful.Goals.{After-frontier, After-w
 pub returns-then-frontier-self-clause-none : goal.returns-then-frontier-self-clause-none
 returns-then-frontier-self-clause-none g c =
     let all = c.self.invariant (rw (← c.self.view_is) at c.requires) in
-    let end = ap (λ (r : Run). r.end) c.self.view_is in
+    let end = ap (λ (r : KernelView). r.end) c.self.view_is in
     let least = c.slowest-net.ensures.least in (
       (λ _.
           complete_from_least c.args.self.now.circuit c.args.self.now.end c.args.self.now.state
-          (subst (λ (run : Run). IsSound run.circuit run.end run.state) c.self.view_is all.sound) (omega (arith, end, least))),
+          (subst (λ (kernel : KernelView). IsSound kernel.circuit kernel.end kernel.state) c.self.view_is all.sound) (omega (arith, end, least))),
       (λ _. refl),
     )
 
 ok : (g : Over) (c : After-waiting_pin g) → IsCircuit c.args.self.now.circuit
 ok g c =
     let all = c.self.invariant (rw (← c.self.view_is) at c.requires) in
-    subst IsCircuit (ap (λ (r : Run). r.circuit) c.self.view_is) (circuit_ok all)
+    subst IsCircuit (ap (λ (r : KernelView). r.circuit) c.self.view_is) (circuit_ok all)
 
 sound : (g : Over) (c : After-waiting_pin g) → IsSound c.args.self.now.circuit c.args.self.now.end c.args.self.now.state
 sound g c =
     let all = c.self.invariant (rw (← c.self.view_is) at c.requires) in
-    subst (λ (run : Run). IsSound run.circuit run.end run.state) c.self.view_is all.sound
+    subst (λ (kernel : KernelView). IsSound kernel.circuit kernel.end kernel.state) c.self.view_is all.sound
 
 -- the least frontier isn't the end
 goes_on : (g : Over) (c : After-waiting_pin g) → least_frontier c.args.self.now.end c.args.self.now.state ≢ c.args.self.now.end
 goes_on g c e =
-    c.if-frontier-self.false (c.frontier.ensures.frontier ∙ c.slowest-net.ensures.least ∙ e ∙ sym (ap (λ (r : Run). r.end) c.self.view_is))
+    c.if-frontier-self.false (c.frontier.ensures.frontier ∙ c.slowest-net.ensures.least ∙ e ∙ sym (ap (λ (r : KernelView). r.end) c.self.view_is))
 
 incomplete : (g : Over) (c : After-waiting_pin g) → IsComplete c.args.self.now.state → ⊥
 incomplete g c complete =

@@ -2,7 +2,7 @@ use Rattle.std.proofs.Common.{◌≡◌, ℕ, ◌+◌, ◌<◌, ◌==◌, Bool, 
 use Rattle.std.proofs.lemmas.List.{take_more, append-nil}
 use Rattle.cmb_channels.specs.declared.message.Message.{Message}
 use Rattle.cmb_channels.specs.Lists.{sent}
-use Rattle.cmb_channels.proofs.Places.{sent-append}
+use Rattle.cmb_channels.proofs.CallerLemmas.{sent-append}
 use Rattle.cmb_kernel.proofs.kernel.events.send_all.Goals as goal
 
 sent-none : (net : ℕ) (sources : List ℕ) (lists : List (List Message)) → sent net [] sources lists ≡ lists

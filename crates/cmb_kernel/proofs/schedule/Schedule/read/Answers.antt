@@ -1,6 +1,6 @@
-use Rattle.std.proofs.Common.{◌≡◌, Ok, arith, rules}
-use Rattle.bench_text.specs.Text.{code_lines}
-use Rattle.cmb_kernel.specs.Schedule.{events_in}
+use Rattle.std.proofs.Common.{◌≡◌, [], Ok, arith, rules}
+use Rattle.bench_text.specs.Fold.{fold_text}
+use Rattle.cmb_kernel.specs.Schedule.{events_after}
 use Rattle.cmb_kernel.proofs.EventCount.{few-events_of}
 use Rattle.cmb_kernel.proofs.schedule.Schedule.read.Goals as goal
 
@@ -9,5 +9,5 @@ returns-clause-few c =
     let circuit = c.args.design.now.circuit in
     let text = c.args.text.now in
     let events = c.loop-line.events.items in
-    let given : events_in circuit (code_lines text) ≡ Ok events = search rules in
+    let given : fold_text (events_after circuit) [] text ≡ Ok events = search rules in
     few-events_of circuit text events (omega arith) given

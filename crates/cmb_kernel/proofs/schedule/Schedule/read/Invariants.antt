@@ -1,11 +1,11 @@
-use Rattle.std.proofs.Common.{◌≡◌, ◌++◌, All, Ok}
-use Rattle.bench_text.specs.Text.{◌>>=◌, code_lines}
-use Rattle.cmb_kernel.specs.Schedule.{events_in}
+use Rattle.std.proofs.Common.{◌≡◌, [], All}
+use Rattle.bench_text.specs.Fold.{fold_lines, fold_text}
+use Rattle.cmb_kernel.specs.Schedule.{events_after}
 use Rattle.cmb_kernel.specs.Sound.{Exists}
 use Rattle.cmb_kernel.proofs.schedule.Schedule.read.Given as goal
 
--- the events so far and those of the lines left are all, and those so far exist
+-- the lines left, after the events so far, give all, and those so far exist
 abbrev pub invariant-loop-line : goal.invariant-loop-line
 invariant-loop-line l =
-    ((events_in l.design.circuit l.line-iterator >>= λ more. Ok (l.events.items ++ more)) ≡ events_in l.design.circuit (code_lines l.text))
+    (fold_lines (events_after l.design.circuit) l.events.items l.line-iterator ≡ fold_text (events_after l.design.circuit) [] l.text)
     × All (Exists l.design.circuit) l.events.items

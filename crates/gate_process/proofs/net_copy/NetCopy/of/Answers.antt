@@ -1,6 +1,6 @@
 use Rattle.std.proofs.Common.{◌≡◌, Some, slice_get, ◌∙◌, ap, sym}
 use Rattle.design.specs.Circuit.{Net, IsTimed}
-use Rattle.design.proofs.WellFormed.{All-slice_get, takes_its_pins}
+use Rattle.design.proofs.CallerLemmas.{All-slice_get, takes_its_pins}
 use Rattle.gate_process.proofs.Nets.{net_of_fields}
 use Rattle.gate_process.proofs.net_copy.NetCopy.of.Goals as goal
 
@@ -9,8 +9,8 @@ copied c = record {
   name = c.in_ok-from_slice.field-0.items;
   part = c.part.result;
   pins = c.in_ok-from_slice-2.field-0.items;
-  delay = c.delay.result;
-  period = c.period.result;
+  delay = c.timing.result.delay;
+  period = c.timing.result.period;
   stimuli = c.in_ok-from_slice-3.field-0.items;
 }
 
@@ -21,8 +21,7 @@ is_copy c =
     (c.name.ensures ∙ ap Some (sym c.in_ok-from_slice.ensures.items))
     c.part.ensures
     (c.pins_of.ensures ∙ ap Some (sym c.in_ok-from_slice-2.ensures.items))
-    c.delay.ensures
-    (λ n at. All-slice_get (λ (net : Net). net.period ≡ c.period.result) c.args.design.now.circuit c.args.net n c.period.ensures at)
+    c.timing.ensures
     (c.stimuli.ensures ∙ ap Some (sym c.in_ok-from_slice-3.ensures.items))
 
 pub invariant_of-result : goal.invariant_of-result

@@ -1,10 +1,10 @@
-use Rattle.std.proofs.Common.{◌≡◌, ◌≤◌, length, map, vec_len, false, ap, sym, subst, ◌∙◌, arith}
+use Rattle.std.proofs.Common.{◌≡◌, ◌≤◌, ◌==◌, cond, [], length, map, vec_len, false, refl, ap, sym, subst, ◌∙◌, arith}
 use Rattle.std.specs.Vec.{with_items}
 use Rattle.std.proofs.lemmas.List.{length-map, with_items_is}
 use Rattle.logic3.specs.Wave.{joined, changes_between}
 use Rattle.design.specs.Equations.{equation}
-use Rattle.gate_process.specs.Knowledge.{Knowledge, kept}
-use Rattle.gate_process.specs.Step.{ProcessState, ProcessView, least, signals_of, continued, frontier_of_part, next_frontier, advanced}
+use Rattle.gate_process.specs.Knowledge.{Knowledge, kept_since, keeping, news_of}
+use Rattle.gate_process.specs.Step.{ProcessState, ProcessView, least, signals_of, continued, frontier_of, next_frontier, reckoned, advanced, news}
 use Rattle.gate_process.specs.Truth.{IsProcess}
 use Rattle.gate_process.proofs.Frontiers.{least-bound}
 use Rattle.gate_process.proofs.Events.{advanced_is_process}
@@ -35,7 +35,7 @@ unfolding before
 to_is c =
     let safe = c.least_frontier-safe.ensures
     ∙ ap (λ received. least c.self.inside.end (map (λ (known : Knowledge). known.frontier) received)) c.as_slice.ensures.value in
-    c.next_frontier-to.ensures ∙ ap (frontier_of_part c.self.inside.net.part c.self.inside.net c.self.inside.end) safe
+    c.next_frontier-to.ensures ∙ ap (frontier_of c.self.inside.net c.self.inside.end) safe
 
 ahead : (c : After-next_frontier-to) → c.self.inside.frontier ≤ c.next_frontier-to.result
 unfolding before
@@ -58,17 +58,26 @@ unfolding before
 extend-requires-clause-last c =
     let at = (goal.at.extend-requires-clause-last c).After-next_frontier-to in wave_ends (before at) (is_process at)
 
+-- the net as far as it was reckoned
+farther : After-next_frontier-to → ProcessState
+farther c = record {
+  net = c.self.inside.net;
+  end = c.self.inside.end;
+  floor = c.self.inside.floor;
+  known = record { wave = c.self.inside.wave; frontier = c.next_frontier-to.result };
+  received = c.self.inside.received.items;
+}
+
 pub keep_all-requires : goal.keep_all-requires
-unfolding before
+unfolding before farther
 keep_all-requires c =
     let at = (goal.at.keep_all-requires c).After-next_frontier-to in
-    rw (c.as_mut_slice.ensures.value, c.delay.ensures)
-    (λ place known here. nothing_forgotten_farther (before at) place c.next_frontier-to.result known (is_process at) here (ahead at))
+    rw c.as_mut_slice.ensures.value
+    (λ place known here none. nothing_forgotten_farther (before at) (farther at) place known (is_process at) here refl (ahead at)
+    (subst (λ oldest. kept_since oldest known.frontier ≡ 0) (c.oldest_asked.ensures place) none))
 
-kept_pins : (c : After-keep_all) → c.keep_all.new.received ≡ map (kept c.next_frontier-to.result c.self.inside.net.delay) c.self.inside.received.items
-kept_pins c =
-    c.keep_all.ensures ∙ ap (λ d. map (kept c.next_frontier-to.result d) c.as_mut_slice.result.now) c.delay.ensures
-    ∙ ap (map (kept c.next_frontier-to.result c.self.inside.net.delay)) c.as_mut_slice.ensures.value
+kept_pins : (c : After-keep_all) → c.keep_all.new.received ≡ map (keeping c.oldest_asked.result) c.self.inside.received.items
+kept_pins c = c.keep_all.ensures ∙ ap (map (keeping c.oldest_asked.result)) c.as_mut_slice.ensures.value
 
 after : goal.After-self-4-1 → ProcessState
 after c = record {
@@ -85,12 +94,12 @@ has_advanced c =
     let at = (goal.at.invariant_of-self-2 c).After-next_frontier-to in
     let kept_all = kept_pins (goal.at.invariant_of-self-2 c).After-keep_all in
     let long : length c.keep_all.new.received ≡ vec_len c.self.inside.received =
-    ap length kept_all ∙ length-map c.self.inside.received.items (kept c.next_frontier-to.result c.self.inside.net.delay)
+    ap length kept_all ∙ length-map c.self.inside.received.items (keeping c.oldest_asked.result)
     ∙ sym (ap length c.as_mut_slice.ensures.value) ∙ c.as_mut_slice.ensures.len in
     let wave = c.in_ok-messages.ensures.wave
     ∙ ap (λ received. joined c.self.inside.wave (changes_between (continued c.self.inside.wave c.self.inside.frontier
     (equation c.self.inside.net (signals_of received))) c.self.inside.frontier c.next_frontier-to.result)) c.as_slice-2.ensures.value in
-    advanced_of (before at) (is_process at) c.extend.new.wave c.next_frontier-to.result _ (to_is at) wave
+    advanced_of (before at) (is_process at) c.extend.new.wave c.next_frontier-to.result c.oldest_asked.result _ (to_is at) wave c.oldest_asked.ensures
     (with_items_is c.self.inside.received c.keep_all.new.received long ∙ kept_all)
 
 pub invariant_of-self-2 : goal.invariant_of-self-2
@@ -105,3 +114,15 @@ returns-clause-state c =
     let at = (goal.at.returns-clause-state c).After-next_frontier-to in
     let state = has_advanced c ∙ ap advanced (view_is at) in
     λ i. record { failed = false; state = state i }
+
+pub returns-clause-news : goal.returns-clause-news
+unfolding before
+returns-clause-news c =
+    let at = (goal.at.returns-clause-news c).After-next_frontier-to in
+    let from = c.self.inside.frontier in
+    let to = c.next_frontier-to.result in
+    c.in_ok-messages.ensures.news
+    ∙ ap (λ received. cond (to == from) []
+    (news_of (changes_between (continued c.self.inside.wave from (equation c.self.inside.net (signals_of received))) from to) to)) c.as_slice-2.ensures.value
+    ∙ ap (λ end. cond (end == from) [] (news_of (changes_between (reckoned (before at)) from end) end)) (to_is at)
+    ∙ ap news (view_is at)

@@ -2,8 +2,7 @@ use Rattle.std.proofs.Common.{◌≡◌, ◌≤◌, ◌∙◌, length, take, ap,
 use Rattle.std.proofs.lemmas.List.Sorted.{IsPartitionPoint-from_clause, IsPartitionedBy-ltb}
 use Rattle.logic3.specs.declared.change.Change.{Change}
 use Rattle.logic3.specs.Wave.{value_in_the_end}
-use Rattle.logic3.proofs.Rising.{rising-ascends}
-use Rattle.logic3.proofs.Waves.{AllPairs-Alternates}
+use Rattle.logic3.proofs.CallerLemmas.{RisesBy-ascends, AllPairs-Alternates}
 use Rattle.gate_process.specs.Knowledge.{Knowledge, IsKnowledge, forgetting}
 use Rattle.gate_process.proofs.Forgets.{IsCut, forgets, forgotten_is_known}
 use Rattle.gate_process.proofs.received.Received.forget_before.Goals as goal
@@ -17,7 +16,7 @@ left c = record { wave = record { before = c.last_value-self-inside.result; chan
 cut : (c : goal.After-drop_front) → IsCut c.args.tick c.self.inside.changes c.partition_point-early.result
 cut c =
     let rise = AllPairs-Alternates c.self.inside.before 0 c.self.inside.changes c.self.invariant.wave in
-    let parted = IsPartitionedBy-ltb (λ (change : Change). change.tick) c.self.inside.changes c.args.tick (rising-ascends c.self.inside.changes rise) in
+    let parted = IsPartitionedBy-ltb (λ (change : Change). change.tick) c.self.inside.changes c.args.tick (RisesBy-ascends (λ (change : Change). change.tick) c.self.inside.changes rise) in
     IsPartitionPoint-from_clause (λ (change : Change). ltb change.tick c.args.tick) c.self.inside.changes c.partition_point-early.result
     (rw c.as_slice-changes.ensures at c.partition_point-early.ensures.partitioned) parted (λ a r q k. search rules)
 

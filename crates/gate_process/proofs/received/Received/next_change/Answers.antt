@@ -1,4 +1,4 @@
-use Rattle.logic3.proofs.Waves.{AllPairs-Alternates}
+use Rattle.logic3.proofs.CallerLemmas.{AllPairs-Alternates}
 use Rattle.gate_process.proofs.received.Received.next_change.Goals as goal
 
 pub next_change-requires : goal.next_change-requires

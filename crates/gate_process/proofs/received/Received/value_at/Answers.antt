@@ -1,4 +1,4 @@
-use Rattle.logic3.proofs.Waves.{AllPairs-Alternates}
+use Rattle.logic3.proofs.CallerLemmas.{AllPairs-Alternates}
 use Rattle.gate_process.proofs.received.Received.value_at.Goals as goal
 
 pub value_after-requires : goal.value_after-requires

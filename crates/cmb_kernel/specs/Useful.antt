@@ -1,0 +1,35 @@
+-- Events that are useful, and how many are.
+use Rattle.std.specs.Prelude.{ℕ, ◌+◌, nat_lt, if◌then◌else◌, Bool, true, false, List, [], ◌∷◌, sum_by}
+use Rattle.gate_process.specs.Knowledge.{Knowledge}
+use Rattle.gate_process.specs.Step.{ProcessState}
+use Rattle.cmb_kernel.specs.declared.event.Event.{Event}
+use Rattle.cmb_kernel.specs.declared.event.Event.TheVariants.{Deliver, Advance}
+use Rattle.cmb_kernel.specs.State.{State}
+use Rattle.cmb_kernel.specs.Step.{step}
+
+-- how far a process knows itself and its pins, in all
+abbrev pub progress_of : ProcessState → ℕ
+progress_of process = process.known.frontier + sum_by (λ (known : Knowledge). known.frontier) process.received
+
+-- the sum of all frontiers, of the nets and of what the pins received
+abbrev pub progress : State → ℕ
+progress state = sum_by progress_of state.processes
+
+-- the event is useful: it raises a frontier
+abbrev pub is_useful : State → Event → Bool
+is_useful state event = nat_lt (progress state) (progress (step state event))
+
+-- how many of some events are useful when they come
+abbrev pub useful_count : State → List Event → ℕ
+useful_count state [] = 0
+useful_count state (event ∷ events) = (if is_useful state event then 1 else 0) + useful_count (step state event) events
+
+abbrev pub is_advance : Event → Bool
+is_advance (Deliver pin) = false
+is_advance (Advance net) = true
+
+-- how many of some events are useful Advances
+abbrev pub useful_advances : State → List Event → ℕ
+useful_advances state [] = 0
+useful_advances state (event ∷ events) =
+    (if is_advance event then (if is_useful state event then 1 else 0) else 0) + useful_advances (step state event) events

@@ -1,0 +1,41 @@
+ghost use Rattle.std.specs.Prelude.{◌≡◌, ◌<◌, false, length};
+ghost use Rattle.std.specs.Bool.{OnTrue};
+ghost use Rattle.design.specs.Equations.{waves_of};
+ghost use Rattle.cmb_kernel.specs.State.{frontier_at, least_frontier, is_complete, waves_in};
+
+use crate::kernel::Kernel;
+use cmb_channels::Fabric;
+
+impl<'d, F: Fabric> Kernel<'d, F> {
+    /// The least frontier of all nets.
+    pub fn least_frontier(&self) -> u64
+        requires { self.now.failed ≡ false }
+        ensures { result ≡ least_frontier self.now.end self.now.state }
+    {
+        self.frontier(self.slowest())
+    }
+
+    /// Whether each net is known up to the horizon. Messages may still wait then.
+    pub fn is_complete(&self) -> bool
+        requires { self.now.failed ≡ false }
+        ensures complete { result ≡ is_complete self.now.state }
+        ensures waves { OnTrue result (waves_in self.now.state ≡ waves_of self.now.circuit self.now.end) }
+    {
+        self.least_frontier() == self.end
+    }
+
+    /// The first net of the least frontier.
+    pub(crate) fn slowest(&self) -> u32
+        requires { self.now.failed ≡ false }
+        ensures net { result < length self.now.circuit }
+        ensures least { frontier_at self.now.state result ≡ least_frontier self.now.end self.now.state }
+    {
+        let mut slowest = 0;
+        for net in 1..self.design.nets() {
+            if self.frontier(net) < self.frontier(slowest) {
+                slowest = net;
+            }
+        }
+        slowest
+    }
+}

@@ -1,0 +1,7 @@
+mod DeckText
+mod First
+mod Found
+mod Lines
+mod Rows
+mod Rules
+mod Words

@@ -1,0 +1,18 @@
+use Rattle.std.proofs.Common.{◌≡◌, ◌∙◌, false, arith, rules}
+use Rattle.cmb_channels.specs.declared.message.Message.TheVariants.{Null}
+use Rattle.gate_process.proofs.CallerLemmas.{can_hear_null}
+use Rattle.engine_tests.proofs.Probes.{stays}
+use Rattle.engine_tests.proofs.processes.Probe.hear_null.Goals as goal
+
+pub receive-requires-clause-can_hear : goal.receive-requires-clause-can_hear
+receive-requires-clause-can_hear g c =
+    let runs : c.args.self.now.process.failed ≡ false = search rules in
+    let end = c.args.self.now.ends runs in
+    can_hear_null c.args.self.now.process.state c.args.place c.received-known.result c.args.bound
+    (c.is_failed.ensures.well_formed runs) c.received-known.ensures (omega arith) (omega arith)
+
+pub invariant_of-self : goal.invariant_of-self
+invariant_of-self g c =
+    let runs : c.args.self.now.process.failed ≡ false = search rules in
+    let same = stays c.args.self.now.process c.receive.new.self c.args.place (Null c.args.bound) c.receive.result c.receive.ensures.ok c.receive.ensures.err in
+    record { has_pins = λ _. same.pins ∙ c.args.self.now.has_pins runs; ends = λ _. same.end ∙ c.args.self.now.ends runs }

@@ -1,0 +1,99 @@
+//! Worked circuits, each with the texts and the period that it is built with.
+use bench_text::read;
+use design::Design;
+use std::alloc::Global;
+use std::test::Fail;
+
+/// A .bench text with its delays and stimuli, and the period of its flip-flops. Where no delay is
+/// given it is one tick.
+#[derive(Clone, Copy)]
+pub(crate) struct Circuit {
+    pub(crate) bench: &'static [u8],
+    pub(crate) delays: &'static [u8],
+    pub(crate) stimuli: &'static [u8],
+    pub(crate) period: u64,
+}
+
+impl Circuit {
+    pub(crate) fn build(&self, alloc: Global) -> Result<Design, Fail> {
+        let netlist = read(alloc, self.bench)?;
+        let built = Design::build(alloc, netlist, self.delays, self.stimuli, 1, self.period)?;
+        Ok(built)
+    }
+}
+
+/// Two nets and one pin.
+pub(crate) const INVERTER: Circuit = Circuit {
+    bench: b"INPUT(a)\nOUTPUT(y)\ny = NOT(a)\n",
+    delays: b"",
+    stimuli: b"0 a 0\n3 a 1\n",
+    period: 10,
+};
+
+pub(crate) const SLOW_INVERTER: Circuit = Circuit {
+    delays: b"y 9",
+    ..INVERTER
+};
+
+/// A gate at its own pin, with nothing that drives it.
+pub(crate) const SELF_INVERTER: Circuit = Circuit {
+    bench: b"y = NOT(y)",
+    stimuli: b"",
+    ..INVERTER
+};
+
+/// A gate at its own pin, which oscillates where its input is 1.
+pub(crate) const GATED_OSCILLATOR: Circuit = Circuit {
+    bench: b"INPUT(e)\ny = NAND(e, y)",
+    delays: b"y 2",
+    stimuli: b"0 e 0\n5 e 1",
+    period: 10,
+};
+
+/// A buffer and a gate that compares its two sides: the nets `a`, `b` and `y`; pin 0 is that of `b`,
+/// pins 1 and 2 are those of `y`.
+pub(crate) const LATE_PIN: Circuit = Circuit {
+    bench: b"INPUT(a)\nb = BUFF(a)\ny = XOR(a, b)",
+    stimuli: b"0 a 0\n5 a 1",
+    ..INVERTER
+};
+
+/// A gate whose two pins change at once.
+pub(crate) const CROSSING: Circuit = Circuit {
+    bench: b"INPUT(a)\nINPUT(b)\ny = AND(a, b)",
+    stimuli: b"0 a 1\n4 a 0\n0 b 0\n4 b 1",
+    ..INVERTER
+};
+
+/// The same gate, known by one pin.
+pub(crate) const CONTROLLED_AND: Circuit = Circuit {
+    stimuli: b"0 a 0",
+    ..CROSSING
+};
+
+/// A flip-flop whose pin changes at a tick at which it samples.
+pub(crate) const SAMPLER: Circuit = Circuit {
+    bench: b"INPUT(d)\nq = DFF(d)",
+    stimuli: b"4 d 1\n5 d 0",
+    period: 4,
+    ..INVERTER
+};
+
+/// A flip-flop that samples its own opposite, with no reset.
+pub(crate) const RING_COUNTER: Circuit = Circuit {
+    bench: b"q = DFF(n)\nn = NOT(q)",
+    stimuli: b"",
+    period: 3,
+    ..INVERTER
+};
+
+/// Seventeen nets, three of them flip-flops.
+pub(crate) const S27: Circuit = Circuit {
+    bench: b"INPUT(G0)\nINPUT(G1)\nINPUT(G2)\nINPUT(G3)\nOUTPUT(G17)\n\
+      G5 = DFF(G10)\nG6 = DFF(G11)\nG7 = DFF(G13)\n\
+      G14 = NOT(G0)\nG17 = NOT(G11)\nG8 = AND(G14, G6)\n\
+      G15 = OR(G12, G8)\nG16 = OR(G3, G8)\nG9 = NAND(G16, G15)\n\
+      G10 = NOR(G14, G11)\nG11 = NOR(G5, G9)\nG12 = NOR(G1, G7)\nG13 = NOR(G2, G12)\n",
+    stimuli: b"0 G0 1\n0 G1 1\n0 G2 0\n0 G3 0\n12 G0 0\n12 G2 1\n22 G1 0\n22 G3 1\n",
+    ..INVERTER
+};

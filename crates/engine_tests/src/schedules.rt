@@ -1,0 +1,162 @@
+//! Schedules, from a text and from a seed.
+use crate::circuits::{INVERTER, LATE_PIN};
+use crate::texts::longest;
+use Event::{Advance, Deliver};
+use cmb_kernel::{Event, Schedule, ScheduleFault};
+use std::process::Abort;
+use std::test::Fail;
+
+// There is a schedule, and it has just these events.
+fn gives(rt: &impl Abort, answer: Result<Schedule, ScheduleFault>, events: &[Event]) {
+    match answer {
+        Ok(schedule) => assert_eq!(rt; schedule.events(), events),
+        Err(fault) => assert!(rt; false, "refused with {fault:?}"),
+    }
+}
+
+#[test]
+fn schedule_faults(rt: HostRuntime) -> Result<(), Fail> {
+    let inverter = INVERTER.build(rt.alloc())?;
+    for (text, fault) in [
+        (b"deliver y 1".as_slice(), ScheduleFault::BadPin { line: 1 }),
+        (b"deliver a 0".as_slice(), ScheduleFault::BadPin { line: 1 }),
+        (
+            b"deliver y 9999999999999999999999999999999999999999999999999999999999999999999999999999999999999999999999999999".as_slice(),
+            ScheduleFault::BadPin { line: 1 },
+        ),
+        (
+            b"advance zz".as_slice(),
+            ScheduleFault::UnknownNet { line: 1 },
+        ),
+        (
+            b"deliver zz 9".as_slice(),
+            ScheduleFault::UnknownNet { line: 1 },
+        ),
+        (b"Advance y".as_slice(), ScheduleFault::BadLine { line: 1 }),
+        (
+            b"DELIVER y 0".as_slice(),
+            ScheduleFault::BadLine { line: 1 },
+        ),
+        (b"advance".as_slice(), ScheduleFault::BadLine { line: 1 }),
+        (
+            b"advance y 0".as_slice(),
+            ScheduleFault::BadLine { line: 1 },
+        ),
+        (b"deliver y".as_slice(), ScheduleFault::BadLine { line: 1 }),
+        (
+            b"deliver y 0 0".as_slice(),
+            ScheduleFault::BadLine { line: 1 },
+        ),
+        (
+            b"deliver zz x".as_slice(),
+            ScheduleFault::BadLine { line: 1 },
+        ),
+        (
+            b"deliver y -0".as_slice(),
+            ScheduleFault::BadLine { line: 1 },
+        ),
+        (
+            b"advance y \x0B".as_slice(),
+            ScheduleFault::BadLine { line: 1 },
+        ),
+        (
+            b"# fine\nadvance y\n\nadvance zz\nAdvance y".as_slice(),
+            ScheduleFault::UnknownNet { line: 4 },
+        ),
+    ] {
+        let answer = Schedule::read(rt.alloc(), text, &inverter);
+        assert_eq!(rt; answer.err(), Some(fault));
+    }
+    Ok(())
+}
+
+#[test]
+fn schedules_of_texts(rt: HostRuntime) -> Result<(), Fail> {
+    let late_pin = LATE_PIN.build(rt.alloc())?;
+    for text in [b"".as_slice(), b"# advance a\n\r\n \t\n".as_slice()] {
+        gives(&rt, Schedule::read(rt.alloc(), text, &late_pin), &[]);
+    }
+    let text =
+        b"advance a # first\r\n\tdeliver  b 0\r\n\r\ndeliver y 00\n# \xFF\ndeliver y 0000000000000000000000000000000001\nadvance y\ndeliver y 1#1";
+    let events = [
+        Advance(0),
+        Deliver(0),
+        Deliver(1),
+        Deliver(2),
+        Advance(2),
+        Deliver(2),
+    ];
+    let answer = Schedule::read(rt.alloc(), text, &late_pin);
+    gives(&rt, answer, events.as_slice());
+    Ok(())
+}
+
+#[test]
+fn limit_of_a_schedule_text(rt: HostRuntime) -> Result<(), Fail> {
+    let inverter = INVERTER.build(rt.alloc())?;
+    let mut text = longest(rt.alloc(), b"advance a\n#")?;
+    let answer = Schedule::read(rt.alloc(), text.as_slice(), &inverter);
+    gives(&rt, answer, &[Advance(0)]);
+    text.push(b'x')?;
+    let answer = Schedule::read(rt.alloc(), text.as_slice(), &inverter);
+    assert_eq!(rt; answer.err(), Some(ScheduleFault::TooLong));
+    Ok(())
+}
+
+// The picks were computed apart, by a few lines of Python after the published algorithms: the
+// reference code of PCG-XSH-RR 64/32 (which gives 0xa15c02b7, 0x7b47f409, 0xba1d3330 from state 42
+// and stream 54), seeded as `rand_core` expands a number to a seed.
+#[test]
+fn seeded_picks(rt: HostRuntime) -> Result<(), Fail> {
+    let inverter = INVERTER.build(rt.alloc())?;
+    let late_pin = LATE_PIN.build(rt.alloc())?;
+    let of_inverter = [
+        Deliver(0),
+        Advance(1),
+        Advance(0),
+        Advance(1),
+        Advance(1),
+        Advance(1),
+        Deliver(0),
+        Advance(0),
+    ];
+    let of_late_pin = [
+        Advance(2),
+        Deliver(2),
+        Deliver(1),
+        Deliver(0),
+        Deliver(0),
+        Advance(0),
+        Deliver(2),
+        Advance(1),
+    ];
+    for (design, seed, events) in [
+        (&inverter, 1, of_inverter.as_slice()),
+        (&inverter, 1, &of_inverter[..1]),
+        (&inverter, 1, &[]),
+        (&late_pin, 7, of_late_pin.as_slice()),
+    ] {
+        let answer = Schedule::seeded(rt.alloc(), seed, events.len() as u64, design);
+        gives(&rt, answer, events);
+    }
+    Ok(())
+}
+
+#[test]
+fn seeded_schedules(rt: HostRuntime) -> Result<(), Fail> {
+    let late_pin = LATE_PIN.build(rt.alloc())?;
+    let schedule = Schedule::seeded(rt.alloc(), 2026, 100_000, &late_pin)?;
+    assert_eq!(rt; schedule.events().len(), 100_000);
+    for event in schedule.events() {
+        let exists = match *event {
+            Deliver(pin) => pin < late_pin.pins(),
+            Advance(net) => net < late_pin.nets(),
+        };
+        assert!(rt; exists, "{event:?}");
+    }
+    for picks in [10_000_001, u64::MAX] {
+        let answer = Schedule::seeded(rt.alloc(), 2026, picks, &late_pin);
+        assert_eq!(rt; answer.err(), Some(ScheduleFault::TooManyEvents));
+    }
+    Ok(())
+}

@@ -1,0 +1,4 @@
+-- What crates above may cite of the lemmas of this one.
+pub use Rattle.logic3.proofs.Equal.{is_same-true, is_same_change-Decides}
+pub use Rattle.logic3.proofs.Rising.{Alternates-push, RisesBy-ascends, value_after-partition, value_in_the_end-last}
+pub use Rattle.logic3.proofs.Waves.{All-wave_of, AllPairs-Alternates, Contains-wave_of_iff, IsWave-wave_of, change_at-some, changes_between-same, changes_between-split, joined-wave_of, last_value-wave_of, value_after-later, value_at-wave_of, value_in_the_end-append, wave_of-more, wave_of_iff}

@@ -1,9 +1,0 @@
-use Rattle.std.proofs.Common.{◌∙◌}
-use Rattle.nullsim.specs.Simulated.{seen_run}
-use Rattle.nullsim.proofs.Checks.{waves_of-to_end}
-use Rattle.nullsim.proofs.check_run.check.Goals as goal
-
-pub same_waves-requires-clause-waves : goal.same_waves-requires-clause-waves
-same_waves-requires-clause-waves c =
-    c.as_slice.ensures.value ∙ c.in_ok-waves.ensures
-    ∙ waves_of-to_end (seen_run c.in_ok-run.run') c.in_ok-kernel.kernel c.in_ok-kernel.ensures.circuit c.in_ok-kernel.ensures.end

@@ -1,5 +1,0 @@
-use Rattle.nullsim.proofs.Viewed.{ShowsValues-dump_of_source}
-use Rattle.nullsim.proofs.laws.dump_shows_values.Goals as goal
-
-pub returns : goal.returns
-returns c = ShowsValues-dump_of_source

@@ -1,0 +1,199 @@
+-- Where the texts are known, an order has one answer at most.
+use Rattle.std.proofs.Common.{◌≡◌, ◌↔◌, ℕ, zero, suc, ◌<◌, ◌≤◌, Bool, true, false, IsTrue, List, [], ◌∷◌, get_or, Option, Some, None, IfSome, Result, Ok, Err, Bor, Vec, Contains, refl, sym, ap, subst, ◌∙◌, arith}
+use Rattle.std.specs.declared.alloc.Global.{Global}
+use Rattle.std.specs.List.{filter_map}
+use Rattle.bench_text.specs.declared.fault.BenchFault.{BenchFault}
+use Rattle.bench_text.specs.Canonical.{canonical, within_limit}
+use Rattle.bench_text.specs.Netlist.{NetlistView, distinct, net_named, netlist_of}
+use Rattle.bench_text.specs.Pick.{picked}
+use Rattle.bench_text.specs.Seen.{seen_names}
+use Rattle.logic3.specs.Rising.{Rises}
+use Rattle.bench_text.proofs.CallerLemmas.{AllPairs-tail}
+use Rattle.fanin_cone.specs.Cone.{IsConeOf}
+use Rattle.fanin_cone.specs.Extract.{IsExtract, first_unknown}
+use Rattle.runs.specs.declared.fault.SimFault.{SimFault}
+use Rattle.orders.specs.declared.order.Order.{Order}
+use Rattle.orders.specs.declared.order.Order.TheVariants.{Run, Plain, Cone, Twin, Check}
+use Rattle.orders.specs.declared.order.SourceOptions.{SourceOptions}
+use Rattle.runs.specs.declared.twin_run.TwinAnswer.{TwinAnswer}
+use Rattle.runs.specs.declared.twin_run.TwinFault.{TwinFault}
+use Rattle.orders.specs.AnswerText.{twin_text}
+use Rattle.orders.specs.OrderAnswer.{Answer, ForSource, IsAnswer, IsTwinAnswer, answered, just}
+use Rattle.runs.specs.ConeText.{IsConeAnswer, IsConeOfNetlist, IsExtractText}
+use Rattle.runs.specs.Faults.{sim_of_bench}
+use Rattle.orders.specs.declared.program_fault.ProgramFault.{ProgramFault}
+use Rattle.orders.specs.Options.{IsSourceOf, KnownTexts, all_known, picks_of_options, schedule_file, text_named}
+use Rattle.runs.specs.Source.{SourceView, or_fault}
+use Rattle.runs.specs.Twins.{IsComparison, Twins, twins_of}
+
+-- ---- numbers that rise
+
+Rises-tail : (m : ℕ) (numbers : List ℕ) → Rises (m ∷ numbers) → Rises numbers
+Rises-tail = AllPairs-tail (λ (earlier later : ℕ). earlier < later)
+
+-- a member after the head is in the tail
+Contains-tail : (n m : ℕ) (numbers : List ℕ) → Contains (m ∷ numbers) n → m < n → Contains numbers n
+Contains-tail n m numbers (zero, inside, is) above = absurd (omega (arith, is))
+Contains-tail n m numbers (suc k, inside, is) above = (k, omega (arith, inside), is)
+
+-- each member of the tail comes after the head
+head-lt : (n m : ℕ) (numbers : List ℕ) → Rises (m ∷ numbers) → Contains numbers n → m < n
+head-lt n m numbers rising (k, inside, is) =
+    let below : m < get_or numbers k n = rising 0 (suc k) n (omega arith) (omega (arith, inside)) in
+    omega (arith, is)
+
+-- no member comes before the head
+head-le : (n m : ℕ) (numbers : List ℕ) → Rises (m ∷ numbers) → Contains (m ∷ numbers) n → m ≤ n
+head-le n m numbers rising (zero, inside, is) = omega (arith, is)
+head-le n m numbers rising (suc k, inside, is) = omega (arith, head-lt n m numbers rising (k, omega (arith, inside), is))
+
+Contains-head : (n : ℕ) (numbers : List ℕ) → Contains (n ∷ numbers) n
+Contains-head n numbers = (0, omega arith, refl)
+
+Contains-later : (n m : ℕ) (numbers : List ℕ) → Contains numbers n → Contains (m ∷ numbers) n
+Contains-later n m numbers (k, inside, is) = (suc k, omega (arith, inside), is)
+
+-- lists that rise and have the same members are equal
+same_from_members : (a b : List ℕ) → Rises a → Rises b → ((n : ℕ) → Contains a n → Contains b n) → ((n : ℕ) → Contains b n → Contains a n) → a ≡ b
+same_from_members [] [] rising other_rising into back = refl
+same_from_members [] (m ∷ b) rising other_rising into back = let at = back m (Contains-head m b) in absurd (omega (arith, at.1))
+same_from_members (n ∷ a) [] rising other_rising into back = let at = into n (Contains-head n a) in absurd (omega (arith, at.1))
+same_from_members (n ∷ a) (m ∷ b) rising other_rising into back =
+    let low : m ≤ n = head-le n m b other_rising (into n (Contains-head n a)) in
+    let high : n ≤ m = head-le m n a rising (back m (Contains-head m b)) in
+    let head : n ≡ m = omega arith in
+    let tail : a ≡ b =
+    same_from_members a b (Rises-tail n a rising) (Rises-tail m b other_rising)
+    (λ k in_a. let after : n < k = head-lt k n a rising in_a in
+    Contains-tail k m b (into k (Contains-later k n a in_a)) (omega arith))
+    (λ k in_b. let after : m < k = head-lt k m b other_rising in_b in
+    Contains-tail k n a (back k (Contains-later k m b in_b)) (omega arith)) in
+    cc
+
+-- ---- cones
+
+module _ (netlist : NetlistView) (names : List (List ℕ)) where
+  -- a cone has one list of numbers
+  one_cone : (a b : List ℕ) → IsConeOf netlist names a → IsConeOf netlist names b → a ≡ b
+  one_cone a b is other_is =
+      same_from_members a b is.rising other_is.rising
+      (λ n at. (other_is.nets n).1 ((is.nets n).0 at))
+      (λ n at. (is.nets n).1 ((other_is.nets n).0 at))
+
+  one_extract : (a b : NetlistView) → IsExtract netlist names a → IsExtract netlist names b → a ≡ b
+  one_extract a b is other_is =
+      is.picked_so ∙ ap (λ keep. picked netlist keep (distinct (filter_map (net_named netlist) names))) (one_cone is.keep other_is.keep is.cone other_is.cone)
+      ∙ sym other_is.picked_so
+
+  one_extract_text : (a b : Result (List ℕ) SimFault) → IsExtractText netlist names a → IsExtractText netlist names b → a ≡ b
+  one_extract_text a b is other_is =
+      is.text ∙ ap (λ extract. or_fault sim_of_bench (within_limit (canonical extract))) (one_extract is.extract other_is.extract is.extracted other_is.extracted)
+      ∙ sym other_is.text
+
+module _ (a b : Result (List ℕ) SimFault) where
+  one_of_netlist : (netlist : NetlistView) (names : List (List ℕ)) → IsConeOfNetlist netlist names a → IsConeOfNetlist netlist names b → a ≡ b
+  one_of_netlist netlist [] is other_is = is ∙ sym other_is
+  one_of_netlist netlist (name ∷ names) is other_is = go (first_unknown netlist (name ∷ names)) refl
+    where
+      go : (unknown : Option ℕ) → first_unknown netlist (name ∷ names) ≡ unknown → a ≡ b
+      go (Some at) found =
+          let one : a ≡ _ = rw found at is in
+          let other : b ≡ _ = rw found at other_is in
+          one ∙ sym other
+      go None found =
+          let one : IsExtractText netlist (name ∷ names) a = rw found at is in
+          let other : IsExtractText netlist (name ∷ names) b = rw found at other_is in
+          one_extract_text netlist (name ∷ names) a b one other
+
+  one_cone_answer : (bench : List ℕ) (names : List (List ℕ)) → IsConeAnswer bench names a → IsConeAnswer bench names b → a ≡ b
+  one_cone_answer bench names is other_is = go (netlist_of bench) refl
+    where
+      go : (read : Result NetlistView BenchFault) → netlist_of bench ≡ read → a ≡ b
+      go (Ok netlist) found =
+          let one : IsConeOfNetlist netlist names a = rw found at is in
+          let other : IsConeOfNetlist netlist names b = rw found at other_is in
+          one_of_netlist netlist names one other
+      go (Err fault) found =
+          let one : a ≡ Err (sim_of_bench fault) = rw found at is in
+          let other : b ≡ Err (sim_of_bench fault) = rw found at other_is in
+          one ∙ sym other
+
+-- ---- comparisons
+
+-- tests of one fact answer alike
+same_from_fact : {P : Type 0} (a b : Bool) → (IsTrue a ↔ P) → (IsTrue b ↔ P) → a ≡ b
+same_from_fact true true tells other_tells = refl
+same_from_fact true false tells other_tells = sym (other_tells.1 (tells.0 refl))
+same_from_fact false true tells other_tells = tells.1 (other_tells.0 refl)
+same_from_fact false false tells other_tells = refl
+
+one_comparison : (twins : Twins) (name : List ℕ) (horizon : ℕ) (a b : TwinAnswer) →
+    IsComparison twins name horizon a → IsComparison twins name horizon b → twin_text a ≡ twin_text b
+one_comparison twins name horizon a b is other_is =
+    let agree : a.agree ≡ b.agree = same_from_fact a.agree b.agree is.agree other_is.agree in
+    let first : a.first ≡ b.first = is.first ∙ sym other_is.first in
+    let second : a.second ≡ b.second = is.second ∙ sym other_is.second in
+    rw (agree, first, second) refl
+
+one_twin_answer : (twins : Result Twins TwinFault) (name : List ℕ) (horizon : ℕ) (a b : Result Answer ProgramFault) →
+    IsTwinAnswer twins name horizon a → IsTwinAnswer twins name horizon b → a ≡ b
+one_twin_answer (Ok twins) name horizon a b (comparison, is, text) (other, other_is, other_text) =
+    text ∙ ap (λ bytes. Ok (just bytes)) (one_comparison twins name horizon comparison other is other_is) ∙ sym other_text
+one_twin_answer (Err fault) name horizon a b is other_is = is ∙ sym other_is
+
+-- ---- sources
+
+module _ (texts : List ℕ → List ℕ) where
+  abbrev known : KnownTexts
+  known = all_known texts
+
+  -- a file has one text
+  one_text : (file : Option (Bor (List ℕ))) (a b : List ℕ) →
+      IfSome (text_named known file) (λ all. a ≡ all) → IfSome (text_named known file) (λ all. b ≡ all) → a ≡ b
+  one_text None a b is other_is = is ∙ sym other_is
+  one_text (Some name) a b is other_is = is ∙ sym other_is
+
+  module _ (options : SourceOptions) where
+    one_source : (a b : SourceView) → IsSourceOf known options a → IsSourceOf known options b → a ≡ b
+    one_source a b is other_is =
+        let bench : a.bench ≡ b.bench = is.bench ∙ sym other_is.bench in
+        let delays : a.delays ≡ b.delays = one_text options.delays a.delays b.delays is.delays other_is.delays in
+        let stimuli : a.stimuli ≡ b.stimuli = one_text options.stimuli a.stimuli b.stimuli is.stimuli other_is.stimuli in
+        let schedule : is.schedule ≡ other_is.schedule =
+        one_text (schedule_file options.picks) is.schedule other_is.schedule is.scheduled other_is.scheduled in
+        let delay : a.default_delay ≡ b.default_delay = is.delay ∙ sym other_is.delay in
+        let period : a.period ≡ b.period = is.period ∙ sym other_is.period in
+        let picks : a.picks ≡ b.picks = is.picks ∙ ap (picks_of_options options.picks) schedule ∙ sym other_is.picks in
+        λ i. record {
+          bench = bench i;
+          delays = delays i;
+          stimuli = stimuli i;
+          default_delay = delay i;
+          period = period i;
+          picks = picks i;
+        }
+
+    -- what each source fixes is fixed by the options
+    one_for_source : {A : Type 0} (P Q : SourceView → Type 0) (x y : A) → ((source : SourceView) → P source → Q source → x ≡ y) →
+        ForSource known options P → ForSource known options Q → x ≡ y
+    one_for_source P Q x y same (source, is, holds) (other, other_is, other_holds) =
+        same source holds (subst Q (one_source other source other_is is) other_holds)
+
+  -- ---- orders
+
+  one_for_cone : (bench : Bor (List ℕ)) (names : Vec (Bor (List ℕ)) Global) (a b : Result Answer ProgramFault) →
+      IsAnswer known (Cone bench names) a → IsAnswer known (Cone bench names) b → a ≡ b
+  one_for_cone bench names a b (text, read, (found, is, answer)) (other_text, other_read, (other_found, other_is, other_answer)) =
+      let same_text : other_text ≡ text = other_read ∙ sym read in
+      let of_text : IsConeAnswer text (seen_names names.items) other_found =
+      subst (λ (t : List ℕ). IsConeAnswer t (seen_names names.items) other_found) same_text other_is in
+      answer ∙ ap (answered just) (one_cone_answer found other_found text (seen_names names.items) is of_text) ∙ sym other_answer
+
+  pub one_answer : (order : Order) (a b : Result Answer ProgramFault) → IsAnswer known order a → IsAnswer known order b → a ≡ b
+  one_answer (Run options view counts) a b = one_for_source options _ _ a b (λ source is other_is. is ∙ sym other_is)
+  one_answer (Plain options view) a b = one_for_source options _ _ a b (λ source is other_is. is ∙ sym other_is)
+  one_answer (Cone bench names) a b = one_for_cone bench names a b
+  one_answer (Twin first second net horizon) a b =
+      one_for_source first _ _ a b (λ one.
+      one_for_source second _ _ a b (λ other. one_twin_answer (twins_of one other net.now horizon) net.now horizon a b))
+  one_answer (Check options horizon) a b = one_for_source options _ _ a b (λ source is other_is. is ∙ sym other_is)

@@ -1,0 +1,143 @@
+-- The answer to an order, from the texts that were read.
+use Rattle.std.proofs.Common.{◌≡◌, ℕ, Bool, List, Option, Some, None, Result, Err, IfSome, IsOkAnd, Ok, Bor, Vec, unwrap_or, refl, ap, subst, ◌∙◌}
+use Rattle.std.specs.declared.alloc.Global.{Global}
+use Rattle.bench_text.specs.Seen.{seen_names}
+use Rattle.runs.specs.declared.check_run.CheckAnswer.{CheckAnswer}
+use Rattle.runs.specs.declared.fault.SimFault.{SimFault}
+use Rattle.runs.specs.declared.twin_run.TwinAnswer.{TwinAnswer}
+use Rattle.runs.specs.declared.twin_run.TwinFault.{TwinFault}
+use Rattle.runs.specs.declared.view.View.{View}
+use Rattle.runs.specs.Checked.{checked}
+use Rattle.runs.specs.ConeText.{IsConeAnswer}
+use Rattle.runs.specs.Simulated.{RunView, run_of_source, simulated}
+use Rattle.runs.specs.Source.{SourceView, dump_of_source}
+use Rattle.runs.specs.Twins.{IsComparison, Twins, twins_of}
+use Rattle.orders.specs.declared.order.Order.{Order}
+use Rattle.orders.specs.declared.order.Order.TheVariants as orders
+use Rattle.orders.specs.declared.order.PickOptions.{PickOptions}
+use Rattle.orders.specs.declared.order.PickOptions.TheVariants.{Nothing, File, Seeded}
+use Rattle.orders.specs.declared.order.SourceOptions.{SourceOptions}
+use Rattle.orders.specs.declared.program_fault.ProgramFault.{ProgramFault}
+use Rattle.orders.specs.declared.source_texts.SourceTexts.{SourceTexts}
+use Rattle.orders.specs.AnswerText.{check_text, twin_text}
+use Rattle.orders.specs.Options.{IsRead, IsSourceOf, KnownTexts, ReadsSource, picks_of_options, schedule_file, source_from, text_named}
+use Rattle.orders.specs.OrderAnswer.{Answer, ForSource, IsAnswer, IsTwinAnswer, answered, just, with_counts}
+use Rattle.orders.proofs.Cut.{cut, cut_picks, cut_source, dump_of_source-cut, netlist_of-cut, run_of_source-cut, simulated-cut, twins_of-cut}
+
+pub unwrap_or-known : (known : Option (List ℕ)) (other : List ℕ) → IfSome known (λ all. unwrap_or known other ≡ all)
+unwrap_or-known None other = tt
+unwrap_or-known (Some all) other = refl
+
+-- the known texts, and those that were read where they are not known
+module _ (known : KnownTexts) (options : SourceOptions) (texts : SourceTexts) where
+  abbrev schedule_with : List ℕ
+  schedule_with = unwrap_or (text_named known (schedule_file options.picks)) texts.schedule.items
+
+  abbrev source_with : SourceView
+  source_with = record {
+    bench = unwrap_or (known options.bench.now) texts.bench.items;
+    delays = unwrap_or (text_named known options.delays) texts.delays.items;
+    stimuli = unwrap_or (text_named known options.stimuli) texts.stimuli.items;
+    default_delay = options.delay;
+    period = options.period;
+    picks = picks_of_options options.picks schedule_with;
+  }
+
+  IsSourceOf-source_with : IsSourceOf known options source_with
+  IsSourceOf-source_with = record {
+    schedule = schedule_with;
+    bench = unwrap_or-known (known options.bench.now) texts.bench.items;
+    delays = unwrap_or-known (text_named known options.delays) texts.delays.items;
+    stimuli = unwrap_or-known (text_named known options.stimuli) texts.stimuli.items;
+    scheduled = unwrap_or-known (text_named known (schedule_file options.picks)) texts.schedule.items;
+    delay = refl;
+    period = refl;
+    picks = refl;
+  }
+
+picks_of_options-cut : (options : PickOptions) (schedule : List ℕ) → picks_of_options options (cut schedule) ≡ cut_picks (picks_of_options options schedule)
+picks_of_options-cut Nothing schedule = refl
+picks_of_options-cut (File name) schedule = refl
+picks_of_options-cut (Seeded seed picks) schedule = refl
+
+source_from-read : (known : KnownTexts) (options : SourceOptions) (texts : SourceTexts) → ReadsSource known options texts →
+    source_from options texts ≡ cut_source (source_with known options texts)
+source_from-read known options texts read =
+    let picks : picks_of_options options.picks texts.schedule.items ≡ cut_picks (picks_of_options options.picks (schedule_with known options texts)) =
+    ap (picks_of_options options.picks) read.schedule ∙ picks_of_options-cut options.picks (schedule_with known options texts) in
+    λ i. record {
+      bench = read.bench i;
+      delays = read.delays i;
+      stimuli = read.stimuli i;
+      default_delay = options.delay;
+      period = options.period;
+      picks = picks i;
+    }
+
+-- the source that was read is the cut of a source of the options
+module _ (known : KnownTexts) (options : SourceOptions) (texts : SourceTexts) (seen : SourceView) (read : ReadsSource known options texts) (is : seen ≡ source_from options texts) where
+  ForSource-read : (P : SourceView → Type 0) → ((source : SourceView) → seen ≡ cut_source source → P source) → ForSource known options P
+  ForSource-read P holds =
+      let source = source_with known options texts in
+      (source, IsSourceOf-source_with known options texts, holds source (is ∙ source_from-read known options texts read))
+
+  pub IsAnswer-plain : (view : View) → IsAnswer known (orders.Plain options view) (answered just (dump_of_source seen view))
+  IsAnswer-plain view =
+      ForSource-read _ (λ source is_cut. ap (λ s. answered just (dump_of_source s view)) is_cut ∙ ap (answered just) (dump_of_source-cut source view))
+
+  pub IsAnswer-run : (view : View) (counts : Bool) → IsAnswer known (orders.Run options view counts) (answered (with_counts counts) (simulated seen view))
+  IsAnswer-run view counts =
+      ForSource-read _ (λ source is_cut. ap (λ s. answered (with_counts counts) (simulated s view)) is_cut ∙ ap (answered (with_counts counts)) (simulated-cut source view))
+
+  pub IsAnswer-check : (horizon : ℕ) →
+      IsAnswer known (orders.Check options horizon) (answered (λ run. just (check_text (checked run))) (run_of_source seen horizon))
+  IsAnswer-check horizon =
+      ForSource-read _
+      (λ source is_cut. ap (λ s. answered (λ run. just (check_text (checked run))) (run_of_source s horizon)) is_cut
+      ∙ ap (answered (λ run. just (check_text (checked run)))) (run_of_source-cut source horizon))
+
+-- so are the two sources of a twin
+module _ (known : KnownTexts) (first second : SourceOptions) (net : Bor (List ℕ)) (horizon : ℕ) (texts : SourceTexts) (one : SourceView)
+    (read : ReadsSource known first texts) (is : one ≡ source_from first texts)
+    (later : KnownTexts) (stays : later ≡ known) (other_texts : SourceTexts) (other : SourceView)
+    (other_read : ReadsSource later second other_texts) (other_is : other ≡ source_from second other_texts) where
+  pub IsAnswer-twin : (answer : Result Answer ProgramFault) → IsTwinAnswer (twins_of one other net.now horizon) net.now horizon answer →
+      IsAnswer known (orders.Twin first second net horizon) answer
+  IsAnswer-twin answer holds =
+      let other_known : ReadsSource known second other_texts = subst (λ (k : KnownTexts). ReadsSource k second other_texts) stays other_read in
+      ForSource-read known first texts one read is _ (λ source is_cut.
+      ForSource-read known second other_texts other other_known other_is _ (λ other_source other_is_cut.
+      subst (λ twins. IsTwinAnswer twins net.now horizon answer)
+      (ap (λ s. twins_of s other net.now horizon) is_cut ∙ ap (λ s. twins_of (cut_source source) s net.now horizon) other_is_cut
+      ∙ twins_of-cut source other_source net.now horizon)
+      holds))
+
+-- the answer to the cut text is that to the whole
+IsConeAnswer-cut : (text : List ℕ) (names : List (List ℕ)) (answer : Result (List ℕ) SimFault) → IsConeAnswer (cut text) names answer →
+    IsConeAnswer text names answer
+IsConeAnswer-cut text names answer is = rw (← netlist_of-cut text) is
+
+-- the answer to the netlist that was read is that to the order
+pub IsAnswer-cone : (known : KnownTexts) (bench : Bor (List ℕ)) (names : Vec (Bor (List ℕ)) Global) (read bytes : List ℕ) (asked : List (Bor (List ℕ))) →
+    IsRead (known bench.now) read → bytes ≡ read → asked ≡ names.items →
+    (found : Result (List ℕ) SimFault) → IsConeAnswer bytes (seen_names asked) found → IsAnswer known (orders.Cone bench names) (answered just found)
+IsAnswer-cone known bench names read bytes asked is_read is_bytes is_asked found is =
+    let text = unwrap_or (known bench.now) read in
+    let of_names : IsConeAnswer bytes (seen_names names.items) found =
+    subst (λ (list : List (Bor (List ℕ))). IsConeAnswer bytes (seen_names list) found) is_asked is in
+    let of_cut : IsConeAnswer (cut text) (seen_names names.items) found =
+    subst (λ (t : List ℕ). IsConeAnswer t (seen_names names.items) found) (is_bytes ∙ is_read) of_names in
+    (text, unwrap_or-known (known bench.now) read, (found, IsConeAnswer-cut text (seen_names names.items) found of_cut, refl))
+
+-- the lines of a comparison are the answer of the twin
+pub IsTwinAnswer-done : (twins : Result Twins TwinFault) (name : List ℕ) (horizon : ℕ) (comparison : TwinAnswer) →
+    IsOkAnd twins (λ both. IsComparison both name horizon comparison) → IsTwinAnswer twins name horizon (Ok (just (twin_text comparison)))
+IsTwinAnswer-done (Ok both) name horizon comparison is = (comparison, is, refl)
+IsTwinAnswer-done (Err fault) name horizon comparison is = absurd is
+
+-- so are those of a comparison of the two engines
+module _ (known : KnownTexts) (order : Order) where
+  pub IsAnswer-checked : (result : Result RunView SimFault) → IsAnswer known order (answered (λ run. just (check_text (checked run))) result) →
+      (answer : CheckAnswer) → IsOkAnd result (λ run. answer ≡ checked run) → IsAnswer known order (Ok (just (check_text answer)))
+  IsAnswer-checked (Ok run) is answer same = rw same is
+  IsAnswer-checked (Err fault) is answer same = absurd same

@@ -1,0 +1,39 @@
+use Rattle.std.proofs.Common.{Ok, ◌∙◌}
+use Rattle.std.proofs.lemmas.Result.{err_from_is_err_and}
+use Rattle.orders.specs.declared.order.Order.TheVariants as order
+use Rattle.orders.specs.AnswerText.{twin_text}
+use Rattle.orders.specs.OrderAnswer.{just}
+use Rattle.orders.proofs.OrderEnds.{Answered-text, OrderEndsBy-text, OrderEndsBy-twin}
+use Rattle.orders.proofs.OrderTexts.{IsAnswer-twin, IsTwinAnswer-done}
+use Rattle.orders.proofs.order_run.carry_out_twin.Goals as goal
+
+pub returns-in_err-answer-clause-err : goal.returns-in_err-answer-clause-err
+returns-in_err-answer-clause-err g c =
+    let p = err_from_is_err_and c.from_residual-in_err-answer.result c.from_residual-in_err-answer.ensures.1 in
+    let known = g.T.Texts.known c.args.texts.now in
+    let asked = order.Twin c.args.first.now c.args.second.now c.args.net c.args.horizon in
+    rw (p.1, p.2) (OrderEndsBy-twin known asked _ _ c.args.net.now c.args.horizon c.in_err-answer.field-0.0
+    (IsAnswer-twin known c.args.first.now c.args.second.now c.args.net c.args.horizon
+    c.in_ok-one.one _ c.in_ok-one.ensures.ok c.source.ensures _ c.read.ensures.stays c.in_ok-other.other _ c.in_ok-other.ensures.ok c.source-2.ensures)
+    c.in_err-answer.ensures.err)
+
+pub returns-in_err-write_text-clause-err : goal.returns-in_err-write_text-clause-err
+returns-in_err-write_text-clause-err g c =
+    let p = err_from_is_err_and c.from_residual-in_err-write_text.result c.from_residual-in_err-write_text.ensures.1 in
+    let known = g.T.Texts.known c.args.texts.now in
+    let asked = order.Twin c.args.first.now c.args.second.now c.args.net c.args.horizon in
+    let text = twin_text c.in_ok-answer.answer in
+    rw (p.1, p.2) (OrderEndsBy-text known asked text _ (IsAnswer-twin known c.args.first.now c.args.second.now c.args.net c.args.horizon
+    c.in_ok-one.one _ c.in_ok-one.ensures.ok c.source.ensures _ c.read.ensures.stays c.in_ok-other.other _ c.in_ok-other.ensures.ok c.source-2.ensures
+    (Ok (just text)) (IsTwinAnswer-done _ c.args.net.now c.args.horizon c.in_ok-answer.answer c.in_ok-answer.ensures.ok))
+    (c.as_bytes.ensures.value ∙ c.as_str.ensures.value ∙ c.in_ok-text.ensures) _ _ _ c.in_err-write_text.ensures.err)
+
+pub returns-clause-ok : goal.returns-clause-ok
+returns-clause-ok g c =
+    let known = g.T.Texts.known c.args.texts.now in
+    let asked = order.Twin c.args.first.now c.args.second.now c.args.net c.args.horizon in
+    let text = twin_text c.in_ok-answer.answer in
+    Answered-text known asked text _ (IsAnswer-twin known c.args.first.now c.args.second.now c.args.net c.args.horizon
+    c.in_ok-one.one _ c.in_ok-one.ensures.ok c.source.ensures _ c.read.ensures.stays c.in_ok-other.other _ c.in_ok-other.ensures.ok c.source-2.ensures
+    (Ok (just text)) (IsTwinAnswer-done _ c.args.net.now c.args.horizon c.in_ok-answer.answer c.in_ok-answer.ensures.ok))
+    (c.as_bytes.ensures.value ∙ c.as_str.ensures.value ∙ c.in_ok-text.ensures) _ _ c.in_ok-write_text.ensures.ok

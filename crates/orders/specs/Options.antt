@@ -1,0 +1,69 @@
+-- The runs that options ask for.
+use Rattle.std.specs.Prelude.{◌≡◌, ℕ, ◌+◌, List, [], take, unwrap_or, Option, None, Some, IfSome}
+use denote.Ref.{Bor}
+use Rattle.bench_text.specs.Text.{longest_text}
+use Rattle.orders.specs.declared.order.PickOptions.{PickOptions}
+use Rattle.orders.specs.declared.order.PickOptions.TheVariants.{Nothing, File, Seeded}
+use Rattle.orders.specs.declared.order.SourceOptions.{SourceOptions}
+use Rattle.orders.specs.declared.source_texts.SourceTexts.{SourceTexts}
+use Rattle.runs.specs.Events.{PicksView, nothing, text, seeded}
+use Rattle.runs.specs.Source.{SourceView}
+
+-- the text under each name, where it is known
+abbrev pub KnownTexts : Type 0
+KnownTexts = List ℕ → Option (List ℕ)
+
+-- every text is known
+abbrev pub all_known : (List ℕ → List ℕ) → KnownTexts
+all_known texts name = Some (texts name)
+
+-- the text of a file, where it is known; that of no file is empty
+abbrev pub text_named : KnownTexts → Option (Bor (List ℕ)) → Option (List ℕ)
+text_named known None = Some []
+text_named known (Some name) = known name.now
+
+-- the file of a schedule
+abbrev pub schedule_file : PickOptions → Option (Bor (List ℕ))
+schedule_file (File name) = Some name
+schedule_file other = None
+
+-- what is picked: by this text, where a file is named
+abbrev pub picks_of_options : PickOptions → List ℕ → PicksView
+picks_of_options Nothing schedule = nothing
+picks_of_options (File name) schedule = text schedule
+picks_of_options (Seeded seed picks) schedule = seeded seed picks
+
+-- the numbers are those of the options, and the texts those of their files, where they are known
+pub record IsSourceOf (known : KnownTexts) (options : SourceOptions) (source : SourceView) : Type 0 where
+  pub schedule : List ℕ
+  pub bench : IfSome (known options.bench.now) (λ all. source.bench ≡ all)
+  pub delays : IfSome (text_named known options.delays) (λ all. source.delays ≡ all)
+  pub stimuli : IfSome (text_named known options.stimuli) (λ all. source.stimuli ≡ all)
+  pub scheduled : IfSome (text_named known (schedule_file options.picks)) (λ all. schedule ≡ all)
+  pub delay : source.default_delay ≡ options.delay
+  pub period : source.period ≡ options.period
+  pub picks : source.picks ≡ picks_of_options options.picks schedule
+
+-- ---- the reading of the files
+
+-- the text of a file as it is read: whole, or its first 16,777,217 bytes
+abbrev pub IsRead : Option (List ℕ) → List ℕ → Type 0
+IsRead known read = read ≡ take (longest_text + 1) (unwrap_or known read)
+
+-- the texts of the files of the options, each so
+pub record ReadsSource (known : KnownTexts) (options : SourceOptions) (texts : SourceTexts) : Type 0 where
+  pub bench : IsRead (known options.bench.now) texts.bench.items
+  pub delays : IsRead (text_named known options.delays) texts.delays.items
+  pub stimuli : IsRead (text_named known options.stimuli) texts.stimuli.items
+  pub schedule : IsRead (text_named known (schedule_file options.picks)) texts.schedule.items
+
+-- the source of these options and texts
+abbrev pub source_from : SourceOptions → SourceTexts → SourceView
+source_from options texts = record {
+  bench = texts.bench.items;
+  delays = texts.delays.items;
+  stimuli = texts.stimuli.items;
+  default_delay = options.delay;
+  period = options.period;
+  picks = picks_of_options options.picks texts.schedule.items;
+}

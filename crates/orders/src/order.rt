@@ -1,0 +1,116 @@
+//! What the words of the command line ask for.
+ghost use Rattle.std.specs.Prelude.{◌≡◌};
+ghost use Rattle.orders.specs.Options.{schedule_file};
+
+use crate::place::TextNames;
+use runs::{Side, View};
+
+/// The files of a run, by their names, and the numbers that go with them.
+#[derive(Clone, Copy, Debug)]
+pub struct SourceOptions<'a> {
+    /// The file of the netlist, in the .bench notation.
+    pub bench: &'a str,
+    /// The file of the delays of some gates and flip-flops. Without it there are none.
+    pub delays: Option<&'a str>,
+    /// The file of the changes of the inputs. Without it there are none.
+    pub stimuli: Option<&'a str>,
+    /// The delay in ticks of what the delays don't name: 1 to 1,000,000.
+    pub delay: u64,
+    /// The period of all flip-flops in ticks: 1 to 10,000,000.
+    pub period: u64,
+    pub picks: PickOptions<'a>,
+}
+
+/// What picks the events that come before a run completes.
+#[derive(Clone, Copy, Debug)]
+pub enum PickOptions<'a> {
+    /// There are none.
+    Nothing,
+    /// The schedule in the file of this name.
+    File(&'a str),
+    /// A generator of random words.
+    Seeded {
+        seed: u64,
+        /// How many events: at most 10,000,000.
+        picks: u64,
+    },
+}
+
+/// A command with its options. The numbers may be out of their ranges.
+#[derive(Debug, Drop)]
+pub enum Order<'a> {
+    /// Write the dump of a run, by the kernel.
+    Run {
+        source: SourceOptions<'a>,
+        view: View,
+        /// Whether the counts are asked for.
+        counts: bool,
+    },
+    /// Write the dump of a run, by the plain engine. Nothing is picked.
+    Plain {
+        source: SourceOptions<'a>,
+        view: View,
+    },
+    /// Write the nets in the fan-in cones of these names, in the .bench notation.
+    Cone {
+        bench: &'a str,
+        names: Vec<&'a [u8]>,
+    },
+    /// Write whether two runs agree on the fan-in cone of a net, and what the net shows in both.
+    Twin {
+        first: SourceOptions<'a>,
+        second: SourceOptions<'a>,
+        net: &'a [u8],
+        /// The last tick of both runs: at most 10,000,000.
+        horizon: u64,
+    },
+    /// Write for how many nets the kernel and the plain engine give the same waveform.
+    Check {
+        source: SourceOptions<'a>,
+        /// The last tick: at most 10,000,000.
+        horizon: u64,
+    },
+}
+
+impl<'a> Order<'a> {
+    /// What a fault on this side calls the texts: the names of their files. An order of one run
+    /// has that on the first side.
+    pub fn text_names(&self, side: Side) -> TextNames<'a> {
+        match (self, side) {
+            (Order::Run { source, .. }, _) => source.text_names(),
+            (Order::Plain { source, .. }, _) => source.text_names(),
+            (Order::Check { source, .. }, _) => source.text_names(),
+            (Order::Twin { first, .. }, Side::First) => first.text_names(),
+            (Order::Twin { second, .. }, Side::Second) => second.text_names(),
+            (Order::Cone { bench, .. }, _) => TextNames {
+                bench,
+                delays: "delays",
+                stimuli: "stimuli",
+                schedule: "schedule",
+            },
+        }
+    }
+}
+
+impl<'a> SourceOptions<'a> {
+    fn text_names(&self) -> TextNames<'a> {
+        TextNames {
+            bench: self.bench,
+            delays: self.delays.unwrap_or("delays"),
+            stimuli: self.stimuli.unwrap_or("stimuli"),
+            schedule: self.picks.file().unwrap_or("schedule"),
+        }
+    }
+}
+
+impl<'a> PickOptions<'a> {
+    /// The file of the schedule.
+    pub(crate) fn file(&self) -> Option<&'a str>
+        ensures { result ≡ schedule_file self.now }
+    {
+        match self {
+            PickOptions::File(name) => Some(name),
+            PickOptions::Nothing | PickOptions::Seeded { .. } => None,
+        }
+    }
+}

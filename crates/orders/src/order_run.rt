@@ -1,0 +1,158 @@
+//! An order carried out.
+ghost use Rattle.std.specs.Prelude.{◌≡◌, IfErr, IfOk, OnOk, None};
+ghost use Rattle.orders.specs.declared.order.Order.TheVariants as order;
+ghost use Rattle.orders.specs.OrderAnswer.{Answered, OrderEndsBy};
+
+use crate::answer_text::{check_text, twin_text};
+use crate::order::{Order, SourceOptions};
+use crate::output::{flush, write_text};
+use crate::program_fault::ProgramFault;
+use crate::source_texts::{SourceTexts, file_text};
+use crate::texts::Texts;
+use cmb_kernel::Counts;
+use runs::{View, check, cone_text, plain, simulate, twin};
+use std::alloc::Global;
+use std::io::Write;
+
+impl<'a> Order<'a> {
+    /// Reads the order's files, writes its answer and flushes once. Answers the counts at the end of
+    /// the run, where they are asked for.
+    ///
+    /// # Errors
+    /// All files are read, in the order netlist, delays, stimuli, schedule, those of a first run
+    /// before those of a second, before a setting or a text is looked at; where one can't be read, or
+    /// is refused, nothing is written. After a failed write or a want of memory a first part of the
+    /// answer went out, and after a failed flush all of it.
+    pub fn carry_out<T: Texts, W: Write>(
+        &self,
+        alloc: Global,
+        texts: &mut T,
+        out: &mut W,
+    ) -> Result<Option<Counts>, ProgramFault<'a>>
+        ensures ok { IfOk result
+            (Answered (T.known texts.old) self.now (W.contents out.old) (W.contents out.new)) }
+        ensures err { IfErr result
+            (OrderEndsBy (T.known texts.old) self.now (W.contents out.old) (W.contents out.new)) }
+    {
+        match self {
+            Order::Run {
+                source,
+                view,
+                counts,
+            } => carry_out_run(alloc, source, view, *counts, texts, out),
+            Order::Plain { source, view } => carry_out_plain(alloc, source, view, texts, out),
+            Order::Cone { bench, names } => carry_out_cone(alloc, bench, names, texts, out),
+            Order::Twin {
+                first,
+                second,
+                net,
+                horizon,
+            } => carry_out_twin(alloc, first, second, net, *horizon, texts, out),
+            Order::Check { source, horizon } => {
+                carry_out_check(alloc, source, *horizon, texts, out)
+            }
+        }
+    }
+}
+
+fn carry_out_run<'a, T: Texts, W: Write>(
+    alloc: Global,
+    options: &SourceOptions<'a>,
+    view: &View,
+    counts: bool,
+    texts: &mut T,
+    out: &mut W,
+) -> Result<Option<Counts>, ProgramFault<'a>>
+    ensures ok { IfOk result (Answered (T.known texts.old) (order.Run options.now view.now counts)
+        (W.contents out.old) (W.contents out.new)) }
+    ensures err { IfErr result (OrderEndsBy (T.known texts.old) (order.Run options.now view.now counts)
+        (W.contents out.old) (W.contents out.new)) }
+{
+    let read = SourceTexts::read(alloc, options, texts)?;
+    let report = simulate(alloc, &read.source(options), view, out)?;
+    flush(out)?;
+    Ok(counts.then_some(report.total))
+}
+
+fn carry_out_plain<'a, T: Texts, W: Write>(
+    alloc: Global,
+    options: &SourceOptions<'a>,
+    view: &View,
+    texts: &mut T,
+    out: &mut W,
+) -> Result<Option<Counts>, ProgramFault<'a>>
+    ensures ok { IfOk result (Answered (T.known texts.old) (order.Plain options.now view.now)
+        (W.contents out.old) (W.contents out.new)) }
+    ensures err { IfErr result (OrderEndsBy (T.known texts.old) (order.Plain options.now view.now)
+        (W.contents out.old) (W.contents out.new)) }
+{
+    let read = SourceTexts::read(alloc, options, texts)?;
+    plain(alloc, &read.source(options), view, out)?;
+    flush(out)?;
+    Ok(None)
+}
+
+fn carry_out_cone<'a, T: Texts, W: Write>(
+    alloc: Global,
+    bench: &'a str,
+    names: &Vec<&'a [u8]>,
+    texts: &mut T,
+    out: &mut W,
+) -> Result<Option<Counts>, ProgramFault<'a>>
+    ensures ok { IfOk result (Answered (T.known texts.old) (order.Cone bench.entry names.now)
+        (W.contents out.old) (W.contents out.new)) }
+    ensures err { IfErr result (OrderEndsBy (T.known texts.old) (order.Cone bench.entry names.now)
+        (W.contents out.old) (W.contents out.new)) }
+{
+    let read = file_text(alloc, texts, Some(bench))?;
+    let text = cone_text(alloc, read.as_slice(), names.as_slice())?;
+    write_text(out, text.as_slice())?;
+    Ok(None)
+}
+
+fn carry_out_twin<'a, T: Texts, W: Write>(
+    alloc: Global,
+    first: &SourceOptions<'a>,
+    second: &SourceOptions<'a>,
+    net: &'a [u8],
+    horizon: u64,
+    texts: &mut T,
+    out: &mut W,
+) -> Result<Option<Counts>, ProgramFault<'a>>
+    ensures ok { IfOk result (Answered (T.known texts.old) (order.Twin first.now second.now net.entry horizon)
+        (W.contents out.old) (W.contents out.new)) }
+    ensures err { IfErr result (OrderEndsBy (T.known texts.old) (order.Twin first.now second.now net.entry horizon)
+        (W.contents out.old) (W.contents out.new)) }
+{
+    let one = SourceTexts::read(alloc, first, texts)?;
+    let other = SourceTexts::read(alloc, second, texts)?;
+    let answer = twin(
+        alloc,
+        &one.source(first),
+        &other.source(second),
+        net,
+        horizon,
+    )?;
+    let text = twin_text(alloc, &answer)?;
+    write_text(out, text.as_str().as_bytes())?;
+    Ok(None)
+}
+
+fn carry_out_check<'a, T: Texts, W: Write>(
+    alloc: Global,
+    options: &SourceOptions<'a>,
+    horizon: u64,
+    texts: &mut T,
+    out: &mut W,
+) -> Result<Option<Counts>, ProgramFault<'a>>
+    ensures ok { IfOk result (Answered (T.known texts.old) (order.Check options.now horizon)
+        (W.contents out.old) (W.contents out.new)) }
+    ensures err { IfErr result (OrderEndsBy (T.known texts.old) (order.Check options.now horizon)
+        (W.contents out.old) (W.contents out.new)) }
+{
+    let read = SourceTexts::read(alloc, options, texts)?;
+    let answer = check(alloc, &read.source(options), horizon)?;
+    let text = check_text(alloc, &answer)?;
+    write_text(out, text.as_str().as_bytes())?;
+    Ok(None)
+}

@@ -1,0 +1,34 @@
+//! Texts that go out whole.
+ghost use Rattle.std.specs.Prelude.{◌≡◌, IfErr, OnOk};
+ghost use Rattle.std.specs.Io.KnownBytes.{Appends, Keeps};
+ghost use Rattle.orders.specs.Ends.{WriteEndsBy};
+ghost use Rattle.orders.specs.declared.program_fault.ProgramFault.TheVariants.{Flush};
+
+use crate::program_fault::ProgramFault;
+use std::io::Write;
+use vcd_dump::write_all_bytes;
+
+/// Writes a text and flushes once.
+///
+/// # Errors
+/// A failed write, when a first part of the text went out, or a failed flush, when all of it did.
+pub fn write_text<W: Write>(out: &mut W, text: &[u8]) -> Result<(), ProgramFault<'static>>
+    ensures ok { OnOk result (Appends (W.contents out.old) (W.contents out.new) text.now) }
+    ensures err { IfErr result (WriteEndsBy (W.contents out.old) (W.contents out.new) text.now) }
+{
+    match write_all_bytes(out, text) {
+        Ok(()) => flush(out),
+        Err(fault) => Err(ProgramFault::Output(fault)),
+    }
+}
+
+/// Flushes once.
+pub fn flush<W: Write>(out: &mut W) -> Result<(), ProgramFault<'static>>
+    ensures kept { Keeps (W.contents out.old) (W.contents out.new) }
+    ensures err { IfErr result (λ fault. fault ≡ Flush) }
+{
+    match out.flush() {
+        Ok(()) => Ok(()),
+        Err(_) => Err(ProgramFault::Flush),
+    }
+}

@@ -1,0 +1,158 @@
+-- The answer to a source, step by step.
+use Rattle.std.proofs.Common.{◌≡◌, ℕ, List, Result, Ok, Err, refl, ap}
+use Rattle.bench_text.specs.declared.fault.BenchFault.{BenchFault}
+use Rattle.bench_text.specs.declared.fault.BenchFault.TheVariants as bench
+use Rattle.bench_text.specs.Netlist.{NetlistView, netlist_of}
+use Rattle.bench_text.specs.Text.{◌>>=◌}
+use Rattle.design.specs.declared.fault.OptionFault.{OptionFault}
+use Rattle.design.specs.declared.fault.DelayFault.TheVariants as delay
+use Rattle.design.specs.declared.fault.StimulusFault.TheVariants as stimulus
+use Rattle.design.specs.declared.fault.BuildFault.{BuildFault}
+use Rattle.design.specs.declared.fault.BuildFault.TheVariants as build
+use Rattle.design.specs.Design.{DesignView}
+use Rattle.design.specs.Options.{options_of, horizon_of}
+use Rattle.design.specs.Build.{design_of}
+use Rattle.cmb_kernel.specs.declared.event.Event.{Event}
+use Rattle.cmb_kernel.specs.declared.schedule_fault.ScheduleFault.{ScheduleFault}
+use Rattle.cmb_kernel.specs.declared.schedule_fault.ScheduleFault.TheVariants as schedule
+use Rattle.runs.specs.declared.view.View.{View}
+use Rattle.runs.specs.declared.fault.SimFault.{SimFault}
+use Rattle.runs.specs.declared.fault.SimFault.TheVariants.{Setting, Dump, Memory}
+use Rattle.runs.specs.declared.simulation.Report.{Report}
+use Rattle.runs.specs.Events.{events_of_picks}
+use Rattle.runs.specs.Faults.{sim_of_bench, sim_of_build, sim_of_schedule}
+use Rattle.runs.specs.Source.{SourceView, design_of_source, dump_of_source, or_fault, dump_of_design}
+use Rattle.runs.specs.Simulated.{RunView, dump_in, report_of, run_of_source, simulated}
+use Rattle.runs.specs.Ends.{IsRefusal}
+
+module _ {A : Type 0} (answer : Result A SimFault) where
+  -- a fault of the netlist refuses the run, unless it is want of memory
+  pub IsRefusal-bench : (fault : BenchFault) →
+      (¬ ◌≡◌ {A = Result NetlistView BenchFault} (Err fault) (Err bench.Memory) → answer ≡ Err (sim_of_bench fault)) → IsRefusal answer (sim_of_bench fault)
+  IsRefusal-bench bench.Memory refused = tt
+  IsRefusal-bench _ refused = refused (λ e. (cc))
+
+  -- so does a fault of the timing or the stimuli
+  pub IsRefusal-build : (fault : BuildFault) →
+      (¬ ◌≡◌ {A = Result DesignView BuildFault} (Err fault) (Err build.Memory) → answer ≡ Err (sim_of_build fault)) → IsRefusal answer (sim_of_build fault)
+  IsRefusal-build build.Memory refused = tt
+  IsRefusal-build (build.Timing delay.Memory) refused = tt
+  IsRefusal-build (build.Stimulus stimulus.Memory) refused = tt
+  IsRefusal-build (build.Setting fault) refused = refused (λ e. (cc))
+  IsRefusal-build (build.Timing _) refused = refused (λ e. (cc))
+  IsRefusal-build (build.Stimulus _) refused = refused (λ e. (cc))
+
+  -- so does a fault of the schedule
+  pub IsRefusal-schedule : (fault : ScheduleFault) →
+      (¬ ◌≡◌ {A = Result (List Event) ScheduleFault} (Err fault) (Err schedule.Memory) → answer ≡ Err (sim_of_schedule fault)) →
+      IsRefusal answer (sim_of_schedule fault)
+  IsRefusal-schedule schedule.Memory refused = tt
+  IsRefusal-schedule _ refused = refused (λ e. (cc))
+
+-- ---- the design
+
+module _ (source : SourceView) (ticks : ℕ) where
+  pub design_of_source-bad_settings : (fault : OptionFault) → options_of source.default_delay source.period ≡ Err fault →
+      design_of_source source ticks ≡ Err (Setting fault)
+  unfolding design_of_source
+  design_of_source-bad_settings fault bad = rw bad refl
+
+  module _ (settings : Unit {0}) (good : options_of source.default_delay source.period ≡ Ok settings) where
+    pub design_of_source-bad_horizon : (fault : OptionFault) → horizon_of ticks ≡ Err fault → design_of_source source ticks ≡ Err (Setting fault)
+    unfolding design_of_source
+    design_of_source-bad_horizon fault bad = rw (good, bad) refl
+
+    module _ (horizon : ℕ) (end : horizon_of ticks ≡ Ok horizon) where
+      pub design_of_source-bad_bench : (fault : BenchFault) → netlist_of source.bench ≡ Err fault → design_of_source source ticks ≡ Err (sim_of_bench fault)
+      unfolding design_of_source
+      design_of_source-bad_bench fault bad = rw (good, end, bad) refl
+
+      module _ (netlist : NetlistView) (read : netlist_of source.bench ≡ Ok netlist) where
+        pub design_of_source-bad_texts : (fault : BuildFault) →
+            design_of netlist source.delays source.stimuli source.default_delay source.period ≡ Err fault →
+            design_of_source source ticks ≡ Err (sim_of_build fault)
+        unfolding design_of_source
+        design_of_source-bad_texts fault bad = rw (good, end, read, bad) refl
+
+        pub design_of_source-good : (design : DesignView) →
+            design_of netlist source.delays source.stimuli source.default_delay source.period ≡ Ok design →
+            design_of_source source ticks ≡ Ok (horizon, design)
+        unfolding design_of_source
+        design_of_source-good design made = rw (good, end, read, made) refl
+
+-- ---- the run
+
+-- what refuses one answer refuses another that fails where it does
+pub IsRefusal-lifted : {A B : Type 0} (refused : Result A SimFault) (answer : Result B SimFault) (fault : SimFault) →
+    (refused ≡ Err fault → answer ≡ Err fault) → IsRefusal refused fault → IsRefusal answer fault
+IsRefusal-lifted refused answer (Dump fault) lifts refusal = refusal
+IsRefusal-lifted refused answer Memory lifts refusal = tt
+IsRefusal-lifted refused answer _ lifts refusal = lifts refusal
+
+module _ (source : SourceView) (ticks : ℕ) where
+  -- a fault of the design is the answer
+  pub run_of_source-bad : (fault : SimFault) → design_of_source source ticks ≡ Err fault → run_of_source source ticks ≡ Err fault
+  unfolding run_of_source
+  run_of_source-bad fault bad = rw bad refl
+
+  module _ (horizon : ℕ) (design : DesignView) (made : design_of_source source ticks ≡ Ok (horizon, design)) where
+    -- so is a fault of the schedule
+    pub run_of_source-bad_schedule : (fault : ScheduleFault) → events_of_picks design.circuit source.picks ≡ Err fault →
+        run_of_source source ticks ≡ Err (sim_of_schedule fault)
+    unfolding run_of_source
+    run_of_source-bad_schedule fault bad = rw (made, bad) refl
+
+    pub run_of_source-good : (events : List Event) → events_of_picks design.circuit source.picks ≡ Ok events →
+        run_of_source source ticks ≡ Ok (record { horizon = horizon; design = design; events = events })
+    unfolding run_of_source
+    run_of_source-good events picked = rw (made, picked) refl
+
+-- ---- what is made of it
+
+module _ (source : SourceView) (view : View) where
+  -- a fault of the design is the answer
+  pub dump_of_source-bad : (fault : SimFault) → design_of_source source view.horizon ≡ Err fault → dump_of_source source view ≡ Err fault
+  unfolding dump_of_source
+  dump_of_source-bad fault bad = rw bad refl
+
+  pub dump_of_source-good : (horizon : ℕ) (design : DesignView) → design_of_source source view.horizon ≡ Ok (horizon, design) →
+      dump_of_source source view ≡ Ok (dump_of_design view horizon design)
+  unfolding dump_of_source
+  dump_of_source-good horizon design made = rw made refl
+
+  -- a fault of the run is the answer
+  pub simulated-bad : (fault : SimFault) → run_of_source source view.horizon ≡ Err fault → dump_in (simulated source view) ≡ Err fault
+  unfolding simulated
+  simulated-bad fault bad = rw bad refl
+
+  pub simulated-good : (run : RunView) → run_of_source source view.horizon ≡ Ok run →
+      simulated source view ≡ Ok (dump_of_design view run.horizon run.design, report_of run)
+  unfolding simulated
+  simulated-good run made = rw made refl
+
+-- the dump of a run by the kernel is the one that needs no events
+module _ (source : SourceView) (view : View) (text : List ℕ) (report : Report) where
+  abbrev picked : ℕ × DesignView → Result (List Event) SimFault
+  picked ready = or_fault sim_of_schedule (events_of_picks (ready.1).circuit source.picks)
+
+  abbrev run_with : ℕ × DesignView → List Event → RunView
+  run_with ready events = record { horizon = ready.0; design = ready.1; events = events }
+
+  abbrev answer_to : RunView → List ℕ × Report
+  answer_to run = (dump_of_design view run.horizon run.design, report_of run)
+
+  text_is : (ready : ℕ × DesignView) (events : Result (List Event) SimFault) →
+      (events >>= (λ all. Ok (run_with ready all)) >>= λ run. Ok (answer_to run)) ≡ Ok (text, report) →
+      ◌≡◌ {A = Result (List ℕ) SimFault} (Ok (dump_of_design view ready.0 ready.1)) (Ok text)
+  text_is ready (Ok events) is = ap dump_in is
+  text_is ready (Err fault) is = cc
+
+  pub dump_of_source-simulated : simulated source view ≡ Ok (text, report) → dump_of_source source view ≡ Ok text
+  unfolding simulated run_of_source dump_of_source
+  dump_of_source-simulated = go (design_of_source source view.horizon)
+    where
+      go : (made : Result (ℕ × DesignView) SimFault) →
+          (made >>= (λ ready. picked ready >>= λ events. Ok (run_with ready events)) >>= λ run. Ok (answer_to run)) ≡ Ok (text, report) →
+          (made >>= λ ready. Ok (dump_of_design view ready.0 ready.1)) ≡ Ok text
+      go (Ok ready) is = text_is ready (picked ready) is
+      go (Err fault) is = cc

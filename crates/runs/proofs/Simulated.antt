@@ -1,0 +1,111 @@
+-- What a run by the kernel reaches.
+use Rattle.std.proofs.Common.{◌≡◌, ℕ, zero, suc, ◌+◌, ◌≤◌, Bool, true, false, cond, List, [], ◌∷◌, length, map, Option, None, Some, All, Result, Err, refl, sym, ap, ◌∙◌, arith}
+use Rattle.std.specs.Prelude.{slice_index_or}
+use Rattle.std.proofs.lemmas.Bool.{lt-ltb, le-ltb}
+use Rattle.std.proofs.lemmas.List.Elements.{All-head, All-tail}
+use Rattle.std.proofs.lemmas.Option.{get_or_from_slice_get}
+use Rattle.logic3.specs.Wave.{wave_of}
+use Rattle.design.specs.Circuit.{Circuit, pin_count}
+use Rattle.design.specs.Equations.{value_of}
+use Rattle.cmb_channels.specs.declared.message.Message.{Message}
+use Rattle.cmb_channels.proofs.CallerLemmas.{view_at}
+use Rattle.gate_process.specs.Step.{ProcessState}
+use Rattle.cmb_kernel.specs.declared.event.Event.{Event}
+use Rattle.cmb_kernel.specs.declared.event.Event.TheVariants.{Deliver, Advance}
+use Rattle.cmb_kernel.specs.declared.fault.KernelFault.{KernelFault}
+use Rattle.cmb_kernel.specs.declared.fault.KernelFault.TheVariants as kernel
+use Rattle.cmb_kernel.specs.Refusals.{answer, first_fault, list_fault, refusal}
+use Rattle.cmb_kernel.specs.Schedule.{most_events}
+use Rattle.cmb_kernel.specs.Sound.{Exists, IsSound}
+use Rattle.cmb_kernel.specs.State.{KernelView, State, IsComplete, fresh, frontier_at, is_complete, most_rounds, started}
+use Rattle.cmb_kernel.specs.Step.{after_deliver, completed_within, round_events, round_of, step, steps}
+use Rattle.cmb_kernel.proofs.CallerLemmas.{net_count, get_below}
+use Rattle.runs.specs.Shown.{waves_up_to}
+use Rattle.runs.specs.Simulated.{IsKnown, RunView, report_of, reported}
+
+-- ---- no event of a schedule is refused
+
+first_fault-exist : (circuit : Circuit) (at : ℕ) (events : List Event) → All (Exists circuit) events → first_fault circuit at events ≡ None
+first_fault-exist circuit at [] exist = refl
+first_fault-exist circuit at (Deliver pin ∷ events) exist =
+    rw (lt-ltb pin (pin_count circuit) (All-head (Exists circuit) (Deliver pin) events exist))
+    (first_fault-exist circuit (at + 1) events (All-tail (Exists circuit) (Deliver pin) events exist))
+first_fault-exist circuit at (Advance net ∷ events) exist =
+    rw (lt-ltb net (length circuit) (All-head (Exists circuit) (Advance net) events exist))
+    (first_fault-exist circuit (at + 1) events (All-tail (Exists circuit) (Advance net) events exist))
+
+pub unrefused : (run : KernelView) (events : List Event) → run.failed ≡ false → All (Exists run.circuit) events → length events ≤ most_events →
+    refusal run (list_fault run.circuit events) ≡ None
+unrefused run events running exist few = rw (running, le-ltb most_events (length events) few) (first_fault-exist run.circuit 0 events exist)
+
+unsaid : (fault : KernelFault) (refused : Option KernelFault) → refused ≡ None →
+    ◌≡◌ {A = Result (Unit {0}) KernelFault} (Err fault) (answer refused tt) → ⊥
+unsaid fault None none said = cc
+unsaid fault (Some other) none said = cc
+
+-- so only memory can want
+pub memory_wants : (fault : KernelFault) (refused : Option KernelFault) → refused ≡ None →
+    (¬ ◌≡◌ {A = Result (Unit {0}) KernelFault} (Err fault) (Err kernel.Memory) →
+    ◌≡◌ {A = Result (Unit {0}) KernelFault} (Err fault) (answer refused tt)) → fault ≡ kernel.Memory
+memory_wants kernel.Memory refused none told = refl
+memory_wants _ refused none told = absurd (unsaid _ refused none (told (λ e. (cc))))
+
+-- ---- a complete run is known to its end
+
+pub IsKnown-complete : (run : KernelView) → IsSound run.circuit run.end run.state → IsComplete run.state → IsKnown run
+IsKnown-complete run sound complete net below =
+    let count = net_count run.circuit run.end run.state sound in
+    let process = get_below run.state.processes net (omega arith) in
+    let is : frontier_at run.state net ≡ (process.0).known.frontier =
+    view_at (λ (p : ProcessState). p.known.frontier) run.state.processes net process.0 process.1 in
+    let same = get_or_from_slice_get run.state.processes net process.0 process.0 process.1 in
+    let done = complete net process.0 (omega arith) in
+    is ∙ sym (ap (λ (p : ProcessState). p.known.frontier) same) ∙ done ∙ ap (λ (p : ProcessState). p.end) same
+    ∙ sound.ends net process.0 process.1
+
+-- ---- the rounds
+
+after_deliver_rounds : (state : State) (pin : ℕ) (messages : List Message) → (after_deliver state pin messages).counts.rounds ≡ state.counts.rounds
+after_deliver_rounds state pin [] = refl
+after_deliver_rounds state pin (message ∷ messages) = refl
+
+-- events are no rounds
+steps_rounds : (state : State) (events : List Event) → (steps state events).counts.rounds ≡ state.counts.rounds
+steps_rounds state [] = refl
+steps_rounds state (Deliver pin ∷ events) =
+    steps_rounds (step state (Deliver pin)) events ∙ after_deliver_rounds state pin (slice_index_or state.lists pin [])
+steps_rounds state (Advance net ∷ events) = steps_rounds (step state (Advance net)) events
+
+completed_rounds : (count : ℕ) (state : State) → (completed_within count state).counts.rounds ≤ state.counts.rounds + count
+completed_rounds zero state = omega arith
+completed_rounds (suc count) state = go (is_complete state) (completed_rounds count (round_of state))
+  where
+    go : (complete : Bool) → (completed_within count (round_of state)).counts.rounds ≤ (round_of state).counts.rounds + count →
+        (cond complete state (completed_within count (round_of state))).counts.rounds ≤ state.counts.rounds + suc count
+    go true rest = omega arith
+    go false rest = let same = steps_rounds state (round_events state) in omega arith
+
+pub few_rounds : (run : RunView) → (report_of run).total.rounds ≤ most_rounds (run.horizon + 1) run.design.circuit
+unfolding report_of
+few_rounds run =
+    let start = started run.design.circuit (run.horizon + 1) in
+    let none = steps_rounds start run.events in
+    let some = completed_rounds (most_rounds (run.horizon + 1) run.design.circuit) (steps start run.events) in
+    omega arith
+
+-- ---- the report
+
+-- a fresh kernel's report is the run's
+pub report_of-fresh : (run : RunView) (start : KernelView) (events : List Event) → start ≡ fresh run.design.circuit (run.horizon + 1) → events ≡ run.events →
+    reported start.end start.circuit (steps start.state events) ≡ report_of run
+unfolding report_of
+report_of-fresh run start events is are =
+    ap (λ (r : KernelView). reported r.end r.circuit (steps r.state events)) is
+    ∙ ap (λ es. reported (run.horizon + 1) run.design.circuit (steps (started run.design.circuit (run.horizon + 1)) es)) are
+
+-- what a run's kernel knows at its end are the waveforms up to the horizon
+pub waves_up_to-known : (run : RunView) (kernel : KernelView) → kernel.circuit ≡ run.design.circuit → kernel.end ≡ run.horizon + 1 → (nets : List ℕ) →
+    map (λ net. wave_of (value_of kernel.circuit net) 0 kernel.end) nets ≡ waves_up_to run.design.circuit run.horizon nets
+waves_up_to-known run kernel circuit end nets =
+    ap (λ c. map (λ net. wave_of (value_of c net) 0 kernel.end) nets) circuit
+    ∙ ap (λ to. map (λ net. wave_of (value_of run.design.circuit net) 0 to) nets) end

@@ -1,0 +1,135 @@
+-- Two runs, step by step, and what they show of one net.
+use Rattle.std.proofs.Common.{◌≡◌, ℕ, ◌+◌, ◌<◌, ◌↔◌, Bool, false, IsTrue, List, [], ◌∷◌, length, Option, None, Some, IsSome, IfSome, Result, Ok, Err, refl, sym, ap, subst, ◌∙◌, arith, true≢false}
+use Rattle.std.specs.Option.{ok_or, unwrap_or}
+use Rattle.logic3.specs.Wave.{wave_of}
+use Rattle.logic3.proofs.CallerLemmas.{wave_of_iff}
+use Rattle.bench_text.specs.Netlist.{net_named}
+use Rattle.design.specs.Design.{DesignView}
+use Rattle.design.specs.Equations.{value_of}
+use Rattle.design.proofs.CallerLemmas.{net_at-named}
+use Rattle.fanin_cone.specs.Agreement.{AgreesOn, net_of}
+use Rattle.fanin_cone.specs.Cone.{InCone, start}
+use Rattle.runs.specs.declared.fault.SimFault.{SimFault}
+use Rattle.runs.specs.declared.fault.SimFault.TheVariants.{UnknownNet, Dump, Memory}
+use Rattle.runs.specs.declared.twin_run.Side.{Side}
+use Rattle.runs.specs.declared.twin_run.Side.TheVariants.{First, Second}
+use Rattle.runs.specs.declared.twin_run.TwinAnswer.{TwinAnswer}
+use Rattle.runs.specs.declared.twin_run.TwinFault.{TwinFault}
+use Rattle.runs.specs.Ends.{IsRefusal}
+use Rattle.runs.specs.Source.{SourceView}
+use Rattle.runs.specs.Simulated.{RunView, run_of_source}
+use Rattle.runs.specs.Twins.{IsComparison, IsTwinRefusal, Twins, net_or_unknown, on, twins_of}
+use Rattle.runs.proofs.Isolated.{same_values}
+use Rattle.runs.proofs.Nets.{length-circuit}
+use Rattle.runs.proofs.Runs.{ready_of_run}
+
+-- ---- refusals
+
+module _ (answer : Result Twins TwinFault) where
+  -- a side has no net of the name
+  pub IsTwinRefusal-net : (side : Side) (fault : TwinFault) → fault.side ≡ side → (found : Option ℕ) → ok_or found UnknownNet ≡ Err fault.fault →
+      answer ≡ Err (on side fault.fault) → IsTwinRefusal answer fault
+  IsTwinRefusal-net side fault on_side found lacks is = rw on_side (go fault.fault found lacks is)
+    where
+      go : (why : SimFault) (found : Option ℕ) → ok_or found UnknownNet ≡ Err why → answer ≡ Err (on side why) → IsTwinRefusal answer (on side why)
+      go (Dump other) None lacks is = cc
+      go (Dump other) (Some net) lacks is = cc
+      go Memory found lacks is = tt
+      go _ found lacks is = is
+
+  -- what refuses a side's run
+  pub IsTwinRefusal-lifted : {A : Type 0} (refused : Result A SimFault) (side : Side) (fault : TwinFault) → fault.side ≡ side →
+      ((why : SimFault) → refused ≡ Err why → answer ≡ Err (on side why)) → IsRefusal refused fault.fault → IsTwinRefusal answer fault
+  IsTwinRefusal-lifted refused side fault on_side lifts refusal = rw on_side (go fault.fault refusal)
+    where
+      go : (why : SimFault) → IsRefusal refused why → IsTwinRefusal answer (on side why)
+      go (Dump other) refusal = absurd refusal
+      go Memory refusal = tt
+      go _ refusal = lifts _ refusal
+
+module _ (first second : SourceView) (name : List ℕ) (horizon : ℕ) where
+  pub twins_of-bad_first : (fault : SimFault) → run_of_source first horizon ≡ Err fault → twins_of first second name horizon ≡ Err (on First fault)
+  unfolding twins_of
+  twins_of-bad_first fault bad = rw bad refl
+
+  module _ (one : RunView) (made_one : run_of_source first horizon ≡ Ok one) where
+    pub twins_of-bad_second : (fault : SimFault) → run_of_source second horizon ≡ Err fault → twins_of first second name horizon ≡ Err (on Second fault)
+    unfolding twins_of
+    twins_of-bad_second fault bad = rw (made_one, bad) refl
+
+    module _ (other : RunView) (made_other : run_of_source second horizon ≡ Ok other) where
+      pub twins_of-bad_net : (fault : SimFault) → net_or_unknown one.design name ≡ Err fault → twins_of first second name horizon ≡ Err (on First fault)
+      unfolding twins_of
+      twins_of-bad_net fault bad = rw (made_one, made_other, bad) refl
+
+      module _ (net : ℕ) (found : net_or_unknown one.design name ≡ Ok net) where
+        pub twins_of-bad_other_net : (fault : SimFault) → net_or_unknown other.design name ≡ Err fault →
+            twins_of first second name horizon ≡ Err (on Second fault)
+        unfolding twins_of
+        twins_of-bad_other_net fault bad = rw (made_one, made_other, found, bad) refl
+
+        pub twins_of-good : (other_net : ℕ) → net_or_unknown other.design name ≡ Ok other_net →
+            twins_of first second name horizon ≡ Ok (record { first = one; second = other; net = net; other_net = other_net })
+        unfolding twins_of
+        twins_of-good other_net other_found = rw (made_one, made_other, found, other_found) refl
+
+-- ---- the net
+
+named : (found : Option ℕ) (net : ℕ) → ok_or found UnknownNet ≡ Ok net → found ≡ Some net
+named (Some other) net is = cc
+named None net is = cc
+
+-- a net that was found is one of the circuit's
+pub below_circuit : (source : SourceView) (horizon : ℕ) (run : RunView) (name : List ℕ) (net : ℕ) → run_of_source source horizon ≡ Ok run →
+    net_or_unknown run.design name ≡ Ok net → net < length run.design.circuit
+below_circuit source horizon run name net accepted found =
+    let at = net_at-named run.design.netlist name net (named (net_named run.design.netlist name) net found) in
+    let same = length-circuit run.design (ready_of_run source horizon run accepted).design in
+    omega (arith, at.0, same)
+
+-- ---- agreement
+
+-- whether designs agree on a net's cone, by the call that tells it where both have the net; where one lacks it they don't
+pub agrees_iff : (a b : DesignView) (name : List ℕ) (horizon : ℕ) (answer : Option Bool) →
+    (IsSome answer ↔ (IsSome (net_of a name) × IsSome (net_of b name))) →
+    IfSome answer (λ agrees. IsTrue agrees ↔ AgreesOn a b (InCone a.netlist (name ∷ [])) horizon) →
+    IsTrue (unwrap_or answer false) ↔ AgreesOn a b (InCone a.netlist (name ∷ [])) horizon
+agrees_iff a b name horizon (Some agrees) found told = told
+agrees_iff a b name horizon None found told = (
+  λ never. absurd (true≢false (sym never)),
+  λ agree.
+      let at = agree name (start name (0, omega arith, refl)) in
+      absurd (true≢false (sym (found.1 (rw at.first refl, rw at.second refl)))),
+)
+
+-- ---- the comparison
+
+module _ (first second : SourceView) (horizon : ℕ) (one other : RunView) (name : List ℕ) (net other_net : ℕ)
+    (made_one : run_of_source first horizon ≡ Ok one) (made_other : run_of_source second horizon ≡ Ok other) (answer : TwinAnswer) where
+  abbrev twins : Twins
+  twins = record { first = one; second = other; net = net; other_net = other_net }
+
+  -- both runs end at the horizon that was asked for
+  pub IsComparison-made : (IsTrue answer.agree ↔ AgreesOn one.design other.design (InCone one.design.netlist (name ∷ [])) one.horizon) →
+      answer.first ≡ wave_of (value_of one.design.circuit net) 0 (one.horizon + 1) →
+      answer.second ≡ wave_of (value_of other.design.circuit other_net) 0 (other.horizon + 1) → IsComparison twins name horizon answer
+  IsComparison-made agree first_is second_is =
+      let at_one = (ready_of_run first horizon one made_one).horizon in
+      let at_other = (ready_of_run second horizon other made_other).horizon in
+      record {
+        agree = subst (λ ticks. IsTrue answer.agree ↔ AgreesOn one.design other.design (InCone one.design.netlist (name ∷ [])) ticks) at_one agree;
+        first = first_is ∙ ap (λ ticks. wave_of (value_of one.design.circuit net) 0 (ticks + 1)) at_one;
+        second = second_is ∙ ap (λ ticks. wave_of (value_of other.design.circuit other_net) 0 (ticks + 1)) at_other;
+      }
+
+  -- runs that agree on a net's cone show the same for it
+  pub same_waves : net_or_unknown one.design name ≡ Ok net → net_or_unknown other.design name ≡ Ok other_net → IsComparison twins name horizon answer →
+      IsTrue answer.agree → answer.first ≡ answer.second
+  same_waves found other_found compared agrees =
+      let f = value_of one.design.circuit net in
+      let g = value_of other.design.circuit other_net in
+      let same : (tick : ℕ) → tick < horizon + 1 → f tick ≡ g tick =
+      λ tick due. same_values one.design other.design (ready_of_run first horizon one made_one).design (ready_of_run second horizon other made_other).design
+      name net other_net horizon (compared.agree.0 agrees)
+      (named (net_named one.design.netlist name) net found) (named (net_named other.design.netlist name) other_net other_found) tick (omega arith) in
+      compared.first ∙ (wave_of_iff f g (horizon + 1)).1 same ∙ sym compared.second

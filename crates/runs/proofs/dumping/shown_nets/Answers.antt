@@ -1,0 +1,12 @@
+use Rattle.std.proofs.Common.{◌≡◌, IfOk, refl, arith}
+use Rattle.std.specs.List.{range_with_len}
+use Rattle.std.proofs.lemmas.Iterator.{items_from_collect, YieldsList-from_range}
+use Rattle.runs.proofs.Nets.{length-circuit}
+use Rattle.runs.proofs.dumping.shown_nets.Goals as goal
+
+pub returns-in-All-clause-nets : goal.returns-in-All-clause-nets
+returns-in-All-clause-nets c =
+    let nets = c.nets-nets.result in
+    let all : IfOk c.collect.result (λ nets. nets.items ≡ range_with_len 0 c.nets-nets.result) =
+    items_from_collect c.collect.result c.collect.ensures.ran (YieldsList-from_range 0 nets nets refl (omega arith)) in
+    rw (c.in-All.is, ← length-circuit c.args.design.now c.nets-nets.ensures.well_formed, ← c.nets-nets.ensures.count) all

@@ -1,0 +1,5 @@
+use Rattle.runs.proofs.Viewed.{ShowsValues-dump_of_source}
+use Rattle.runs.proofs.laws.dump_shows_values.Goals as goal
+
+pub returns : goal.returns
+returns c = ShowsValues-dump_of_source

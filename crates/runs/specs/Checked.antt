@@ -1,0 +1,13 @@
+-- What the comparison of the two engines answers.
+use Rattle.std.specs.Prelude.{length}
+use Rattle.design.specs.Circuit.{pin_count}
+use Rattle.runs.specs.declared.check_run.CheckAnswer.{CheckAnswer}
+use Rattle.runs.specs.Simulated.{RunView}
+
+-- the engines give each net the same waveform
+abbrev pub checked : RunView → CheckAnswer
+checked run = record {
+  nets = length run.design.circuit;
+  pins = pin_count run.design.circuit;
+  same = length run.design.circuit;
+}

@@ -1,0 +1,11 @@
+pub mod Checked
+pub mod ConeText
+pub mod Ends
+pub mod Events
+pub mod Faults
+pub mod Isolation
+pub mod Shown
+pub mod Simulated
+pub mod Source
+pub mod Twins
+pub mod Viewed

@@ -1,0 +1,73 @@
+-- Whole runs: the answer to texts and settings, composed of the definitions below.
+use Rattle.std.specs.Prelude.{ℕ, List, map, length, Result, Ok}
+use Rattle.std.specs.List.{range_with_len}
+use Rattle.std.specs.Result.{result_map_both}
+use Rattle.logic3.specs.declared.value.Value.{Value}
+use Rattle.bench_text.specs.Text.{◌>>=◌}
+use Rattle.bench_text.specs.Netlist.{NetlistView, netlist_of}
+use Rattle.design.specs.Options.{options_of, horizon_of}
+use Rattle.design.specs.Circuit.{Circuit}
+use Rattle.design.specs.Design.{DesignView}
+use Rattle.design.specs.Build.{design_of}
+use Rattle.design.specs.Equations.{value_of}
+use Rattle.vcd_dump.specs.Dump.{dump_text}
+use Rattle.vcd_dump.specs.Traces.{name_of}
+use Rattle.runs.specs.declared.source.Source.{Source}
+use Rattle.runs.specs.declared.view.View.{View}
+use Rattle.runs.specs.declared.view.Show.{Show}
+use Rattle.runs.specs.declared.view.Show.TheVariants.{All, Outputs}
+use Rattle.runs.specs.declared.fault.SimFault.{SimFault}
+use Rattle.runs.specs.declared.fault.SimFault.TheVariants.{Setting}
+use Rattle.runs.specs.Faults.{sim_of_bench, sim_of_build}
+use Rattle.runs.specs.Events.{PicksView, seen_picks}
+
+-- the texts and settings of a run, and what picks its events
+pub record SourceView : Type 0 where
+  pub bench : List ℕ
+  pub delays : List ℕ
+  pub stimuli : List ℕ
+  pub default_delay : ℕ
+  pub period : ℕ
+  pub picks : PicksView
+
+abbrev pub seen_source : Source → SourceView
+seen_source s = record {
+  bench = s.bench.now;
+  delays = s.delays.now;
+  stimuli = s.stimuli.now;
+  default_delay = s.default_delay;
+  period = s.period;
+  picks = seen_picks s.picks;
+}
+
+-- the numbers of the nets that a dump shows, in its order
+abbrev pub shown_nets : Show → NetlistView → List ℕ
+shown_nets All netlist = range_with_len 0 (length netlist.nets)
+shown_nets Outputs netlist = netlist.outputs
+
+-- the names of nets, each with what the net shows at each tick
+abbrev pub signals_of : Circuit → List ℕ → List (List ℕ × (ℕ → Value))
+signals_of circuit nets = map (λ net. (name_of circuit net, value_of circuit net)) nets
+
+-- the dump of a design up to a horizon
+unfoldable pub dump_of_design : View → ℕ → DesignView → List ℕ
+dump_of_design view horizon design = dump_text view.unit horizon (signals_of design.circuit (shown_nets view.show design.netlist))
+
+-- the same value, or the fault as another
+abbrev pub or_fault : {A F G : Type 0} → (F → G) → Result A F → Result A G
+or_fault lifted result = result_map_both (λ value. value) lifted result
+
+-- the horizon and the design that settings and texts make, or the first fault
+unfoldable pub design_of_source : SourceView → ℕ → Result (ℕ × DesignView) SimFault
+design_of_source source ticks = do
+  settings ← or_fault Setting (options_of source.default_delay source.period)
+  horizon ← or_fault Setting (horizon_of ticks)
+  netlist ← or_fault sim_of_bench (netlist_of source.bench)
+  design ← or_fault sim_of_build (design_of netlist source.delays source.stimuli source.default_delay source.period)
+  Ok (horizon, design)
+
+-- the answer to texts and settings: the dump, or the first fault
+unfoldable pub dump_of_source : SourceView → View → Result (List ℕ) SimFault
+dump_of_source source view = do
+  ready ← design_of_source source view.horizon
+  Ok (dump_of_design view ready.0 ready.1)

@@ -1,0 +1,58 @@
+-- Two runs to one horizon, and what they show of one net.
+use Rattle.std.specs.Prelude.{◌≡◌, ℕ, ◌+◌, ◌↔◌, IsTrue, List, [], ◌∷◌, Result, Ok, Err}
+use Rattle.std.specs.Option.{ok_or}
+use Rattle.logic3.specs.Wave.{wave_of}
+use Rattle.bench_text.specs.Text.{◌>>=◌}
+use Rattle.bench_text.specs.Netlist.{net_named}
+use Rattle.design.specs.Design.{DesignView}
+use Rattle.design.specs.Equations.{value_of}
+use Rattle.fanin_cone.specs.Agreement.{AgreesOn}
+use Rattle.fanin_cone.specs.Cone.{InCone}
+use Rattle.runs.specs.declared.fault.SimFault.{SimFault}
+use Rattle.runs.specs.declared.fault.SimFault.TheVariants.{UnknownNet, Dump, Memory}
+use Rattle.runs.specs.declared.twin_run.Side.{Side}
+use Rattle.runs.specs.declared.twin_run.Side.TheVariants.{First, Second}
+use Rattle.runs.specs.declared.twin_run.TwinAnswer.{TwinAnswer}
+use Rattle.runs.specs.declared.twin_run.TwinFault.{TwinFault}
+use Rattle.runs.specs.Source.{SourceView, or_fault}
+use Rattle.runs.specs.Simulated.{RunView, run_of_source}
+
+-- the fault of a side
+abbrev pub on : Side → SimFault → TwinFault
+on side fault = record { side = side; fault = fault }
+
+-- the number of the net of a name
+abbrev pub net_or_unknown : DesignView → List ℕ → Result ℕ SimFault
+net_or_unknown design name = ok_or (net_named design.netlist name) UnknownNet
+
+-- two runs, and the number that the net of a name has in each
+pub record Twins : Type 0 where
+  pub first : RunView
+  pub second : RunView
+  pub net : ℕ
+  pub other_net : ℕ
+
+-- the runs of two sources and the numbers of a net, or the first fault: the first source comes before the second, and the sources before the name
+unfoldable pub twins_of : SourceView → SourceView → List ℕ → ℕ → Result Twins TwinFault
+twins_of first second name horizon = do
+  one ← or_fault (on First) (run_of_source first horizon)
+  other ← or_fault (on Second) (run_of_source second horizon)
+  net ← or_fault (on First) (net_or_unknown one.design name)
+  other_net ← or_fault (on Second) (net_or_unknown other.design name)
+  Ok (record { first = one; second = other; net = net; other_net = other_net })
+
+-- whether the runs agree on the fan-in cone of the net, and what its equations give it in both, up to the horizon
+pub record IsComparison (twins : Twins) (name : List ℕ) (horizon : ℕ) (answer : TwinAnswer) : Type 0 where
+  pub agree : IsTrue answer.agree
+      ↔ AgreesOn twins.first.design twins.second.design (InCone twins.first.design.netlist (name ∷ [])) horizon
+  pub first : answer.first ≡ wave_of (value_of twins.first.design.circuit twins.net) 0 (horizon + 1)
+  pub second : answer.second ≡ wave_of (value_of twins.second.design.circuit twins.other_net) 0 (horizon + 1)
+
+-- before a byte is written: the fault is the answer, unless memory was wanting
+abbrev pub IsTwinRefusal : Result Twins TwinFault → TwinFault → Type 0
+IsTwinRefusal answer fault = refused fault.side fault.fault
+  where
+    refused : Side → SimFault → Type 0
+    refused side (Dump fault) = ⊥
+    refused side Memory = Unit {0}
+    refused side fault = answer ≡ Err (on side fault)

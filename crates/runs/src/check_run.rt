@@ -1,0 +1,68 @@
+//! The kernel and the plain engine, compared.
+ghost use Rattle.std.specs.Prelude.{◌≡◌, ◌<◌, ◌^◌, length, map, IfErr, IfOk, IsOkAnd, false};
+ghost use Rattle.std.specs.List.{range_with_len};
+ghost use Rattle.logic3.specs.Wave.{wave_of};
+ghost use Rattle.design.specs.Equations.{value_of};
+ghost use Rattle.runs.specs.Checked.{checked};
+ghost use Rattle.runs.specs.Ends.{IsRefusal};
+ghost use Rattle.runs.specs.Source.{seen_source};
+ghost use Rattle.runs.specs.Simulated.{IsKnown, run_of_source};
+
+use crate::fault::SimFault;
+use crate::preparation::prepare_run;
+use crate::simulation::complete;
+use crate::source::Source;
+use cmb_channels::Queues;
+use cmb_kernel::Kernel;
+use design::plain_waves;
+use logic3::Waveform;
+use std::alloc::Global;
+
+/// How a run by the kernel compares with one by the plain engine.
+#[derive(Clone, Copy, Debug, PartialEq, Eq)]
+pub struct CheckAnswer {
+    /// How many nets there are.
+    pub nets: u32,
+    /// How many pins they have.
+    pub pins: u32,
+    /// For how many nets the two engines give the same waveform: for all of them.
+    pub same: u32,
+}
+
+/// Runs a source by the kernel and by the plain engine, and counts the nets for which they give the
+/// same waveform up to the horizon. These are all nets; this call goes and looks.
+///
+/// # Errors
+/// A refusal of the source.
+pub fn check(alloc: Global, source: &Source<'_>, horizon: u64) -> Result<CheckAnswer, SimFault>
+    ensures ok { IfOk result (λ answer. IsOkAnd (run_of_source (seen_source source.now) horizon)
+        (λ run. answer ≡ checked run)) }
+    ensures err { IfErr result (IsRefusal (run_of_source (seen_source source.now) horizon)) }
+{
+    let run = prepare_run(alloc, source, horizon)?;
+    let (kernel, _report) = complete(alloc, &run)?;
+    let waves = plain_waves(alloc, &run.design, run.horizon)?;
+    Ok(CheckAnswer {
+        nets: run.design.nets(),
+        pins: run.design.pins(),
+        same: same_waves(&kernel, waves.as_slice()),
+    })
+}
+
+/// For how many nets the kernel gives the same waveform.
+fn same_waves(kernel: &Kernel<'_, Queues>, waves: &[Waveform]) -> u32
+    requires running { kernel.now.failed ≡ false }
+    requires known { IsKnown kernel.now }
+    requires few { length kernel.now.circuit < 2 ^ 32 }
+    requires waves { waves.now ≡ map (λ net. wave_of (value_of kernel.now.circuit net) 0 kernel.now.end)
+        (range_with_len 0 (length kernel.now.circuit)) }
+    ensures { result ≡ length kernel.now.circuit }
+{
+    let mut same = 0;
+    for (net, wave) in waves.iter().enumerate() {
+        if kernel.waveform(net as u32) == wave {
+            same += 1;
+        }
+    }
+    same
+}

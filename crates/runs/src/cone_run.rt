@@ -1,0 +1,28 @@
+//! The nets in fan-in cones, as a text of their own.
+ghost use Rattle.std.specs.Prelude.{◌≡◌, ◌≢◌};
+ghost use Rattle.std.specs.Result.{result_map_both};
+ghost use Rattle.bench_text.specs.Seen.{seen_names};
+ghost use Rattle.runs.specs.ConeText.{IsConeAnswer};
+
+use crate::fault::SimFault;
+use bench_text::{BenchFault, read, write};
+use fanin_cone::extract;
+use std::alloc::Global;
+
+/// The canonical .bench text of the nets in the fan-in cones of the nets of these names, in their
+/// old order, whose outputs are the nets of these names, each where its name stands first.
+///
+/// # Errors
+/// [`SimFault::Bench`] where the netlist is refused, where there is no name (`NoNets`), and where the
+/// text would be too long (`TooLong`); [`SimFault::UnknownNet`] where no net has one of the names.
+pub fn cone_text(alloc: Global, bench: &[u8], names: &[&[u8]]) -> Result<Vec<u8>, SimFault>
+    ensures { result ≢ Err SimFault.Memory → IsConeAnswer bench.now (seen_names names.now)
+        (result_map_both (λ text. text.items) (λ fault. fault) result) }
+{
+    let netlist = read(alloc, bench)?;
+    if names.is_empty() {
+        return Err(SimFault::Bench(BenchFault::NoNets));
+    }
+    let cones = extract(alloc, &netlist, names)?;
+    Ok(write(alloc, &cones)?)
+}

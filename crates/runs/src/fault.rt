@@ -1,0 +1,122 @@
+ghost use Rattle.std.specs.Prelude.{◌≡◌};
+ghost use Rattle.runs.specs.declared.fault.SimFault.TheVariants as sim;
+ghost use Rattle.runs.specs.Faults.{sim_of_bench, sim_of_build, sim_of_cone, sim_of_dump, sim_of_schedule};
+
+use bench_text::BenchFault;
+use cmb_kernel::{KernelFault, ScheduleFault};
+use design::{BuildFault, DelayFault, OptionFault, StimulusFault};
+use fanin_cone::ConeFault;
+use std::alloc::AllocError;
+use thiserror::Error;
+use vcd_dump::DumpFault;
+
+/// Why a run ended early.
+///
+/// The first fault decides: the settings (default delay, period, horizon), the netlist, the delays,
+/// the stimuli, the schedule, the names of nets. A want of memory of any layer is [`Memory`](Self::Memory).
+#[derive(Clone, Copy, Debug, PartialEq, Eq, Error)]
+pub enum SimFault {
+    #[error("{0}")]
+    Setting(OptionFault),
+    #[error("{0}")]
+    Bench(BenchFault),
+    #[error("{0}")]
+    Timing(DelayFault),
+    #[error("{0}")]
+    Stimulus(StimulusFault),
+    #[error("{0}")]
+    Schedule(ScheduleFault),
+    /// No net has a name that was asked for.
+    #[error("UnknownNet")]
+    UnknownNet,
+    /// The dump broke off.
+    #[error("{0}")]
+    Dump(DumpFault),
+    /// A growth was refused.
+    #[error("Memory")]
+    Memory,
+}
+
+impl From<AllocError> for SimFault {
+    ghost from_gives = { λ _ e. e ≡ sim.Memory };
+
+    fn from(_error: AllocError) -> SimFault {
+        SimFault::Memory
+    }
+}
+
+impl From<OptionFault> for SimFault {
+    ghost from_gives = { λ fault e. e ≡ sim.Setting fault };
+
+    fn from(fault: OptionFault) -> SimFault {
+        SimFault::Setting(fault)
+    }
+}
+
+impl From<BenchFault> for SimFault {
+    ghost from_gives = { λ fault e. e ≡ sim_of_bench fault };
+
+    fn from(fault: BenchFault) -> SimFault {
+        match fault {
+            BenchFault::Memory => SimFault::Memory,
+            other => SimFault::Bench(other),
+        }
+    }
+}
+
+impl From<BuildFault> for SimFault {
+    ghost from_gives = { λ fault e. e ≡ sim_of_build fault };
+
+    fn from(fault: BuildFault) -> SimFault {
+        match fault {
+            BuildFault::Setting(fault) => SimFault::Setting(fault),
+            BuildFault::Timing(DelayFault::Memory) => SimFault::Memory,
+            BuildFault::Timing(fault) => SimFault::Timing(fault),
+            BuildFault::Stimulus(StimulusFault::Memory) => SimFault::Memory,
+            BuildFault::Stimulus(fault) => SimFault::Stimulus(fault),
+            BuildFault::Memory => SimFault::Memory,
+        }
+    }
+}
+
+impl From<ScheduleFault> for SimFault {
+    ghost from_gives = { λ fault e. e ≡ sim_of_schedule fault };
+
+    fn from(fault: ScheduleFault) -> SimFault {
+        match fault {
+            ScheduleFault::Memory => SimFault::Memory,
+            other => SimFault::Schedule(other),
+        }
+    }
+}
+
+/// A run's kernel wants nothing but memory: the events of a schedule are few, and all are there.
+impl From<KernelFault> for SimFault {
+    ghost from_gives = { λ _ e. e ≡ sim.Memory };
+
+    fn from(_fault: KernelFault) -> SimFault {
+        SimFault::Memory
+    }
+}
+
+impl From<ConeFault> for SimFault {
+    ghost from_gives = { λ fault e. e ≡ sim_of_cone fault };
+
+    fn from(fault: ConeFault) -> SimFault {
+        match fault {
+            ConeFault::UnknownNet { .. } => SimFault::UnknownNet,
+            ConeFault::Memory => SimFault::Memory,
+        }
+    }
+}
+
+impl From<DumpFault> for SimFault {
+    ghost from_gives = { λ fault e. e ≡ sim_of_dump fault };
+
+    fn from(fault: DumpFault) -> SimFault {
+        match fault {
+            DumpFault::Memory => SimFault::Memory,
+            other => SimFault::Dump(other),
+        }
+    }
+}

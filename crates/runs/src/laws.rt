@@ -1,0 +1,37 @@
+//! Facts about the definitions alone.
+ghost use Rattle.std.specs.Prelude.{◌≡◌, ℕ, List, IsOkAnd, Ok};
+ghost use Rattle.design.specs.Equations.{value_of};
+ghost use Rattle.runs.specs.declared.view.View.{View};
+ghost use Rattle.runs.specs.declared.simulation.Report.{Report};
+ghost use Rattle.runs.specs.Source.{SourceView, design_of_source, dump_of_source};
+ghost use Rattle.runs.specs.Isolation.{AcceptedRun, AgreeingRuns, EndsShowing};
+ghost use Rattle.runs.specs.Simulated.{simulated};
+ghost use Rattle.runs.specs.Viewed.{ShowsValues};
+
+/// The dump of a run shows, for each shown net and at every tick to the horizon, the value that
+/// the defining equations give that net.
+pub fn dump_shows_values()
+    ensures { (source : SourceView) (view : View) (text : List ℕ) → dump_of_source source view ≡ Ok text →
+        IsOkAnd (design_of_source source view.horizon) (λ ready. ShowsValues view ready.1 text) }
+{}
+
+/// What picks a run's events plays no part in its dump, which is that of the plain engine.
+pub fn picks_play_no_part()
+    ensures { (source : SourceView) (view : View) (text : List ℕ) (report : Report) →
+        simulated source view ≡ Ok (text, report) → dump_of_source source view ≡ Ok text }
+{}
+
+/// Isolation. Two accepted inputs, run to one horizon, agree on the fan-in cone that a net has in
+/// the first of them: its parts, pins, delays, periods and stimuli up to the horizon. All else may
+/// differ: other nets, their order and numbers, settings, what is shown, and what picks the events.
+/// Then both runs end, within as many rounds as the horizon and their least delays allow, and both
+/// dumps show for that net, at every tick to the horizon, the same value: the one that its defining
+/// equations give.
+pub fn isolation()
+    ensures first { (first second : AcceptedRun) (name : List ℕ) (net other_net : ℕ) →
+        AgreeingRuns first second name net other_net →
+        EndsShowing first name (value_of first.run.design.circuit net) }
+    ensures second { (first second : AcceptedRun) (name : List ℕ) (net other_net : ℕ) →
+        AgreeingRuns first second name net other_net →
+        EndsShowing second name (value_of first.run.design.circuit net) }
+{}

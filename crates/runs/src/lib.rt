@@ -1,0 +1,23 @@
+//! Whole runs: from the texts of a circuit to the dump, and what is compared of two runs.
+#![tactic(auto)]
+
+mod check_run;
+mod cone_run;
+mod dumping;
+mod fault;
+pub mod laws;
+mod plain_run;
+mod preparation;
+mod simulation;
+mod source;
+mod twin_run;
+mod view;
+
+pub use check_run::{CheckAnswer, check};
+pub use cone_run::cone_text;
+pub use fault::SimFault;
+pub use plain_run::plain;
+pub use simulation::{Report, simulate};
+pub use source::{Picks, Source};
+pub use twin_run::{Side, TwinAnswer, TwinFault, twin};
+pub use view::{Show, View};

@@ -1,0 +1,80 @@
+//! What a run starts from.
+ghost use Rattle.std.specs.Prelude.{◌≡◌, ◌≢◌, ◌≤◌, Ok, length, All, IfOk, IfErr};
+ghost use Rattle.cmb_kernel.specs.Schedule.{most_events};
+ghost use Rattle.cmb_kernel.specs.Sound.{Exists};
+ghost use Rattle.runs.specs.Source.{design_of_source, seen_source};
+ghost use Rattle.runs.specs.Ends.{IsRefusal};
+ghost use Rattle.runs.specs.Events.{events_of_picks, seen_picks};
+ghost use Rattle.runs.specs.Simulated.{run_of_source, seen_run};
+
+use crate::fault::SimFault;
+use crate::source::{Picks, Source};
+use bench_text::read;
+use cmb_kernel::{Schedule, ScheduleFault};
+use design::{Design, Horizon, options};
+use std::alloc::Global;
+
+/// A run that can begin: its horizon, its design, and the events that come before it completes.
+#[derive(Debug, Drop)]
+pub(crate) struct PreparedRun {
+    pub(crate) horizon: Horizon,
+    pub(crate) design: Design,
+    pub(crate) schedule: Schedule,
+}
+
+/// The run of a source.
+pub(crate) fn prepare_run(
+    alloc: Global,
+    source: &Source<'_>,
+    horizon: u64,
+) -> Result<PreparedRun, SimFault>
+    ensures ok { IfOk result (λ run. run_of_source (seen_source source.now) horizon ≡ Ok (seen_run run)) }
+    ensures exist { IfOk result (λ run. All (Exists run.design.circuit) run.schedule) }
+    ensures few { IfOk result (λ run. length run.schedule ≤ most_events) }
+    ensures err { IfErr result (IsRefusal (run_of_source (seen_source source.now) horizon)) }
+{
+    let (design, horizon) = prepare(alloc, source, horizon)?;
+    let schedule = picked(alloc, source.picks, &design)?;
+    Ok(PreparedRun {
+        horizon,
+        design,
+        schedule,
+    })
+}
+
+/// The design and the horizon of a source.
+pub(crate) fn prepare(
+    alloc: Global,
+    source: &Source<'_>,
+    horizon: u64,
+) -> Result<(Design, Horizon), SimFault>
+    ensures ok { IfOk result (λ ready. design_of_source (seen_source source.now) horizon
+        ≡ Ok (ready.1, ready.0)) }
+    ensures err { IfErr result (IsRefusal (design_of_source (seen_source source.now) horizon)) }
+{
+    options(source.default_delay, source.period)?;
+    let horizon = Horizon::new(horizon)?;
+    let netlist = read(alloc, source.bench)?;
+    let design = Design::build(
+        alloc,
+        netlist,
+        source.delays,
+        source.stimuli,
+        source.default_delay,
+        source.period,
+    )?;
+    Ok((design, horizon))
+}
+
+/// The events that are picked.
+fn picked(alloc: Global, picks: Picks<'_>, design: &Design) -> Result<Schedule, ScheduleFault>
+    ensures exact { result ≢ Err ScheduleFault.Memory → result ≡ events_of_picks design.now.circuit (seen_picks picks.entry) }
+    ensures exist { IfOk result (λ schedule. All (Exists design.now.circuit) schedule) }
+    ensures few { IfOk result (λ schedule. length schedule ≤ most_events) }
+{
+    match picks {
+        Picks::Nothing => Ok(Schedule::empty(alloc)),
+        Picks::Text(text) => Schedule::read(alloc, text, design),
+        Picks::Seeded { seed, picks } => Schedule::seeded(alloc, seed, picks, design),
+    }
+}

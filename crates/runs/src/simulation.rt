@@ -1,0 +1,133 @@
+//! A run by the kernel.
+ghost use Rattle.std.specs.Prelude.{◌≡◌, ◌<◌, ◌≤◌, ◌+◌, false, [], map, length, All, Some, IfOk, IfErr, IfSome, OnOk, IsOkAnd};
+ghost use Rattle.std.specs.Io.KnownBytes.{Appends};
+ghost use Rattle.logic3.specs.Wave.{wave_of};
+ghost use Rattle.design.specs.Equations.{value_of};
+ghost use Rattle.cmb_kernel.specs.State.{most_rounds};
+ghost use Rattle.cmb_kernel.specs.Step.{completed_within, steps};
+ghost use Rattle.cmb_kernel.specs.Schedule.{most_events};
+ghost use Rattle.cmb_kernel.specs.Sound.{Exists};
+ghost use Rattle.runs.specs.Source.{seen_source};
+ghost use Rattle.runs.specs.Ends.{RunEndsBy};
+ghost use Rattle.runs.specs.Simulated.{IsKnown, dump_in, report_of, reported, run_of_source, seen_run, simulated};
+ghost use Rattle.runs.specs.Viewed.{ShowsValues};
+
+use crate::dumping::{shown_nets, write_dump};
+use crate::fault::SimFault;
+use crate::preparation::{PreparedRun, prepare_run};
+use crate::source::Source;
+use crate::view::View;
+use cmb_channels::Queues;
+use cmb_kernel::{Counts, Event, Kernel, KernelFault};
+use logic3::Waveform;
+use std::alloc::{AllocError, Global};
+use std::io::Write;
+
+/// How much happened in a run.
+#[derive(Clone, Copy, Debug, PartialEq, Eq)]
+pub struct Report {
+    /// The counts after the events that were picked.
+    pub after: Counts,
+    /// How many ticks were known of each net then: at most the horizon and one more.
+    pub least: u64,
+    /// The counts at the end of the run.
+    pub total: Counts,
+}
+
+/// Runs a source by the kernel, which applies the events that are picked and then completes, and
+/// writes the dump.
+///
+/// The text that goes out shows each shown net's value at every tick, as the equations give it,
+/// whatever was picked: the events show in the report alone.
+///
+/// # Errors
+/// A refusal of the settings or of a text comes before the first byte is written. After a failed
+/// write or a want of memory a first part of the dump went out, which may be nothing.
+pub fn simulate<W: Write>(
+    alloc: Global,
+    source: &Source<'_>,
+    view: &View,
+    out: &mut W,
+) -> Result<Report, SimFault>
+    ensures ok { IfOk result (λ report. IsOkAnd (simulated (seen_source source.now) view.now)
+        (λ answer. Appends (W.contents out.old) (W.contents out.new) answer.0 × (report ≡ answer.1))) }
+    ensures shows { OnOk result (W.contents out.old ≡ Some [] → IfSome (W.contents out.new) (λ text.
+        IsOkAnd (run_of_source (seen_source source.now) view.now.horizon)
+        (λ run. ShowsValues view.now run.design text))) }
+    // A run ends within as many rounds as the horizon and one more tick has least delays.
+    ensures rounds { IfOk result (λ report. IsOkAnd (run_of_source (seen_source source.now) view.now.horizon)
+        (λ run. report.total.rounds ≤ most_rounds (run.horizon + 1) run.design.circuit)) }
+    ensures err { IfErr result (RunEndsBy (dump_in (simulated (seen_source source.now) view.now))
+        (W.contents out.old) (W.contents out.new)) }
+{
+    let run = prepare_run(alloc, source, view.horizon)?;
+    let (kernel, report) = complete(alloc, &run)?;
+    let nets = shown_nets(alloc, &run.design, view.show)?;
+    let waves = known_waves(alloc, &kernel, nets.as_slice())?;
+    let (nets, waves) = (nets.as_slice(), waves.as_slice());
+    write_dump(alloc, &run.design, run.horizon, view, nets, waves, out)?;
+    Ok(report)
+}
+
+/// A run's kernel at the end, where it knows each net up to the horizon, and the run's report.
+pub(crate) fn complete<'r>(
+    alloc: Global,
+    run: &'r PreparedRun,
+) -> Result<(Kernel<'r, Queues>, Report), SimFault>
+    requires exist { All (Exists run.now.design.circuit) run.now.schedule }
+    requires few { length run.now.schedule ≤ most_events }
+    ensures running { IfOk result (λ done. (done.0).failed ≡ false) }
+    ensures circuit { IfOk result (λ done. (done.0).circuit ≡ run.now.design.circuit) }
+    ensures end { IfOk result (λ done. (done.0).end ≡ run.now.horizon + 1) }
+    ensures known { IfOk result (λ done. IsKnown done.0) }
+    ensures report { IfOk result (λ done. done.1 ≡ report_of (seen_run run.now)) }
+    ensures err { IfErr result (λ fault. fault ≡ SimFault.Memory) }
+{
+    let mut kernel = Kernel::<Queues>::new(alloc, &run.design, run.horizon)?;
+    let report = run_to_end(&mut kernel, run.schedule.events())?;
+    Ok((kernel, report))
+}
+
+/// Applies the events, and then completes the run.
+fn run_to_end(kernel: &mut Kernel<'_, Queues>, events: &[Event]) -> Result<Report, KernelFault>
+    requires running { kernel.old.failed ≡ false }
+    requires exist { All (Exists kernel.old.circuit) events.now }
+    requires few { length events.now ≤ most_events }
+    ensures report { IfOk result (λ report.
+        report ≡ reported kernel.old.end kernel.old.circuit (steps kernel.old.state events.now)) }
+    ensures ok { OnOk result (kernel.new ≡ record kernel.old {
+      state = completed_within (most_rounds kernel.old.end kernel.old.circuit) (steps kernel.old.state events.now);
+    }) }
+    ensures known { OnOk result (IsKnown kernel.new) }
+    ensures err { IfErr result (λ fault. fault ≡ KernelFault.Memory) }
+{
+    kernel.apply_all(events)?;
+    let after = kernel.counts();
+    let least = kernel.least_frontier();
+    kernel.complete()?;
+    let total = kernel.counts();
+    Ok(Report {
+        after,
+        least,
+        total,
+    })
+}
+
+/// Copies of the waveforms of these nets.
+fn known_waves(
+    alloc: Global,
+    kernel: &Kernel<'_, Queues>,
+    nets: &[u32],
+) -> Result<Vec<Waveform>, AllocError>
+    requires running { kernel.now.failed ≡ false }
+    requires known { IsKnown kernel.now }
+    requires nets { All (λ net. net < length kernel.now.circuit) nets.now }
+    ensures { IfOk result (λ waves. waves.items ≡
+        map (λ net. wave_of (value_of kernel.now.circuit net) 0 kernel.now.end) nets.now) }
+{
+    let mut waves = Vec::with_capacity(alloc, nets.len())?;
+    for net in nets {
+        waves.push(kernel.waveform(*net).copy()?)?;
+    }
+    Ok(waves)
+}
