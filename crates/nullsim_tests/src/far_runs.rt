@@ -1,5 +1,5 @@
 //! Many nets over ten million ticks: `simulate` and `twin` give what the kernel knows, since the engine
-//! that goes tick by tick would take half an hour here, and a test has a minute.
+//! that goes tick by tick would have to reckon 200,000,000,000 values here, and a test has a minute.
 use logic3::{Change, Value};
 use nullsim::{Picks, Show, Source, View, simulate, twin};
 use std::alloc::{AllocError, Global};
