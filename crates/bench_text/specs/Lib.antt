@@ -1,6 +1,7 @@
 pub use Rattle.logic3.specs.Value
 pub use Rattle.logic3.specs.Gate
 pub use Rattle.logic3.specs.Rising
+pub mod Faults
 pub mod Text
 pub mod Fold
 pub mod Line

@@ -1,5 +1,6 @@
 ghost use Rattle.std.specs.Prelude.{◌≡◌};
 ghost use Rattle.bench_text.specs.declared.fault.BenchFault.TheVariants.{Memory};
+ghost use Rattle.bench_text.specs.Faults.{line_of, name_of};
 
 use std::alloc::{AllocError, AllocFailed};
 use thiserror::Error;
@@ -10,40 +11,68 @@ use thiserror::Error;
 /// [`BadByte`](Self::BadByte) to [`BadArity`](Self::BadArity). The faults of the whole text come
 /// after those of every line, but for [`TooLong`](Self::TooLong), which comes before all else.
 #[derive(Clone, Copy, Debug, PartialEq, Eq, Error)]
+#[error("{}", self.name())]
 pub enum BenchFault {
     /// The text has more than 16,777,216 bytes.
-    #[error("TooLong")]
     TooLong,
     /// A byte outside a comment is neither white space nor 0x21 to 0x7E.
-    #[error("BadByte")]
     BadByte { line: u64 },
     /// The line has none of the forms, or a net's name begins with `$`.
-    #[error("BadLine")]
     BadLine { line: u64 },
     /// A net's name has more than 255 bytes.
-    #[error("NameTooLong")]
     NameTooLong { line: u64 },
     /// The gate word is no keyword.
-    #[error("UnknownGate")]
     UnknownGate { line: u64 },
     /// The gate doesn't take so many pins.
-    #[error("BadArity")]
     BadArity { line: u64 },
     /// The first line that defines a name which an earlier line defines.
-    #[error("DefinedTwice")]
     DefinedTwice { line: u64 },
     /// The first line that uses, as a pin or an output, a name that no line defines.
-    #[error("Undefined")]
     Undefined { line: u64 },
     /// No line defines a net.
-    #[error("NoNets")]
     NoNets,
     /// More than 100,000 nets, or more than 1,000,000 pins in all.
-    #[error("TooMany")]
     TooMany,
     /// A growth was refused.
-    #[error("Memory")]
     Memory,
+}
+
+impl BenchFault {
+    /// The line that the fault names, from 1, and 0 for a fault of the whole text.
+    pub fn line(&self) -> u64
+        ensures { result ≡ line_of self.now }
+    {
+        match *self {
+            BenchFault::BadByte { line }
+            | BenchFault::BadLine { line }
+            | BenchFault::NameTooLong { line }
+            | BenchFault::UnknownGate { line }
+            | BenchFault::BadArity { line }
+            | BenchFault::DefinedTwice { line }
+            | BenchFault::Undefined { line } => line,
+            BenchFault::TooLong | BenchFault::NoNets | BenchFault::TooMany | BenchFault::Memory =>
+                0,
+        }
+    }
+
+    /// The fault's name, which is its text.
+    pub fn name(&self) -> &'static str
+        ensures { result.now ≡ name_of self.now }
+    {
+        match self {
+            BenchFault::TooLong => "TooLong",
+            BenchFault::BadByte { .. } => "BadByte",
+            BenchFault::BadLine { .. } => "BadLine",
+            BenchFault::NameTooLong { .. } => "NameTooLong",
+            BenchFault::UnknownGate { .. } => "UnknownGate",
+            BenchFault::BadArity { .. } => "BadArity",
+            BenchFault::DefinedTwice { .. } => "DefinedTwice",
+            BenchFault::Undefined { .. } => "Undefined",
+            BenchFault::NoNets => "NoNets",
+            BenchFault::TooMany => "TooMany",
+            BenchFault::Memory => "Memory",
+        }
+    }
 }
 
 impl From<AllocError> for BenchFault {

@@ -5,10 +5,11 @@ use Rattle.std.proofs.lemmas.Option.{slice_get_within, get_or_from_slice_get}
 use Rattle.std.proofs.lemmas.List.FromFn.{length-map-range_with_len, get_or-map-range_with_len, fill_by_all}
 use Rattle.std.proofs.lemmas.Bool.{eqb-true, eqb-false}
 use Rattle.std.specs.List.{range_with_len}
+use Rattle.logic3.specs.Rising.{Rises}
 use Rattle.cmb_channels.specs.declared.message.Message.{Message}
 use Rattle.cmb_channels.specs.Lists.{sent}
 use Rattle.cmb_channels.specs.Channels.{pins_fed, all_fed, pins_in}
-use Rattle.cmb_channels.specs.Waiting.{appended, IsRising}
+use Rattle.cmb_channels.specs.Waiting.{appended}
 use Rattle.cmb_channels.proofs.WaitingLemmas.{appended-suc}
 
 -- a pin more, of this source
@@ -74,14 +75,14 @@ suc-within limit pins within k d h =
     let at = get_or-map suc pins k 0 d small in
     omega (arith, at, within k 0 small)
 
-suc-rising : (pins : List ℕ) → IsRising pins → IsRising (map suc pins)
+suc-rising : (pins : List ℕ) → Rises pins → Rises (map suc pins)
 suc-rising pins rising i j d before h =
     let small : j < length pins = omega (arith, h, length-map pins suc) in
     let first = get_or-map suc pins i 0 d (omega arith) in
     let second = get_or-map suc pins j 0 d small in
     omega (arith, first, second, rising i j 0 before small)
 
-zero-rising : (pins : List ℕ) → IsRising (map suc pins) → IsRising (0 ∷ map suc pins)
+zero-rising : (pins : List ℕ) → Rises (map suc pins) → Rises (0 ∷ map suc pins)
 zero-rising pins rising i zero d before h = absurd (omega arith)
 zero-rising pins rising zero (suc j) d before h =
     let small : j < length pins = omega (arith, h, length-map pins suc) in
@@ -101,12 +102,12 @@ pins_fed-within net (source ∷ sources) = go (source == net) (suc-within _ _ (p
     go false later k d h = later k d h
 
 -- the pins that a net feeds stand in order, each once
-pub pins_fed-rising : (net : ℕ) (sources : List ℕ) → IsRising (pins_fed net sources)
+pub pins_fed-rising : (net : ℕ) (sources : List ℕ) → Rises (pins_fed net sources)
 pins_fed-rising net [] = λ i j d before h. absurd (omega arith)
 pins_fed-rising net (source ∷ sources) = go (source == net) (suc-rising _ (pins_fed-rising net sources))
   where
-    go : (same : Bool) → IsRising (map suc (pins_fed net sources)) →
-        IsRising (cond {A = List ℕ} same (0 ∷ map suc (pins_fed net sources)) (map suc (pins_fed net sources)))
+    go : (same : Bool) → Rises (map suc (pins_fed net sources)) →
+        Rises (cond {A = List ℕ} same (0 ∷ map suc (pins_fed net sources)) (map suc (pins_fed net sources)))
     go true later = zero-rising (pins_fed net sources) later
     go false later = later
 

@@ -1,13 +1,9 @@
 -- What waits in the queues of some pins.
-use Rattle.std.specs.Prelude.{◌≡◌, ℕ, ◌<◌, List, [], ◌∷◌, ◌++◌, map, AllPairs, Some, slice_get}
+use Rattle.std.specs.Prelude.{◌≡◌, ℕ, ◌<◌, List, [], ◌∷◌, ◌++◌, map, Some, slice_get}
 use Rattle.std.specs.declared.collections.VecDeque.{VecDeque}
 use Rattle.std.specs.VecDeque.{deque_len, deque_capacity}
 use Rattle.cmb_channels.specs.declared.message.Message.{Message}
 use Rattle.cmb_channels.specs.Lists.{update}
-
--- each number is above those before it
-abbrev pub IsRising : List ℕ → Type 0
-IsRising numbers = AllPairs (λ (earlier later : ℕ). earlier < later) numbers
 
 -- the lists with a message at the end of that of each of these pins
 abbrev pub appended : Message → List ℕ → List (List Message) → List (List Message)

@@ -1,5 +1,6 @@
 ghost use Rattle.std.specs.Prelude.{◌≡◌};
 ghost use Rattle.cmb_kernel.specs.declared.schedule_fault.ScheduleFault.TheVariants.{Memory};
+ghost use Rattle.cmb_kernel.specs.ScheduleFaults.{line_of, name_of};
 
 use std::alloc::{AllocError, AllocFailed};
 use thiserror::Error;
@@ -9,25 +10,48 @@ use thiserror::Error;
 /// The first faulty line decides, and within a line the order of these variants;
 /// [`TooLong`](Self::TooLong) and [`TooManyEvents`](Self::TooManyEvents) come before all else.
 #[derive(Clone, Copy, Debug, PartialEq, Eq, Error)]
+#[error("{}", self.name())]
 pub enum ScheduleFault {
     /// The text has more than 16,777,216 bytes.
-    #[error("TooLong")]
     TooLong,
     /// The line is neither `advance NAME` nor `deliver NAME PLACE`, with a number for the place.
-    #[error("BadLine")]
     BadLine { line: u64 },
     /// No net has this name.
-    #[error("UnknownNet")]
     UnknownNet { line: u64 },
     /// The net has no pin at this place.
-    #[error("BadPin")]
     BadPin { line: u64 },
     /// More than 10,000,000 picks are asked for.
-    #[error("TooManyEvents")]
     TooManyEvents,
     /// A growth was refused.
-    #[error("Memory")]
     Memory,
+}
+
+impl ScheduleFault {
+    /// The line that the fault names, from 1, and 0 for a fault of the whole text.
+    pub fn line(&self) -> u64
+        ensures { result ≡ line_of self.now }
+    {
+        match *self {
+            ScheduleFault::BadLine { line }
+            | ScheduleFault::UnknownNet { line }
+            | ScheduleFault::BadPin { line } => line,
+            ScheduleFault::TooLong | ScheduleFault::TooManyEvents | ScheduleFault::Memory => 0,
+        }
+    }
+
+    /// The fault's name, which is its text.
+    pub fn name(&self) -> &'static str
+        ensures { result.now ≡ name_of self.now }
+    {
+        match self {
+            ScheduleFault::TooLong => "TooLong",
+            ScheduleFault::BadLine { .. } => "BadLine",
+            ScheduleFault::UnknownNet { .. } => "UnknownNet",
+            ScheduleFault::BadPin { .. } => "BadPin",
+            ScheduleFault::TooManyEvents => "TooManyEvents",
+            ScheduleFault::Memory => "Memory",
+        }
+    }
 }
 
 impl From<AllocError> for ScheduleFault {

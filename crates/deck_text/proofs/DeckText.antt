@@ -2,8 +2,8 @@
 use Rattle.std.proofs.Common.{◌≡◌, ℕ, ◌+◌, ◌-◌, ◌^◌, ◌<◌, ◌≤◌, min, nat_lt, true, false, List, [], ◌∷◌, length, Option, None, Some, option_map, Result, Ok, Err, refl, ap, ◌∙◌, arith}
 use Rattle.std.specs.Option.{option_map_or}
 use Rattle.std.proofs.lemmas.Bool.Decides.{nat_tests}
-use Rattle.deck_text.specs.declared.sections.DeckTextFault.{DeckTextFault}
-use Rattle.deck_text.specs.declared.sections.DeckTextFault.TheVariants.{TooLong, BadDeck}
+use Rattle.deck_text.specs.declared.fault.DeckTextFault.{DeckTextFault}
+use Rattle.deck_text.specs.declared.fault.DeckTextFault.TheVariants.{TooLong, BadDeck}
 use Rattle.deck_text.specs.Deck.{Sections, ended_lines, horizon_in, first_bad, sections_at, sections_behind, sections_of_lines, sections_of}
 use Rattle.deck_text.specs.Seen.{held, on_sections}
 

@@ -3,8 +3,8 @@ use Rattle.std.specs.Prelude.{ℕ, ◌+◌, ◌==◌, ◌||◌, ◌&&◌, not, n
 use Rattle.std.specs.List.{list_any, before_first, after_first, onto_first, concat, enumerate_from}
 use Rattle.std.specs.Option.{option_map_or}
 use Rattle.bench_text.specs.Text.{words_of, number_of, is_empty, longest_text}
-use Rattle.deck_text.specs.declared.sections.DeckTextFault.{DeckTextFault}
-use Rattle.deck_text.specs.declared.sections.DeckTextFault.TheVariants.{TooLong, BadDeck}
+use Rattle.deck_text.specs.declared.fault.DeckTextFault.{DeckTextFault}
+use Rattle.deck_text.specs.declared.fault.DeckTextFault.TheVariants.{TooLong, BadDeck}
 
 -- the horizon and the texts of a deck
 pub record Sections : Type 0 where

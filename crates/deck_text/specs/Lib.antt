@@ -1,2 +1,3 @@
 pub mod Deck
+pub mod Faults
 pub mod Seen

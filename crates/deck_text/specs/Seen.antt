@@ -3,7 +3,7 @@ use Rattle.std.specs.Prelude.{◌≡◌, ℕ, ◌-◌, ◌<◌, ◌^◌, min, Bo
 use Rattle.std.specs.List.{list_any}
 use Rattle.std.specs.Result.{result_map_both}
 use denote.Ref.{Bor}
-use Rattle.deck_text.specs.declared.sections.DeckTextFault.{DeckTextFault}
+use Rattle.deck_text.specs.declared.fault.DeckTextFault.{DeckTextFault}
 use Rattle.deck_text.specs.declared.sections.Found.{Found}
 use Rattle.deck_text.specs.declared.sections.Marker.{Marker}
 use Rattle.deck_text.specs.declared.sections.Marker.TheVariants.{Bench, Delays, Stimuli, Schedule}

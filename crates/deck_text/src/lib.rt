@@ -1,6 +1,8 @@
 //! The text of a deck, which is a whole run in one text, cut into its sections.
 #![tactic(auto)]
 
+mod fault;
 mod sections;
 
-pub use sections::{DeckTextFault, Sections, read_sections};
+pub use fault::DeckTextFault;
+pub use sections::{Sections, read_sections};

@@ -5,19 +5,8 @@ ghost use Rattle.bench_text.specs.Text.{longest_text};
 ghost use Rattle.deck_text.specs.Deck.{ended_lines, has_words, horizon_in, is_marker, line_words, sections_behind, sections_of};
 ghost use Rattle.deck_text.specs.Seen.{IsRefused, FillsOwnPlace, PassesLine, SplitsLine, held, is_marker_word, on_sections, seen_sections, stops, word_of};
 
+use crate::fault::DeckTextFault;
 use bench_text::text::{self, LONGEST_TEXT, first_place, split_word};
-use thiserror::Error;
-
-/// Why a text is no deck. Lines count from 1.
-#[derive(Clone, Copy, Debug, PartialEq, Eq, Error)]
-pub enum DeckTextFault {
-    /// The text has more than 16,777,216 bytes.
-    #[error("TooLong")]
-    TooLong,
-    /// The first line that breaks a rule of decks.
-    #[error("BadDeck")]
-    BadDeck { line: u64 },
-}
 
 /// The horizon and the texts of a deck. The text of a section that isn't there is empty.
 #[derive(Clone, Copy, Debug)]

@@ -2,23 +2,34 @@ ghost use Rattle.std.specs.Prelude.{◌≡◌};
 ghost use Rattle.design.specs.declared.fault.DelayFault.TheVariants as delay;
 ghost use Rattle.design.specs.declared.fault.StimulusFault.TheVariants as stimulus;
 ghost use Rattle.design.specs.declared.fault.BuildFault.TheVariants as build;
-ghost use Rattle.design.specs.Faults.{timing_fault, stimulus_fault};
+ghost use Rattle.design.specs.Faults.{delay_line, delay_name, option_name, stimulus_fault, stimulus_line, stimulus_name, timing_fault};
 
 use std::alloc::{AllocError, AllocFailed};
 use thiserror::Error;
 
 /// An option out of its range.
 #[derive(Clone, Copy, Debug, PartialEq, Eq, Error)]
+#[error("{}", self.name())]
 pub enum OptionFault {
     /// The default delay is 0 or above 1,000,000 ticks.
-    #[error("BadDelay")]
     BadDelay,
     /// The period is 0 or above 10,000,000 ticks.
-    #[error("BadPeriod")]
     BadPeriod,
     /// The horizon is above tick 10,000,000.
-    #[error("BadHorizon")]
     BadHorizon,
+}
+
+impl OptionFault {
+    /// The fault's name, which is its text.
+    pub fn name(&self) -> &'static str
+        ensures { result.now ≡ option_name self.now }
+    {
+        match self {
+            OptionFault::BadDelay => "BadDelay",
+            OptionFault::BadPeriod => "BadPeriod",
+            OptionFault::BadHorizon => "BadHorizon",
+        }
+    }
 }
 
 /// Why a text gives no delays. Lines count from 1.
@@ -26,28 +37,53 @@ pub enum OptionFault {
 /// The first faulty line decides, and within a line the order of these variants;
 /// [`TooLong`](Self::TooLong) comes before all else.
 #[derive(Clone, Copy, Debug, PartialEq, Eq, Error)]
+#[error("{}", self.name())]
 pub enum DelayFault {
     /// The text has more than 16,777,216 bytes.
-    #[error("TooLong")]
     TooLong,
     /// The line is not a name and a number.
-    #[error("BadLine")]
     BadLine { line: u64 },
     /// No net has this name.
-    #[error("UnknownNet")]
     UnknownNet { line: u64 },
     /// The net is an input.
-    #[error("IsInput")]
     IsInput { line: u64 },
     /// The delay is 0 or above 1,000,000 ticks.
-    #[error("BadTicks")]
     BadTicks { line: u64 },
     /// An earlier line gives this net a delay.
-    #[error("Twice")]
     Twice { line: u64 },
     /// A growth was refused.
-    #[error("Memory")]
     Memory,
+}
+
+impl DelayFault {
+    /// The line that the fault names, from 1, and 0 for a fault of the whole text.
+    pub fn line(&self) -> u64
+        ensures { result ≡ delay_line self.now }
+    {
+        match *self {
+            DelayFault::BadLine { line }
+            | DelayFault::UnknownNet { line }
+            | DelayFault::IsInput { line }
+            | DelayFault::BadTicks { line }
+            | DelayFault::Twice { line } => line,
+            DelayFault::TooLong | DelayFault::Memory => 0,
+        }
+    }
+
+    /// The fault's name, which is its text.
+    pub fn name(&self) -> &'static str
+        ensures { result.now ≡ delay_name self.now }
+    {
+        match self {
+            DelayFault::TooLong => "TooLong",
+            DelayFault::BadLine { .. } => "BadLine",
+            DelayFault::UnknownNet { .. } => "UnknownNet",
+            DelayFault::IsInput { .. } => "IsInput",
+            DelayFault::BadTicks { .. } => "BadTicks",
+            DelayFault::Twice { .. } => "Twice",
+            DelayFault::Memory => "Memory",
+        }
+    }
 }
 
 impl From<AllocError> for DelayFault {
@@ -71,31 +107,57 @@ impl<T: Drop> From<AllocFailed<T>> for DelayFault {
 /// The first faulty line decides, and within a line the order of these variants;
 /// [`TooLong`](Self::TooLong) comes before all else.
 #[derive(Clone, Copy, Debug, PartialEq, Eq, Error)]
+#[error("{}", self.name())]
 pub enum StimulusFault {
     /// The text has more than 16,777,216 bytes.
-    #[error("TooLong")]
     TooLong,
     /// The line is not a number, a name and a value.
-    #[error("BadLine")]
     BadLine { line: u64 },
     /// No net has this name.
-    #[error("UnknownNet")]
     UnknownNet { line: u64 },
     /// The net is not an input.
-    #[error("NotAnInput")]
     NotAnInput { line: u64 },
     /// The tick is above 10,000,000.
-    #[error("TickTooLarge")]
     TickTooLarge { line: u64 },
     /// The value is none of `0`, `1`, `x` and `X`.
-    #[error("BadValue")]
     BadValue { line: u64 },
     /// The tick is not above the last one of this net.
-    #[error("NotRising")]
     NotRising { line: u64 },
     /// A growth was refused.
-    #[error("Memory")]
     Memory,
+}
+
+impl StimulusFault {
+    /// The line that the fault names, from 1, and 0 for a fault of the whole text.
+    pub fn line(&self) -> u64
+        ensures { result ≡ stimulus_line self.now }
+    {
+        match *self {
+            StimulusFault::BadLine { line }
+            | StimulusFault::UnknownNet { line }
+            | StimulusFault::NotAnInput { line }
+            | StimulusFault::TickTooLarge { line }
+            | StimulusFault::BadValue { line }
+            | StimulusFault::NotRising { line } => line,
+            StimulusFault::TooLong | StimulusFault::Memory => 0,
+        }
+    }
+
+    /// The fault's name, which is its text.
+    pub fn name(&self) -> &'static str
+        ensures { result.now ≡ stimulus_name self.now }
+    {
+        match self {
+            StimulusFault::TooLong => "TooLong",
+            StimulusFault::BadLine { .. } => "BadLine",
+            StimulusFault::UnknownNet { .. } => "UnknownNet",
+            StimulusFault::NotAnInput { .. } => "NotAnInput",
+            StimulusFault::TickTooLarge { .. } => "TickTooLarge",
+            StimulusFault::BadValue { .. } => "BadValue",
+            StimulusFault::NotRising { .. } => "NotRising",
+            StimulusFault::Memory => "Memory",
+        }
+    }
 }
 
 impl From<AllocError> for StimulusFault {

@@ -1,9 +1,9 @@
 //! Cones, agreement and extraction on worked circuits.
 use crate::circuits::{Circuit, S27};
 use bench_text::{read, write};
-use design::Horizon;
+use design::{Design, Horizon};
 use fanin_cone::{ConeFault, agree, cone, extract};
-use std::alloc::Global;
+use std::alloc::{AllocError, Global};
 use std::process::Abort;
 use std::test::Fail;
 
@@ -46,6 +46,17 @@ const FLOP: Circuit = Circuit {
 
 const OTHER_FLOP: Circuit = Circuit { period: 4, ..FLOP };
 
+// What `agree` says; the proofs of the tests don't look at it.
+fn agreed(
+    alloc: Global,
+    first: &Design,
+    second: &Design,
+    name: &[u8],
+    horizon: Horizon,
+) -> Result<Option<bool>, AllocError> {
+    agree(alloc, first, second, name, horizon)
+}
+
 // What `agree` says of two circuits for a name.
 fn agree_so(
     rt: &impl Abort,
@@ -55,9 +66,10 @@ fn agree_so(
     horizon: u64,
     answer: Option<bool>,
 ) -> Result<(), Fail> {
-    let (first, second) = (sides.0.build(alloc)?, sides.1.build(alloc)?);
+    let first = sides.0.build(alloc)?;
+    let second = sides.1.build(alloc)?;
     let horizon = Horizon::new(horizon)?;
-    assert_eq!(rt; agree(alloc, &first, &second, name, horizon)?, answer);
+    assert_eq!(rt; agreed(alloc, &first, &second, name, horizon)?, answer);
     Ok(())
 }
 

@@ -1,5 +1,5 @@
 //! The kernel on worked circuits, over queues.
-ghost use Rattle.std.specs.Prelude.{◌≡◌};
+ghost use Rattle.std.specs.Prelude.{◌≡◌, OnOk};
 
 use crate::circuits::{
     Circuit, GATED_OSCILLATOR, INVERTER, LATE_PIN, RING_COUNTER, SAMPLER, SELF_INVERTER,
@@ -49,6 +49,28 @@ fn shows_all(
     Ok(())
 }
 
+// Applies the events.
+fn apply(kernel: &mut Kernel<Queues>, events: &[Event]) -> Result<(), Fail>
+    ensures { OnOk result (kernel.new.circuit ≡ kernel.old.circuit) }
+{
+    kernel.apply_all(events)?;
+    Ok(())
+}
+
+// Completes, with these counts.
+fn complete(rt: &impl Abort, kernel: &mut Kernel<Queues>, wanted: Counts) -> Result<(), Fail>
+    ensures { OnOk result (kernel.new.circuit ≡ kernel.old.circuit) }
+{
+    kernel.complete()?;
+    counts_are(rt, kernel, wanted);
+    Ok(())
+}
+
+fn least_frontier_is(rt: &impl Abort, kernel: &Kernel<Queues>, wanted: u64) {
+    assert!(rt; !kernel.is_failed());
+    assert_eq!(rt; kernel.least_frontier(), wanted);
+}
+
 // Applies the events and completes, with these counts and least frontier in between and at the end.
 fn run(
     rt: &impl Abort,
@@ -62,16 +84,12 @@ fn run(
     let design = circuit.build(alloc)?;
     let horizon = Horizon::new(horizon)?;
     let mut kernel: Kernel<Queues> = Kernel::new(alloc, &design, horizon)?;
-    kernel.apply_all(events)?;
+    apply(&mut kernel, events)?;
     counts_are(rt, &kernel, after.0);
-    assert!(rt; !kernel.is_failed());
-    assert_eq!(rt; kernel.least_frontier(), after.1);
-    kernel.complete()?;
-    counts_are(rt, &kernel, total);
+    least_frontier_is(rt, &kernel, after.1);
+    complete(rt, &mut kernel, total)?;
     shows_all(rt, alloc, &design, horizon, &kernel)?;
-    kernel.complete()?;
-    counts_are(rt, &kernel, total);
-    Ok(())
+    complete(rt, &mut kernel, total)
 }
 
 #[test]
@@ -120,38 +138,97 @@ fn missing_pins(alloc: Global, count: usize) -> Result<Vec<Event>, AllocError> {
     vec![in alloc; Deliver(1); count]
 }
 
-#[test]
-fn fresh_kernel(rt: HostRuntime) -> Result<(), Fail> {
-    let design = INVERTER.build(rt.alloc())?;
-    let mut kernel: Kernel<Queues> = Kernel::new(rt.alloc(), &design, Horizon::new(5)?)?;
-    assert!(rt; !kernel.apply(Deliver(0))?);
-    assert!(rt; kernel.apply(Advance(1))?);
-    assert!(rt; !kernel.apply(Advance(1))?);
-    counts_are(&rt, &kernel, counts(3, 0, 1, 0));
+// Applies an event that is useful, or one that is not.
+fn applies(
+    rt: &impl Abort,
+    kernel: &mut Kernel<Queues>,
+    event: Event,
+    useful: bool,
+) -> Result<(), Fail>
+    ensures { OnOk result (kernel.new.circuit ≡ kernel.old.circuit) }
+{
+    assert_eq!(rt; kernel.apply(event)?, useful);
+    Ok(())
+}
 
-    let answer = kernel.apply(Deliver(1)).expect_err(&rt, "there is one pin");
-    assert_eq!(rt; answer, KernelFault::NoSuchPin { at: 0 });
+// The list is refused with this fault, which isn't want of memory.
+fn refuses(rt: &impl Abort, kernel: &mut Kernel<Queues>, events: &[Event], fault: KernelFault)
+    ensures { kernel.new.circuit ≡ kernel.old.circuit }
+{
     let answer = kernel
-        .apply_all(&[Advance(0), Advance(2)])
-        .expect_err(&rt, "there are two nets");
-    assert_eq!(rt; answer, KernelFault::NoSuchNet { at: 1 });
+        .apply_all(events)
+        .expect_err(rt, "events are refused");
+    assert!(rt; answer != KernelFault::Memory);
+    assert_eq!(rt; answer, fault);
+}
+
+// The event alone is refused with this fault, which isn't want of memory.
+fn refuses_one(rt: &impl Abort, kernel: &mut Kernel<Queues>, event: Event, fault: KernelFault)
+    ensures { kernel.new.circuit ≡ kernel.old.circuit }
+{
+    let answer = kernel.apply(event).expect_err(rt, "the event is refused");
+    assert!(rt; answer != KernelFault::Memory);
+    assert_eq!(rt; answer, fault);
+}
+
+// Nothing of the first net is known.
+fn knows_nothing(rt: &impl Abort, design: &Design, kernel: &Kernel<Queues>)
+    requires { kernel.now.circuit ≡ design.now.circuit }
+{
     assert!(rt; !kernel.is_failed());
     let nets = design.nets();
     assert!(rt; 0 < nets);
     assert_eq!(rt; kernel.frontier(0), 0);
+}
 
-    let mut events = missing_pins(rt.alloc(), 10_000_001)?;
-    let answer = kernel
-        .apply_all(&events)
-        .expect_err(&rt, "one event too many");
-    assert_eq!(rt; answer, KernelFault::TooManyEvents);
+// Ten million events are looked at one after the other; a list of one more is refused as it is.
+fn limit_of_events(
+    rt: &impl Abort,
+    alloc: Global,
+    kernel: &mut Kernel<Queues>,
+) -> Result<(), AllocError> {
+    let mut events = missing_pins(alloc, 10_000_001)?;
+    refuses(rt, kernel, &events, KernelFault::TooManyEvents);
     events.pop();
-    let answer = kernel
-        .apply_all(&events)
-        .expect_err(&rt, "there is one pin");
-    assert_eq!(rt; answer, KernelFault::NoSuchPin { at: 0 });
+    refuses(rt, kernel, &events, KernelFault::NoSuchPin { at: 0 });
+    Ok(())
+}
+
+#[test]
+fn fresh_kernel(rt: HostRuntime) -> Result<(), Fail> {
+    let design = INVERTER.build(rt.alloc())?;
+    let mut kernel: Kernel<Queues> = Kernel::new(rt.alloc(), &design, Horizon::new(5)?)?;
+    applies(&rt, &mut kernel, Deliver(0), false)?;
+    applies(&rt, &mut kernel, Advance(1), true)?;
+    applies(&rt, &mut kernel, Advance(1), false)?;
+    counts_are(&rt, &kernel, counts(3, 0, 1, 0));
+
+    let no_such_net = KernelFault::NoSuchNet { at: 1 };
+    refuses_one(
+        &rt,
+        &mut kernel,
+        Deliver(1),
+        KernelFault::NoSuchPin { at: 0 },
+    );
+    refuses(&rt, &mut kernel, &[Advance(0), Advance(2)], no_such_net);
+    knows_nothing(&rt, &design, &kernel);
+    limit_of_events(&rt, rt.alloc(), &mut kernel)?;
     counts_are(&rt, &kernel, counts(3, 0, 1, 0));
     Ok(())
+}
+
+// Applies the event that the kernel calls useful.
+fn apply_useful(rt: &impl Abort, kernel: &mut Kernel<Queues>) -> Result<(), Fail> {
+    assert!(rt; !kernel.is_failed());
+    let event = kernel.useful().expect(rt, "a useful event");
+    assert!(rt; kernel.apply(event)?);
+    Ok(())
+}
+
+fn nothing_is_useful(rt: &impl Abort, kernel: &Kernel<Queues>) {
+    assert!(rt; !kernel.is_failed());
+    assert!(rt; kernel.useful().is_none());
+    assert!(rt; kernel.is_complete());
 }
 
 #[test]
@@ -159,14 +236,30 @@ fn driven_by_useful(rt: HostRuntime) -> Result<(), Fail> {
     let design = SELF_INVERTER.build(rt.alloc())?;
     let mut kernel: Kernel<Queues> = Kernel::new(rt.alloc(), &design, Horizon::new(3)?)?;
     for _event in 0..7 {
-        assert!(rt; !kernel.is_failed());
-        let event = kernel.useful().expect(&rt, "a useful event");
-        assert!(rt; kernel.apply(event)?);
+        apply_useful(&rt, &mut kernel)?;
     }
-    assert!(rt; !kernel.is_failed());
-    assert!(rt; kernel.useful().is_none());
-    assert!(rt; kernel.is_complete());
+    nothing_is_useful(&rt, &kernel);
     counts_are(&rt, &kernel, counts(7, 0, 4, 0));
+    Ok(())
+}
+
+// At each pin so many messages wait, and so many ticks of its source it knows.
+fn pins_have(rt: &impl Abort, design: &Design, kernel: &Kernel<Queues>, wanted: &[(u64, u64)])
+    requires { kernel.now.circuit ≡ design.now.circuit }
+{
+    assert!(rt; !kernel.is_failed());
+    assert_eq!(rt; design.pins() as usize, wanted.len());
+    for pin in 0..design.pins() {
+        let has = wanted.get(pin as usize).expect(rt, "what this pin has");
+        assert_eq!(rt; kernel.waiting(pin), has.0);
+        assert_eq!(rt; kernel.received(pin), has.1);
+    }
+}
+
+// Does a round, with these counts after it.
+fn round(rt: &impl Abort, kernel: &mut Kernel<Queues>, wanted: Counts) -> Result<(), Fail> {
+    kernel.round()?;
+    counts_are(rt, kernel, wanted);
     Ok(())
 }
 
@@ -174,18 +267,9 @@ fn driven_by_useful(rt: HostRuntime) -> Result<(), Fail> {
 fn waits_and_receives(rt: HostRuntime) -> Result<(), Fail> {
     let design = LATE_PIN.build(rt.alloc())?;
     let mut kernel: Kernel<Queues> = Kernel::new(rt.alloc(), &design, Horizon::new(8)?)?;
-    kernel.apply_all(&[Advance(0), Deliver(1)])?;
-    let pins = design.pins();
-    assert_eq!(rt; pins, 3);
-    assert!(rt; !kernel.is_failed());
-    for (pin, waiting, received) in [(0, 3, 0), (1, 2, 1), (2, 0, 0)] {
-        assert!(rt; pin < pins);
-        assert_eq!(rt; kernel.waiting(pin), waiting);
-        assert_eq!(rt; kernel.received(pin), received);
-    }
-    kernel.round()?;
-    counts_are(&rt, &kernel, counts(10, 4, 3, 1));
-    Ok(())
+    apply(&mut kernel, &[Advance(0), Deliver(1)])?;
+    pins_have(&rt, &design, &kernel, &[(3, 0), (2, 1), (0, 0)]);
+    round(&rt, &mut kernel, counts(10, 4, 3, 1))
 }
 
 #[test]

@@ -1,6 +1,5 @@
 //! Tests of the layers below a whole run, against worked examples, published values and limits at
-//! full size: gates and waveforms, texts, designs, the plain engine, channels, processes, the kernel,
-//! schedules, cones and dumps.
+//! full size: the plain engine, channels, processes, the kernel, schedules and cones.
 #![tactic(auto)]
 
 #[cfg(test)]
@@ -12,16 +11,10 @@ mod cones;
 #[cfg(test)]
 mod kernels;
 #[cfg(test)]
-mod logic;
-#[cfg(test)]
 mod plain_engine;
 #[cfg(test)]
 mod processes;
 #[cfg(test)]
-mod reading;
+mod rationed;
 #[cfg(test)]
 mod schedules;
-#[cfg(test)]
-mod texts;
-#[cfg(test)]
-mod timing;

@@ -115,6 +115,12 @@ impl Probe {
         assert_eq!(rt; messages.as_slice(), wanted);
         Ok(())
     }
+
+    // Its first pin is told this message, and then it tells just these.
+    fn answers(&mut self, rt: &impl Abort, told: Message, wanted: &[Message]) -> Result<(), Fail> {
+        self.hear(rt, 0, &[told])?;
+        self.tells(rt, wanted)
+    }
 }
 
 fn change(tick: u64, value: Value) -> Message {
@@ -127,20 +133,32 @@ const AND: &[u8] = b"INPUT(a)\nINPUT(b)\ny = AND(a, b)";
 
 const SAMPLER: &[u8] = b"INPUT(d)\nq = DFF(d)";
 
-#[test]
-fn first_messages(rt: HostRuntime) -> Result<(), Fail> {
-    let told = [change(0, Zero), change(3, One), Null(6)];
+// The process of a net of an inverter, whose input shows 0 at first and 1 from tick 3 on.
+fn in_inverter(rt: &impl Abort, alloc: Global, name: &[u8]) -> Result<Probe, Fail> {
+    Probe::new(rt, alloc, INVERTER, b"0 a 0\n3 a 1\n", 10, name, 5)
+}
 
-    let mut input = Probe::new(&rt, rt.alloc(), INVERTER, b"0 a 0\n3 a 1\n", 10, b"a", 5)?;
+// What the input of that inverter tells.
+fn told() -> [Message; 3] {
+    [change(0, Zero), change(3, One), Null(6)]
+}
+
+#[test]
+fn first_messages_of_an_input(rt: HostRuntime) -> Result<(), Fail> {
+    let mut input = in_inverter(&rt, rt.alloc(), b"a")?;
     assert_eq!(rt; input.process(&rt).safe(), 6);
     assert_eq!(rt; input.process(&rt).frontier(), 0);
-    input.tells(&rt, &told)?;
+    input.tells(&rt, &told())?;
     input.tells(&rt, &[])?;
     assert_eq!(rt; input.process(&rt).frontier(), 6);
+    Ok(())
+}
 
-    let mut output = Probe::new(&rt, rt.alloc(), INVERTER, b"0 a 0\n3 a 1\n", 10, b"y", 5)?;
+#[test]
+fn first_messages_of_a_gate(rt: HostRuntime) -> Result<(), Fail> {
+    let mut output = in_inverter(&rt, rt.alloc(), b"y")?;
     output.tells(&rt, &[Null(1)])?;
-    output.hear(&rt, 0, &told)?;
+    output.hear(&rt, 0, &told())?;
     output.tells(&rt, &[change(1, One), change(4, Zero), Null(6)])?;
     Ok(())
 }
@@ -171,36 +189,55 @@ fn and_process(rt: HostRuntime) -> Result<(), Fail> {
 fn flop_process(rt: HostRuntime) -> Result<(), Fail> {
     let mut process = Probe::new(&rt, rt.alloc(), SAMPLER, b"", 4, b"q", 9)?;
     process.tells(&rt, &[Null(5)])?;
-    process.hear(&rt, 0, &[change(4, One)])?;
-    process.tells(&rt, &[change(5, One), Null(9)])?;
-    process.hear(&rt, 0, &[change(5, Zero)])?;
-    process.tells(&rt, &[])?;
-    process.hear(&rt, 0, &[Null(10)])?;
-    process.tells(&rt, &[change(9, Zero)])?;
+    process.answers(&rt, change(4, One), &[change(5, One), Null(9)])?;
+    process.answers(&rt, change(5, Zero), &[])?;
+    process.answers(&rt, Null(10), &[change(9, Zero)])?;
     assert_eq!(rt; process.process(&rt).waveform().changes().len(), 2);
     Ok(())
 }
 
-// A thousand changes over ten million ticks, and a flip-flop that samples at each of them.
+// The first pin is told a thousand changes over ten million ticks.
+fn hear_far(rt: &impl Abort, process: &mut Probe) -> Result<(), Fail> {
+    for step in 0..500 {
+        process.hear(rt, 0, &[change(10 + step * 20_000, Zero)])?;
+        process.hear(rt, 0, &[change(10_010 + step * 20_000, One)])?;
+    }
+    process.hear(rt, 0, &[Null(10_000_001)])
+}
+
+// So many messages, of which these are the first and the last.
+fn are_between(rt: &impl Abort, messages: &[Message], count: usize, first: Message, last: Message) {
+    assert_eq!(rt; messages.len(), count);
+    assert_eq!(rt; messages.first(), Some(&first));
+    assert_eq!(rt; messages.last(), Some(&last));
+}
+
+// At first the net is known up to this tick, and its first change, at tick 11, is to this value.
+fn goes_far(
+    rt: &impl Abort,
+    alloc: Global,
+    bench: &[u8],
+    name: &[u8],
+    known: u64,
+    first: Value,
+) -> Result<(), Fail> {
+    let mut process = Probe::new(rt, alloc, bench, b"", 1, name, 10_000_000)?;
+    process.tells(rt, &[Null(known)])?;
+    hear_far(rt, &mut process)?;
+    let messages = process.advance(rt)?;
+    are_between(
+        rt,
+        messages.as_slice(),
+        1_001,
+        change(11, first),
+        Null(10_000_001),
+    );
+    Ok(())
+}
+
+// A gate, and a flip-flop that samples at each tick.
 #[test]
 fn far_horizon(rt: HostRuntime) -> Result<(), Fail> {
-    let horizon = 10_000_000;
-    for (bench, name, known, first) in [
-        (INVERTER, b"y".as_slice(), 1, One),
-        (SAMPLER, b"q".as_slice(), 2, Zero),
-    ] {
-        let mut process = Probe::new(&rt, rt.alloc(), bench, b"", 1, name, horizon)?;
-        process.tells(&rt, &[Null(known)])?;
-        for step in 0..500 {
-            process.hear(&rt, 0, &[change(10 + step * 20_000, Zero)])?;
-            process.hear(&rt, 0, &[change(10_010 + step * 20_000, One)])?;
-        }
-        process.hear(&rt, 0, &[Null(horizon + 1)])?;
-
-        let messages = process.advance(&rt)?;
-        assert_eq!(rt; messages.len(), 1_001);
-        assert_eq!(rt; messages.first(), Some(&change(11, first)));
-        assert_eq!(rt; messages.last(), Some(&Null(horizon + 1)));
-    }
-    Ok(())
+    goes_far(&rt, rt.alloc(), INVERTER, b"y", 1, One)?;
+    goes_far(&rt, rt.alloc(), SAMPLER, b"q", 2, Zero)
 }

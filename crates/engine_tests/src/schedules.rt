@@ -1,8 +1,8 @@
 //! Schedules, from a text and from a seed.
 use crate::circuits::{INVERTER, LATE_PIN};
-use crate::texts::longest;
 use Event::{Advance, Deliver};
 use cmb_kernel::{Event, Schedule, ScheduleFault};
+use std::alloc::{AllocError, Global};
 use std::process::Abort;
 use std::test::Fail;
 
@@ -89,6 +89,20 @@ fn schedules_of_texts(rt: HostRuntime) -> Result<(), Fail> {
     let answer = Schedule::read(rt.alloc(), text, &late_pin);
     gives(&rt, answer, events.as_slice());
     Ok(())
+}
+
+// The most bytes that a text may have. The proofs of the tests don't look at the number.
+fn most_bytes() -> usize {
+    16_777_216
+}
+
+// A text of the most bytes that begins like this and goes on in the letter `x`.
+fn longest(alloc: Global, start: &[u8]) -> Result<Vec<u8>, AllocError> {
+    let mut text = Vec::from_slice(alloc, start)?;
+    for _ in start.len()..most_bytes() {
+        text.push(b'x')?;
+    }
+    Ok(text)
 }
 
 #[test]

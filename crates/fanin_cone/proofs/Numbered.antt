@@ -1,13 +1,14 @@
 -- The numbers of marks, collected in order.
-use Rattle.std.proofs.Common.{◌≡◌, ℕ, ◌+◌, ◌<◌, Bool, true, false, List, [], ◌∷◌, ◌++◌, sym, ap, ◌∙◌, subst, arith, All, AllPairs, Contains, IsTrue, ◌↔◌, true≢false, ⊎_elim}
+use Rattle.std.proofs.Common.{◌≡◌, ℕ, ◌+◌, ◌<◌, Bool, true, false, List, [], ◌∷◌, ◌++◌, sym, ap, ◌∙◌, subst, arith, All, Contains, IsTrue, ◌↔◌, true≢false, ⊎_elim}
 use Rattle.std.proofs.lemmas.Bool.{cases_lt}
 use Rattle.std.proofs.lemmas.List.Quantifiers.{all_pairs_push}
 use Rattle.std.proofs.lemmas.List.Elements.{All-push, All-weaker, Contains-append_left, Contains-push, Contains-push_cases}
+use Rattle.logic3.specs.Rising.{Rises}
 use Rattle.fanin_cone.specs.Walk.{is_marked}
 
 -- the numbers of the marks before a place, rising
 pub record IsNumbered (marks : List Bool) (to : ℕ) (numbers : List ℕ) : Type 0 where
-  pub rising : AllPairs (λ (earlier later : ℕ). earlier < later) numbers
+  pub rising : Rises numbers
   pub below : All (λ n. n < to) numbers
   pub marked : (n : ℕ) → Contains numbers n ↔ ((n < to) × IsTrue (is_marked marks n))
 

@@ -1,8 +1,9 @@
 -- Stimuli up to a tick.
-use Rattle.std.proofs.Common.{◌≡◌, ℕ, zero, suc, ◌<◌, ◌≤◌, Bool, true, false, List, [], ◌∷◌, length, take, option_map, Some, slice_get, refl, ap, subst, arith, AllPairs}
+use Rattle.std.proofs.Common.{◌≡◌, ℕ, zero, suc, ◌<◌, ◌≤◌, Bool, true, false, List, [], ◌∷◌, length, take, option_map, Some, slice_get, refl, ap, subst, arith}
 use Rattle.std.specs.List.{filter}
 use Rattle.std.specs.List.Sorted.{IsPartitionPoint}
 use Rattle.logic3.specs.declared.change.Change.{Change}
+use Rattle.logic3.specs.Rising.{TicksRise}
 use Rattle.bench_text.specs.declared.part.Part.{Part}
 use Rattle.bench_text.specs.declared.part.Part.TheVariants.{Input}
 use Rattle.design.specs.Circuit.{Net, HasStimuli}
@@ -24,15 +25,15 @@ take-partition p (x ∷ xs) (suc i) within point =
     let rest = take-partition p xs i (omega arith) (λ k d low lt. point.0 (suc k) d (omega arith) (omega arith), λ k d low lt. point.1 (suc k) d (omega arith) (omega arith)) in
     rw passes (ap (λ xs. x ∷ xs) rest)
 
-rising_of : (part : Part) (stimuli : List Change) → HasStimuli part stimuli → AllPairs (λ (earlier later : Change). earlier.tick < later.tick) stimuli
+rising_of : (part : Part) (stimuli : List Change) → HasStimuli part stimuli → TicksRise stimuli
 rising_of Input stimuli has = has.1
 rising_of _ stimuli has = λ i j d before within. absurd (omega (arith, ap length has))
 
 -- the stimuli of each net rise
 pub rising_stimuli : (design : DesignView) → IsDesign design → (number : ℕ) (stimuli : List Change) →
     option_map (λ (net : Net). net.stimuli) (slice_get design.circuit number) ≡ Some stimuli →
-    AllPairs (λ (earlier later : Change). earlier.tick < later.tick) stimuli
+    TicksRise stimuli
 rising_stimuli design ok number stimuli are =
     let found = net_with (λ (net : Net). net.stimuli) (slice_get design.circuit number) stimuli are in
     let timed = timed_at design.circuit (IsCircuit-from_IsDesign design ok) number found.0 found.1 in
-    subst (AllPairs (λ (earlier later : Change). earlier.tick < later.tick)) found.2 (rising_of found.0.part found.0.stimuli timed.stimuli)
+    subst TicksRise found.2 (rising_of found.0.part found.0.stimuli timed.stimuli)

@@ -1,5 +1,6 @@
 -- Closed sets of names, and the fan-in cone of names.
-use Rattle.std.specs.Prelude.{ℕ, ◌<◌, ◌↔◌, Bool, IsTrue, List, length, map, All, AllPairs, Contains}
+use Rattle.std.specs.Prelude.{ℕ, ◌<◌, ◌↔◌, Bool, IsTrue, List, length, map, All, Contains}
+use Rattle.logic3.specs.Rising.{Rises}
 use Rattle.bench_text.specs.Netlist.{NetView, NetlistView}
 use Rattle.bench_text.specs.Canonical.{name_at}
 
@@ -23,6 +24,6 @@ pub data InCone (netlist : NetlistView) (names : List (List ℕ)) : List ℕ →
 
 -- the numbers of the nets in the cone of these names, rising
 pub record IsConeOf (netlist : NetlistView) (names : List (List ℕ)) (numbers : List ℕ) : Type 0 where
-  pub rising : AllPairs (λ (earlier later : ℕ). earlier < later) numbers
+  pub rising : Rises numbers
   pub nets : (number : ℕ) →
       Contains numbers number ↔ ((number < length netlist.nets) × InCone netlist names (name_at netlist number))

@@ -1,6 +1,7 @@
 -- The walk over the pins of nets: which nets are marked, and which wait for their pins to be looked at.
-use Rattle.std.specs.Prelude.{◌≡◌, ℕ, ◌+◌, ◌<◌, ◌==◌, ◌||◌, ◌↔◌, not, Bool, false, IsTrue, List, ◌++◌, length, filter, count_by, slice_index_or, AllPairs, Contains}
+use Rattle.std.specs.Prelude.{◌≡◌, ℕ, ◌+◌, ◌<◌, ◌==◌, ◌||◌, ◌↔◌, not, Bool, false, IsTrue, List, ◌++◌, length, filter, count_by, slice_index_or, Contains}
 use Rattle.std.specs.List.{list_any}
+use Rattle.logic3.specs.Rising.{Rises}
 use Rattle.bench_text.specs.Netlist.{NetlistView, distinct}
 use Rattle.bench_text.specs.Canonical.{name_at}
 use Rattle.fanin_cone.specs.Cone.{InCone}
@@ -20,7 +21,7 @@ pub record Marks (nets : List ℕ) (old new : List Bool) (before after : List �
 
 -- the numbers of the marked nets, rising
 pub record NumbersMarked (marks : List Bool) (numbers : List ℕ) : Type 0 where
-  pub rising : AllPairs (λ (earlier later : ℕ). earlier < later) numbers
+  pub rising : Rises numbers
   pub marked : (net : ℕ) → Contains numbers net ↔ IsTrue (is_marked marks net)
 
 -- just the nets in the cone of these names are marked

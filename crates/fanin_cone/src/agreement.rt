@@ -1,6 +1,6 @@
 //! Whether two designs agree on a net's fan-in cone.
-ghost use Rattle.std.specs.Prelude.{◌≡◌, ◌∷◌, [], ◌<◌, ◌↔◌, length, All, AllPairs, IfOk, IfSome, IsSome, IsTrue, slice_get, Some};
-ghost use Rattle.logic3.specs.declared.change.Change.{Change as TheChange};
+ghost use Rattle.std.specs.Prelude.{◌≡◌, ◌∷◌, [], ◌<◌, ◌↔◌, length, All, IfOk, IfSome, IsSome, IsTrue, slice_get, Some};
+ghost use Rattle.logic3.specs.Rising.{TicksRise};
 ghost use Rattle.design.specs.Circuit.{Net};
 ghost use Rattle.design.specs.Design.{IsDesign};
 ghost use Rattle.bench_text.specs.Canonical.{name_at};
@@ -112,8 +112,8 @@ fn has_same_names(first: &Design, pins: &[u32], second: &Design, others: &[u32])
 
 /// Whether the stimuli of two nets are the same at ticks up to the horizon.
 fn has_same_stimuli(stimuli: &[Change], others: &[Change], horizon: Horizon) -> bool
-    requires stimuli { AllPairs (λ (earlier later : TheChange). earlier.tick < later.tick) stimuli.now }
-    requires others { AllPairs (λ (earlier later : TheChange). earlier.tick < later.tick) others.now }
+    requires stimuli { TicksRise stimuli.now }
+    requires others { TicksRise others.now }
     ensures { IsTrue result ↔ (stimuli_to horizon stimuli.now ≡ stimuli_to horizon others.now) }
 {
     up_to(stimuli, horizon) == up_to(others, horizon)
@@ -121,7 +121,7 @@ fn has_same_stimuli(stimuli: &[Change], others: &[Change], horizon: Horizon) -> 
 
 /// The stimuli at ticks up to the horizon.
 fn up_to(stimuli: &[Change], horizon: Horizon) -> &[Change]
-    requires { AllPairs (λ (earlier later : TheChange). earlier.tick < later.tick) stimuli.now }
+    requires { TicksRise stimuli.now }
     ensures { result.now ≡ stimuli_to horizon stimuli.now }
 {
     let end = stimuli.partition_point(|change| change.tick <= horizon.ticks());

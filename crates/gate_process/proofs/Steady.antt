@@ -1,5 +1,5 @@
 -- Between the changes at its pins a net changes nothing, so a walk over these changes finds all of its own.
-use Rattle.std.proofs.Common.{◌≡◌, ℕ, zero, suc, ◌+◌, ◌-◌, ◌<◌, ◌≤◌, nat_le, true, false, cond, List, [], ◌∷◌, ◌++◌, AllPairs, length, slice_index_or, flat_map, Option, None, Some, option_map, refl, ap, sym, ◌∙◌, arith, ◌⊎◌, inl, inr, leb-true}
+use Rattle.std.proofs.Common.{◌≡◌, ℕ, zero, suc, ◌+◌, ◌-◌, ◌<◌, ◌≤◌, nat_le, true, false, cond, List, [], ◌∷◌, ◌++◌, length, slice_index_or, flat_map, Option, None, Some, option_map, refl, ap, sym, ◌∙◌, arith, ◌⊎◌, inl, inr, leb-true}
 use Rattle.std.specs.List.{range_with_len}
 use Rattle.std.specs.List.Sorted.{IsPartitionPoint}
 use Rattle.std.specs.Option.{option_map_or}
@@ -10,6 +10,7 @@ use Rattle.logic3.specs.declared.value.Value.TheVariants.{Unknown}
 use Rattle.logic3.specs.declared.change.Change.{Change}
 use Rattle.logic3.specs.Gate.{value_of_gate, only_pin}
 use Rattle.logic3.specs.Value.{is_same, is_same_equiv}
+use Rattle.logic3.specs.Rising.{TicksRise}
 use Rattle.logic3.specs.Wave.{value_after, value_before, change_at, changes_between}
 use Rattle.logic3.proofs.CallerLemmas.{value_after-partition, RisesBy-ascends}
 use Rattle.bench_text.specs.declared.part.Part.{Part}
@@ -36,7 +37,7 @@ quiet signal from to h = quiet_from signal from (to - from) (λ tick a b. h tick
 
 -- up to the first change after a tick the value stays
 pub value_after-next : (before : Value) (changes : List Change) (tick late due : ℕ) → due ≤ length changes →
-    AllPairs (λ (earlier later : Change). earlier.tick < later.tick) changes →
+    TicksRise changes →
     IsPartitionPoint (λ (change : Change). nat_le change.tick tick ≡ true) (λ (change : Change). nat_le change.tick tick ≡ false) changes due →
     tick ≤ late → ((d : Change) → due < length changes → late < (slice_index_or changes due d).tick) →
     value_after before changes late ≡ value_after before changes tick

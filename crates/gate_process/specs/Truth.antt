@@ -36,8 +36,9 @@ pub record IsTruthful (signals : ℕ → ℕ → Value) (number : ℕ) (process 
   pub meets : Meets signals number process.net
   pub knows : KnowsTruth signals number process
 
--- messages that come at a place: they tell of the source of its pin, from what was received so far up to a tick
-pub record ComesTrue (signals : ℕ → ℕ → Value) (process : ProcessState) (place to : ℕ) (messages : List Message) : Type 0 where
+-- messages come to a truthful process at a place: they tell of the source of its pin, from what was received so far up to a tick
+pub record HearsTruth (signals : ℕ → ℕ → Value) (number : ℕ) (process : ProcessState) (place to : ℕ) (messages : List Message) : Type 0 where
+  pub truthful : IsTruthful signals number process
   pub source : ℕ
   pub received : Knowledge
   pub pin : slice_get process.net.pins place ≡ Some source

@@ -1,6 +1,7 @@
-ghost use Rattle.std.specs.Prelude.{◌≡◌, ℕ, ◌<◌, ◌≤◌, [], ◌∷◌, ◌++◌, AllPairs, length, drop, OnOk, OnErr};
+ghost use Rattle.std.specs.Prelude.{◌≡◌, ℕ, ◌<◌, ◌≤◌, [], ◌∷◌, ◌++◌, length, drop, OnOk, OnErr};
 ghost use Rattle.logic3.specs.declared.value.Value.{Value};
 ghost use Rattle.logic3.specs.declared.change.Change.{Change};
+ghost use Rattle.logic3.specs.Rising.{TicksRise};
 ghost use Rattle.logic3.specs.Wave.{value_after};
 
 use logic3::Change;
@@ -71,7 +72,7 @@ impl ChangeQueue {
 ///
 /// Takes logarithmic time.
 pub fn next_change(changes: &[Change], tick: u64, limit: u64) -> u64
-    requires { AllPairs (λ (earlier later : Change). earlier.tick < later.tick) changes.now }
+    requires { TicksRise changes.now }
     ensures later { tick < limit → tick < result }
     ensures within { result ≤ limit }
     ensures steady { (before : Value) (t : ℕ) → tick ≤ t → t < result →

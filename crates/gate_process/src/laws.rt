@@ -6,7 +6,7 @@ ghost use Rattle.cmb_channels.specs.declared.message.Message.{Message};
 ghost use Rattle.cmb_channels.specs.declared.message.Message.TheVariants.{Change as Changes, Null};
 ghost use Rattle.gate_process.specs.Knowledge.{Tells, knowledge_of, told_all};
 ghost use Rattle.gate_process.specs.Step.{ProcessState, pin_frontier, next_frontier, advanced, news, heard};
-ghost use Rattle.gate_process.specs.Truth.{KnowsTruth, IsTruthful, ComesTrue, IsProcess, CanHear, GoesOn};
+ghost use Rattle.gate_process.specs.Truth.{KnowsTruth, IsTruthful, HearsTruth, IsProcess, CanHear, GoesOn};
 
 /// A process that knows the truth, and whose net's equation the signals meet, goes on to know it: when
 /// it advances, and when it hears the first of some messages that tell the truth of a pin's source.
@@ -16,7 +16,7 @@ pub fn truth_stays()
         IsTruthful signals number process → KnowsTruth signals number (advanced process) }
     ensures heard { (signals : ℕ → ℕ → Value) (number place to : ℕ) (process : ProcessState)
         (message : Message) (rest : List Message) →
-        IsTruthful signals number process → ComesTrue signals process place to (message ∷ rest) →
+        HearsTruth signals number process place to (message ∷ rest) →
         KnowsTruth signals number (heard place message process) }
     ensures news { (signals : ℕ → ℕ → Value) (number : ℕ) (process : ProcessState) →
         IsTruthful signals number process →

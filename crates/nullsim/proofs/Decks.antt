@@ -8,8 +8,8 @@ use Rattle.design.specs.Options.{horizon_of}
 use Rattle.vcd_dump.specs.Bytes.{AppendsPrefix}
 use Rattle.runs.specs.declared.fault.SimFault.{SimFault}
 use Rattle.runs.specs.declared.fault.SimFault.TheVariants.{Dump, Memory}
-use Rattle.deck_text.specs.declared.sections.DeckTextFault.{DeckTextFault}
-use Rattle.deck_text.specs.declared.sections.DeckTextFault.TheVariants.{TooLong, BadDeck}
+use Rattle.deck_text.specs.declared.fault.DeckTextFault.{DeckTextFault}
+use Rattle.deck_text.specs.declared.fault.DeckTextFault.TheVariants.{TooLong, BadDeck}
 use Rattle.nullsim.specs.declared.deck_run.DeckFault.{DeckFault}
 use Rattle.nullsim.specs.declared.deck_run.DeckFault.TheVariants.{Sim}
 use Rattle.runs.specs.declared.simulation.Report.{Report}

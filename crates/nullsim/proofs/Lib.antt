@@ -1,3 +1,3 @@
-mod CommandEnds
+mod CountsLine
 mod Decks
 mod Told

@@ -1,31 +1,59 @@
 -- How the program with words ends.
-use Rattle.std.specs.Prelude.{◌≡◌, ◌⊎◌, ℕ, Bool, List, [], ◌∷◌, Option, IsTrue, Err, String, codes, bytes_eq, string_bytes}
+use Rattle.std.specs.Prelude.{◌≡◌, ◌⊎◌, ℕ, Bool, false, List, [], ◌∷◌, ◌++◌, Option, None, Some, String, codes, decimal, bytes_eq, string_bytes, IsTrue}
 use Rattle.std.specs.List.{list_any}
 use Rattle.std.specs.Io.KnownBytes.{Appends, Keeps}
 use Rattle.std.specs.declared.alloc.Global.{Global}
 use Rattle.vcd_dump.specs.Bytes.{AppendsPrefix}
+use Rattle.vcd_dump.specs.Dump.{line}
+use Rattle.cmb_kernel.specs.declared.counts.Counts.{Counts}
 use Rattle.orders.specs.declared.order.Order.{Order}
 use Rattle.orders.specs.declared.program_fault.ProgramFault.{ProgramFault}
-use Rattle.orders.specs.Ends.{ForAnswer, PartWentOut}
+use Rattle.orders.specs.declared.program_fault.ProgramFault.TheVariants as program
+use Rattle.orders.specs.Ends.{ForAnswer, WriteEndsBy}
 use Rattle.orders.specs.Options.{KnownTexts}
-use Rattle.orders.specs.OrderAnswer.{Answer, IsAnswer}
-use Rattle.nullsim.specs.declared.command_line.NoOrder.{NoOrder}
-use Rattle.nullsim.specs.declared.command_line.NoOrder.TheVariants.{Help, Usage, Memory}
+use Rattle.orders.specs.OrderAnswer.{IsAnswer, OrderEndsBy}
+use Rattle.orders.specs.Place.{names_of, section_names}
+use Rattle.orders.specs.ProgramFaults.{side_of}
+use Rattle.orders.specs.Readings.{KnownReadings, ReadsAll, ReadsUntil, files_of}
+use Rattle.orders.specs.Report.{Reports}
+use Rattle.command_line.specs.declared.words.NoOrder.{NoOrder}
+use Rattle.command_line.specs.declared.words.NoOrder.TheVariants.{Help, Usage, Memory}
 
--- ---- words that are some order
+-- what is known of what the program reads and writes, before it runs or after
+pub record Streams : Type 0 where
+  pub readings : KnownReadings
+  pub out : Option (List ℕ)
+  pub err : Option (List ℕ)
 
--- the answer to it went out
-abbrev pub AnsweredSome : KnownTexts → Option (List ℕ) → Option (List ℕ) → Type 0
-AnsweredSome known old new = (order : Order) × ForAnswer (IsAnswer known order) (λ answer. Appends old new answer.text)
+-- ---- an order
 
--- it is refused, and nothing went out
-abbrev pub RefusedSome : KnownTexts → Option (List ℕ) → Option (List ℕ) → Type 0
-RefusedSome known old new = (order : Order) × ((fault : ProgramFault) × IsAnswer known order (Err fault) × Keeps old new)
+-- the line of counts, whose numbers are these texts
+abbrev pub line_of_numbers : List ℕ → List ℕ → List ℕ → List ℕ → List ℕ
+line_of_numbers events changes nulls rounds =
+    line (codes "events " ++ events ++ codes " changes " ++ changes ++ codes " nulls " ++ nulls ++ codes " rounds " ++ rounds)
 
--- nothing went out, or a first part of the answer to it
-abbrev pub PartAnsweredSome : KnownTexts → Option (List ℕ) → Option (List ℕ) → Type 0
-PartAnsweredSome known old new =
-    Keeps old new ⊎ ((order : Order) × PartWentOut (λ (answer : Answer). answer.text) (IsAnswer known order) old new)
+abbrev pub counts_line : Counts → List ℕ
+counts_line counts = line_of_numbers (decimal counts.events) (decimal counts.changes) (decimal counts.nulls) (decimal counts.rounds)
+
+-- the line of those that were asked for
+abbrev pub counts_text : Option Counts → List ℕ
+counts_text None = []
+counts_text (Some counts) = counts_line counts
+
+-- its files were read and its answer went out; its counts were told, or a first part of them
+abbrev pub OrderDone : KnownTexts → Order → Streams → Streams → ℕ → Type 0
+OrderDone known order old new status =
+    (status ≡ 0) × ReadsAll (files_of order) old.readings new.readings
+    × ForAnswer (IsAnswer known order) (λ answer. Appends old.out new.out answer.text × AppendsPrefix old.err new.err (counts_text answer.counts))
+
+-- it ended by a fault, which was told
+abbrev pub OrderBroken : KnownTexts → Order → Streams → Streams → ℕ → Type 0
+OrderBroken known order old new status =
+    (fault : ProgramFault) × ReadsUntil (files_of order) old.readings new.readings fault × OrderEndsBy known order old.out new.out fault
+    × Reports (names_of order (side_of fault)) fault old.err new.err status
+
+abbrev pub OrderTold : KnownTexts → Order → Streams → Streams → ℕ → Type 0
+OrderTold known order old new status = OrderDone known order old new status ⊎ OrderBroken known order old new status
 
 -- ---- words that are no order
 
@@ -36,13 +64,28 @@ is_help_word word = list_any (bytes_eq word) (codes "help" ∷ codes "--help" �
 abbrev pub asks_for_help : List (String Global) → Bool
 asks_for_help words = list_any (λ word. is_help_word (string_bytes word)) words
 
--- help is given where it is asked for
-abbrev pub HelpsIfAsked : List (String Global) → NoOrder → Type 0
-HelpsIfAsked words (Help text) = IsTrue (asks_for_help words)
-HelpsIfAsked words other = Unit {0}
+-- help goes out
+abbrev pub HelpGiven : List ℕ → Option (List ℕ) → Option (List ℕ) → Option (List ℕ) → Option (List ℕ) → ℕ → Type 0
+HelpGiven text out out_new err err_new status =
+    ((status ≡ 0) × Appends out out_new text × Keeps err err_new)
+    ⊎ ((fault : ProgramFault) × WriteEndsBy out out_new text fault × Reports section_names fault err err_new status)
 
--- help goes out, and the others leave the output as it is
-abbrev pub Explains : Option (List ℕ) → Option (List ℕ) → NoOrder → ℕ → Type 0
-Explains old new (Help text) status = ((status ≡ 0) × Appends old new (string_bytes text)) ⊎ ((status ≡ 3) × AppendsPrefix old new (string_bytes text))
-Explains old new (Usage text) status = (status ≡ 2) × Keeps old new
-Explains old new Memory status = (status ≡ 4) × Keeps old new
+-- what is wrong with the words is told, or a first part of it
+abbrev pub WrongWords : List ℕ → Option (List ℕ) → Option (List ℕ) → Option (List ℕ) → Option (List ℕ) → ℕ → Type 0
+WrongWords text out out_new err err_new status = (status ≡ 2) × Keeps out out_new × AppendsPrefix err err_new text
+
+-- help is given just where a word asks for it
+abbrev pub Explains : List (String Global) → Option (List ℕ) → Option (List ℕ) → Option (List ℕ) → Option (List ℕ) → NoOrder → ℕ → Type 0
+Explains words out out_new err err_new (Help text) status =
+    (IsTrue (asks_for_help words) × HelpGiven (string_bytes text) out out_new err err_new status)
+    ⊎ ((asks_for_help words ≡ false) × WrongWords (string_bytes text) out out_new err err_new status)
+Explains words out out_new err err_new (Usage text) status = WrongWords (string_bytes text) out out_new err err_new status
+Explains words out out_new err err_new Memory status = Keeps out out_new × Reports section_names program.Memory err err_new status
+
+-- ---- words
+
+-- they are some order, or none
+abbrev pub CommandEnds : List (String Global) → KnownTexts → Streams → Streams → ℕ → Type 0
+CommandEnds words known old new status =
+    ((order : Order) × OrderTold known order old new status)
+    ⊎ ((other : NoOrder) × (new.readings ≡ old.readings) × Explains words old.out new.out old.err new.err other status)

@@ -4,8 +4,8 @@ use Rattle.std.specs.Io.KnownBytes.{Keeps}
 use Rattle.bench_text.specs.Text.{◌>>=◌}
 use Rattle.vcd_dump.specs.declared.unit.TimeUnit.TheVariants.{Ns}
 use Rattle.vcd_dump.specs.Bytes.{AppendsPrefix}
-use Rattle.deck_text.specs.declared.sections.DeckTextFault.{DeckTextFault}
-use Rattle.deck_text.specs.declared.sections.DeckTextFault.TheVariants as no_deck
+use Rattle.deck_text.specs.declared.fault.DeckTextFault.{DeckTextFault}
+use Rattle.deck_text.specs.declared.fault.DeckTextFault.TheVariants as no_deck
 use Rattle.deck_text.specs.Deck.{Sections, sections_of}
 use Rattle.runs.specs.declared.fault.SimFault.TheVariants.{Dump, Memory}
 use Rattle.runs.specs.declared.simulation.Report.{Report}

@@ -1,19 +1,42 @@
 -- How the program without words ends.
-use Rattle.std.specs.Prelude.{◌≡◌, ℕ, List, Option, Result, IfSome, IsOkAnd}
-use Rattle.std.specs.Io.KnownBytes.{Appends}
-use Rattle.runs.specs.Source.{or_fault}
-use Rattle.orders.specs.declared.program_fault.ProgramFault.{ProgramFault}
-use Rattle.orders.specs.Ends.{ProgramEndsBy}
-use Rattle.nullsim.specs.DeckRun.{dump_of_deck, fault_of_deck}
+use Rattle.std.specs.Prelude.{◌≡◌, ◌⊎◌, ℕ, List, Option, Result, IfSome, IsOkAnd, codes}
+use denote.Ref.{Bor}
+use Rattle.std.specs.Io.KnownBytes.{Appends, Keeps}
+use Rattle.orders.specs.declared.input.ReadFault.{ReadFault}
+use Rattle.orders.specs.declared.program_fault.ProgramFault.TheVariants.{Flush}
+use Rattle.orders.specs.Place.{section_names}
+use Rattle.orders.specs.ProgramFaults.{fault_of_read}
+use Rattle.orders.specs.Report.{Reports}
+use Rattle.nullsim.specs.declared.deck_run.DeckFault.{DeckFault}
+use Rattle.nullsim.specs.DeckRun.{DeckEndsBy, dump_of_deck, fault_of_deck}
 
--- the writer got just the answer to all bytes of the reader
-abbrev pub Told : Option (List ℕ) → Option (List ℕ) → Option (List ℕ) → Type 0
-Told bytes old new = IfSome bytes (λ deck. IsOkAnd (dump_of_deck deck) (Appends old new))
+module _ (out out_new err err_new : Option (List ℕ)) (status : ℕ) where
+  -- ---- a deck that was read, whose answer this is
 
--- the answer to the deck that the reader has: to all its bytes, where they are known
-abbrev pub IsDeckAnswer : Option (List ℕ) → Result (List ℕ) ProgramFault → Type 0
-IsDeckAnswer bytes answer =
-    (deck : List ℕ) × IfSome bytes (λ all. deck ≡ all) × (answer ≡ or_fault fault_of_deck (dump_of_deck deck))
+  -- its dump went out, and nothing was told
+  abbrev pub DeckDone : Result (List ℕ) DeckFault → Type 0
+  DeckDone answer = (status ≡ 0) × IsOkAnd answer (Appends out out_new) × Keeps err err_new
 
-abbrev pub TellEndsBy : Option (List ℕ) → Option (List ℕ) → Option (List ℕ) → ProgramFault → Type 0
-TellEndsBy bytes = ProgramEndsBy (λ (text : List ℕ). text) (IsDeckAnswer bytes)
+  -- it is refused, or its run broke off
+  abbrev pub DeckBroken : Result (List ℕ) DeckFault → Type 0
+  DeckBroken answer =
+      (fault : DeckFault) × DeckEndsBy answer out out_new fault × Reports section_names (fault_of_deck fault) err err_new status
+
+  -- its dump went out, and the flush failed
+  abbrev pub DeckUnflushed : Result (List ℕ) DeckFault → Type 0
+  DeckUnflushed answer = IsOkAnd answer (Appends out out_new) × Reports section_names Flush err err_new status
+
+  abbrev pub DeckTold : Result (List ℕ) DeckFault → Type 0
+  DeckTold answer = DeckDone answer ⊎ (DeckBroken answer ⊎ DeckUnflushed answer)
+
+  -- ---- standard input
+
+  -- it could not be read: nothing went out
+  abbrev pub DeckUnread : Type 0
+  DeckUnread =
+      (name : Bor (List ℕ)) × ((fault : ReadFault) × (name.now ≡ codes "stdin") × Keeps out out_new
+      × Reports section_names (fault_of_read name fault) err err_new status)
+
+  -- or what was told is of the deck that the reader has: of all its bytes, where they are known
+  abbrev pub TellEnds : Option (List ℕ) → Type 0
+  TellEnds bytes = DeckUnread ⊎ ((deck : List ℕ) × IfSome bytes (λ all. deck ≡ all) × DeckTold (dump_of_deck deck))

@@ -1,24 +1,23 @@
 //! The program with words.
-ghost use Rattle.std.specs.Prelude.{◌≡◌, ◌⊎◌, IsTrue};
-ghost use Rattle.std.specs.Io.KnownBytes.{Keeps};
-ghost use Rattle.nullsim.specs.Command.{AnsweredSome, Explains, PartAnsweredSome, RefusedSome, asks_for_help};
+ghost use Rattle.std.specs.Prelude.{◌≡◌, ◌≢◌, OnErr, OnOk};
+ghost use Rattle.std.specs.Io.KnownBytes.{Appends, Keeps};
+ghost use Rattle.vcd_dump.specs.Bytes.{AppendsPrefix};
+ghost use Rattle.nullsim.specs.Command.{CommandEnds, Explains, OrderTold, asks_for_help, counts_line, line_of_numbers};
 
-use crate::command_line::{NoOrder, order_of_words};
 use cmb_kernel::Counts;
+use command_line::{NoOrder, order_of_words};
+use itoa::Buffer;
 use orders::status::{DONE, WRONG_WORDS};
-use orders::{ProgramFault, SECTIONS, Texts, report, write_text};
+use orders::{Order, ProgramFault, SECTIONS, Texts, report, write_pieces, write_text};
 use std::alloc::Global;
-use std::fmt::InlineText;
 use std::io::Write;
-use vcd_dump::write_all_bytes;
+use vcd_dump::{DumpFault, write_all_bytes};
 
-/// Carries out what the words ask for, which don't have the program's own name; answers the exit
-/// status.
+/// Carries out what the words ask for, which don't have the program's own name, as
+/// [`answer_order`] does; answers the exit status.
 ///
-/// 0 says that this is done, 1 that an input is refused, 2 that the words are wrong, 3 that a read
-/// or a write failed, and 4 that memory was wanting. Help that is asked for goes to `out`. For 1, 3
-/// and 4 one line `WHERE:LINE: NAME` goes to `err`, for 2 some lines that say what is wrong with the
-/// words, and for 0 the line of the counts where a run is asked for them; a fault of `err` is ignored.
+/// Where a word asks for help it goes to `out`, and the status is 0. Where the words are wrong the
+/// status is 2, and some lines that say so go to `err`; then no text is asked for.
 pub fn command<T: Texts, W: Write, E: Write>(
     alloc: Global,
     words: &[String],
@@ -26,62 +25,116 @@ pub fn command<T: Texts, W: Write, E: Write>(
     out: &mut W,
     err: &mut E,
 ) -> u8
-    ensures done { result ≡ 0 → IsTrue (asks_for_help words.now)
-        ⊎ AnsweredSome (T.known texts.old) (W.contents out.old) (W.contents out.new) }
-    ensures refused { result ≡ 1 → RefusedSome (T.known texts.old) (W.contents out.old) (W.contents out.new) }
+    ensures ends { CommandEnds words.now (T.known texts.old)
+        (record { readings = T.readings texts.old; out = W.contents out.old; err = E.contents err.old })
+        (record { readings = T.readings texts.new; out = W.contents out.new; err = E.contents err.new }) result }
     ensures usage { result ≡ 2 → (texts.new ≡ texts.old)
         × Keeps (W.contents out.old) (W.contents out.new) }
-    ensures part { IsTrue (asks_for_help words.now)
-        ⊎ PartAnsweredSome (T.known texts.old) (W.contents out.old) (W.contents out.new) }
 {
     match order_of_words(alloc, words) {
-        Ok(order) => match order.carry_out(alloc, texts, out) {
-            Ok(counts) => {
-                tell_counts(err, counts);
-                DONE
-            }
-            Err(fault) => report(err, fault, order.text_names(fault.side())),
-        },
-        Err(no_order) => explain(no_order, out, err),
+        Ok(order) => answer_order(alloc, &order, texts, out, err),
+        Err(no_order) => explain(words, no_order, out, err),
     }
 }
 
-/// The most bytes of the line of counts: four words of at most 7 letters, four numbers of at most 20
-/// digits, and the 8 between and behind them.
-const LONGEST_COUNTS: usize = 120;
-
-/// Writes the line of the counts that were asked for, or a first part of it where the writer fails.
-/// Takes no memory.
-fn tell_counts<E: Write>(err: &mut E, counts: Option<Counts>) {
-    if let Some(
-        Counts {
-            events,
-            changes,
-            nulls,
-            rounds,
-        },
-    ) = counts
-    {
-        let line = InlineText::<LONGEST_COUNTS>::of(format_args!(
-            "events {events} changes {changes} nulls {nulls} rounds {rounds}\n"
-        ));
-        let _ = write_all_bytes(err, line.as_str().as_bytes());
+/// Carries out an order, and answers the exit status.
+///
+/// 0 says that this is done, 1 that an input is refused, 3 that a read or a write failed, and 4 that
+/// memory was wanting. For each but 0 one line `WHERE:LINE: NAME` goes to `err`, and for 0 the line
+/// of the counts where they are asked for; a fault of `err` is ignored.
+pub fn answer_order<T: Texts, W: Write, E: Write>(
+    alloc: Global,
+    order: &Order<'_>,
+    texts: &mut T,
+    out: &mut W,
+    err: &mut E,
+) -> u8
+    ensures told { OrderTold (T.known texts.old) order.now
+        (record { readings = T.readings texts.old; out = W.contents out.old; err = E.contents err.old })
+        (record { readings = T.readings texts.new; out = W.contents out.new; err = E.contents err.new }) result }
+    ensures no_usage { result ≢ 2 }
+{
+    match order.carry_out(alloc, texts, out) {
+        Ok(None) => DONE,
+        Ok(Some(counts)) => {
+            let _ = write_counts_line(err, counts);
+            DONE
+        }
+        Err(fault) => report(err, fault, order.text_names(fault.side())),
     }
 }
 
-/// Writes the help that is asked for, or what is wrong with the words; answers the exit status.
-fn explain<W: Write, E: Write>(no_order: NoOrder, out: &mut W, err: &mut E) -> u8
-    ensures { Explains (W.contents out.old) (W.contents out.new) no_order result }
+/// Writes the line `events E changes C nulls N rounds R`. Takes no memory.
+///
+/// # Errors
+/// `Write` or `WroteNothing`; a first part of the line went out then.
+pub fn write_counts_line<E: Write>(err: &mut E, counts: Counts) -> Result<(), DumpFault>
+    ensures ok { OnOk result (Appends (E.contents err.old) (E.contents err.new) (counts_line counts)) }
+    ensures err { OnErr result (AppendsPrefix (E.contents err.old) (E.contents err.new) (counts_line counts)) }
+{
+    let (mut events, mut changes) = (Buffer::new(), Buffer::new());
+    let (mut nulls, mut rounds) = (Buffer::new(), Buffer::new());
+    write_numbers(
+        err,
+        events.format(counts.events),
+        changes.format(counts.changes),
+        nulls.format(counts.nulls),
+        rounds.format(counts.rounds),
+    )
+}
+
+/// Writes the line of counts, whose numbers are these texts.
+fn write_numbers<'a, E: Write>(
+    err: &mut E,
+    events: &'a str,
+    changes: &'a str,
+    nulls: &'a str,
+    rounds: &'a str,
+) -> Result<(), DumpFault>
+    ensures ok { OnOk result (Appends (E.contents err.old) (E.contents err.new)
+        (line_of_numbers events.now changes.now nulls.now rounds.now)) }
+    ensures err { OnErr result (AppendsPrefix (E.contents err.old) (E.contents err.new)
+        (line_of_numbers events.now changes.now nulls.now rounds.now)) }
+{
+    let pieces = [
+        "events ",
+        events,
+        " changes ",
+        changes,
+        " nulls ",
+        nulls,
+        " rounds ",
+        rounds,
+        "\n",
+    ];
+    write_pieces(err, &pieces)
+}
+
+/// Writes the help where a word asks for it, or else what is wrong with the words; answers the exit
+/// status.
+fn explain<W: Write, E: Write>(words: &[String], no_order: NoOrder, out: &mut W, err: &mut E) -> u8
+    ensures { Explains words.now (W.contents out.old) (W.contents out.new)
+        (E.contents err.old) (E.contents err.new) no_order result }
 {
     match no_order {
-        NoOrder::Help(text) => match write_text(out, text.as_str().as_bytes()) {
-            Ok(()) => DONE,
-            Err(fault) => report(err, fault, SECTIONS),
-        },
-        NoOrder::Usage(text) => {
+        NoOrder::Help(text) if asks_for_help(words) => {
+            match write_text(out, text.as_str().as_bytes()) {
+                Ok(()) => DONE,
+                Err(fault) => report(err, fault, SECTIONS),
+            }
+        }
+        NoOrder::Help(text) | NoOrder::Usage(text) => {
             let _ = write_all_bytes(err, text.as_str().as_bytes());
             WRONG_WORDS
         }
         NoOrder::Memory => report(err, ProgramFault::Memory, SECTIONS),
     }
+}
+
+fn asks_for_help(words: &[String]) -> bool
+    ensures { result ≡ asks_for_help words.now }
+{
+    words
+        .iter()
+        .any(|word| matches!(word.as_str(), "help" | "--help" | "-h"))
 }

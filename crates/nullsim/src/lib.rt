@@ -1,13 +1,12 @@
 //! The simulator as its callers see it: runs, decks, and the program without and with words.
 #![tactic(auto)]
 
-mod command_line;
 mod commander;
 mod deck_run;
 mod teller;
 
 pub use command_line::{NoOrder, order_of_words};
-pub use commander::command;
+pub use commander::{answer_order, command, write_counts_line};
 pub use deck_run::{DeckFault, deck};
 pub use deck_text::{DeckTextFault, Sections, read_sections};
 pub use orders::{Order, PickOptions, ProgramFault, ReadFault, SourceOptions, Texts, read_text};
@@ -15,4 +14,4 @@ pub use runs::{
     CheckAnswer, Picks, Report, Show, Side, SimFault, Source, TwinAnswer, TwinFault, View, check,
     cone_text, plain, simulate, twin,
 };
-pub use teller::tell;
+pub use teller::{answer_deck, tell};

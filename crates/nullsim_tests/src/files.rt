@@ -1,4 +1,5 @@
 //! The texts that the command lines of the tests name.
+use worked_examples::{S27_BENCH, S27_STIMULI};
 
 /// A text with its name.
 pub(crate) type Named = (&'static str, &'static [u8]);
@@ -74,16 +75,7 @@ pub(crate) static FILES: [Named; 41] = [
     ("second-bad.delays", b"# none\na 2\n"),
     ("second-bad.stim", b"\n0 a z\n"),
     ("second-bad.sched", b"\n\nAdvance y\n"),
-    ("s27.bench", S27),
-    (
-        "s27.stim",
-        b"0 G0 1\n0 G1 1\n0 G2 0\n0 G3 0\n12 G0 0\n12 G2 1\n22 G1 0\n22 G3 1\n",
-    ),
+    ("s27.bench", S27_BENCH),
+    ("s27.stim", S27_STIMULI),
     ("dash.bench", b"INPUT(-a)\n-y = NOT(-a)\n"),
 ];
-
-pub(crate) const S27: &[u8] = b"INPUT(G0)\nINPUT(G1)\nINPUT(G2)\nINPUT(G3)\nOUTPUT(G17)\n\
-      G5 = DFF(G10)\nG6 = DFF(G11)\nG7 = DFF(G13)\n\
-      G14 = NOT(G0)\nG17 = NOT(G11)\nG8 = AND(G14, G6)\n\
-      G15 = OR(G12, G8)\nG16 = OR(G3, G8)\nG9 = NAND(G16, G15)\n\
-      G10 = NOR(G14, G11)\nG11 = NOR(G5, G9)\nG12 = NOR(G1, G7)\nG13 = NOR(G2, G12)\n";

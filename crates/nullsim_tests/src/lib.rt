@@ -1,4 +1,4 @@
-//! Tests of whole runs and of the command lines: worked examples, statuses, faulty streams.
+//! Tests of the program, with words and without: worked examples, statuses, faulty streams.
 #![tactic(auto)]
 
 #[cfg(test)]
@@ -7,10 +7,6 @@ mod checking;
 mod commanding;
 #[cfg(test)]
 mod comparing;
-#[cfg(test)]
-mod dumps;
-#[cfg(test)]
-mod far_runs;
 #[cfg(test)]
 mod files;
 #[cfg(test)]
@@ -22,10 +18,6 @@ mod refusals;
 #[cfg(test)]
 mod running;
 #[cfg(test)]
-mod simulations;
-#[cfg(test)]
 mod telling;
-#[cfg(test)]
-mod twins;
 #[cfg(test)]
 mod writers;

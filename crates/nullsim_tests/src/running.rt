@@ -1,11 +1,11 @@
 //! Command lines through `command`: `run`, with schedules and counts.
 use crate::commanding::{Shelf, breaks_off, goes_out, misuses, refuses, tells, words_of};
-use crate::dumps::{EDGE_DUMP, INVERTER_DUMP, OUTPUTS_DUMP};
 use crate::writers::Narrow;
 use nullsim::command;
 use std::alloc::Global;
 use std::process::Abort;
 use std::test::Fail;
+use worked_examples::dumps::{EDGE_DUMP, INVERTER_DUMP, OUTPUTS_DUMP};
 
 const RUN: &str = "run --bench inv.bench --stimuli inv.stim --horizon 5";
 

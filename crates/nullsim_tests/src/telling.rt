@@ -1,11 +1,11 @@
 //! Decks through `tell`: dumps byte for byte, faulty streams.
-use crate::dumps::{CONTROLLED_DUMP, CROSSING_DUMP, INVERTER_DUMP, SLOW_DUMP};
 use crate::writers::Narrow;
 use nullsim::{deck, tell};
 use std::alloc::Global;
 use std::io::{self, ErrorKind, Read};
 use std::process::Abort;
 use std::test::Fail;
+use worked_examples::dumps::{CONTROLLED_DUMP, CROSSING_DUMP, INVERTER_DUMP, SLOW_DUMP};
 
 // `tell` carries the deck out: this dump goes out, and nothing to standard error.
 fn tells(rt: &impl Abort, alloc: Global, deck: &[u8], dump: &[u8]) {

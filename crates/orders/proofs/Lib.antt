@@ -3,4 +3,6 @@ mod Cut
 mod OneAnswer
 mod OrderEnds
 mod OrderTexts
+mod Pieces
 mod Readers
+mod ReadingsLemmas

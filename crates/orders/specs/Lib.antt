@@ -5,4 +5,6 @@ pub mod OrderAnswer
 pub mod Place
 pub mod ProgramFaults
 pub mod Reading
+pub mod Readings
+pub mod Report
 pub mod Status

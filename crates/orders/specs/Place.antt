@@ -1,28 +1,86 @@
--- Which text is at fault, or what else is.
-use Rattle.std.specs.Prelude.{ℕ, List, codes}
+-- Which text is at fault, or what else is, and what is printed of a fault.
+use Rattle.std.specs.Prelude.{ℕ, List, ◌++◌, Option, None, Some, codes, decimal}
+use denote.Ref.{Bor}
+use Rattle.vcd_dump.specs.Dump.{line}
 use Rattle.runs.specs.declared.fault.SimFault.{SimFault}
 use Rattle.runs.specs.declared.fault.SimFault.TheVariants.{Setting, Bench, Timing, Stimulus, Schedule, UnknownNet, Dump}
 use Rattle.runs.specs.declared.fault.SimFault.TheVariants as sim
+use Rattle.runs.specs.declared.twin_run.Side.{Side}
+use Rattle.runs.specs.declared.twin_run.Side.TheVariants.{First, Second}
+use Rattle.orders.specs.declared.order.Order.{Order}
+use Rattle.orders.specs.declared.order.Order.TheVariants as order
+use Rattle.orders.specs.declared.order.SourceOptions.{SourceOptions}
 use Rattle.orders.specs.declared.place.TextNames.{TextNames}
 use Rattle.orders.specs.declared.program_fault.ProgramFault.{ProgramFault}
 use Rattle.orders.specs.declared.program_fault.ProgramFault.TheVariants.{Read, Deck, Run, Output, Memory, Flush}
+use Rattle.orders.specs.Options.{schedule_file}
+use Rattle.orders.specs.ProgramFaults.{line_of, name_of, side_of}
+
+-- what the texts of a run are called
+pub record Names : Type 0 where
+  pub bench : List ℕ
+  pub delays : List ℕ
+  pub stimuli : List ℕ
+  pub schedule : List ℕ
+
+abbrev pub called : TextNames → Names
+called names = record {
+  bench = names.bench.now;
+  delays = names.delays.now;
+  stimuli = names.stimuli.now;
+  schedule = names.schedule.now;
+}
+
+-- the sections of a deck, by their markers' words
+abbrev pub section_names : Names
+section_names = record { bench = codes "bench"; delays = codes "delays"; stimuli = codes "stimuli"; schedule = codes "schedule" }
+
+abbrev pub named_or : List ℕ → Option (Bor (List ℕ)) → List ℕ
+named_or other None = other
+named_or other (Some name) = name.now
+
+-- files, by their names
+abbrev pub file_names : SourceOptions → Names
+file_names options = record {
+  bench = options.bench.now;
+  delays = named_or (codes "delays") options.delays;
+  stimuli = named_or (codes "stimuli") options.stimuli;
+  schedule = named_or (codes "schedule") (schedule_file options.picks);
+}
+
+-- the files of an order's run on a side
+abbrev pub names_of : Order → Side → Names
+names_of (order.Run options view counts) side = file_names options
+names_of (order.Plain options view) side = file_names options
+names_of (order.Check options horizon) side = file_names options
+names_of (order.Twin first second net horizon) First = file_names first
+names_of (order.Twin first second net horizon) Second = file_names second
+names_of (order.Cone bench names) side = record section_names { bench = bench.now }
 
 -- the name of the text for which a run is refused, or what else is at fault
-abbrev pub run_place : TextNames → SimFault → List ℕ
+abbrev pub run_place : Names → SimFault → List ℕ
 run_place names (Setting fault) = codes "options"
-run_place names (Bench fault) = names.bench.now
-run_place names (Timing fault) = names.delays.now
-run_place names (Stimulus fault) = names.stimuli.now
-run_place names (Schedule fault) = names.schedule.now
-run_place names UnknownNet = names.bench.now
+run_place names (Bench fault) = names.bench
+run_place names (Timing fault) = names.delays
+run_place names (Stimulus fault) = names.stimuli
+run_place names (Schedule fault) = names.schedule
+run_place names UnknownNet = names.bench
 run_place names (Dump fault) = codes "stdout"
 run_place names sim.Memory = codes "memory"
 
 -- the same of the program; the names are those of the side at fault
-abbrev pub place_of : TextNames → ProgramFault → List ℕ
+abbrev pub place_of : Names → ProgramFault → List ℕ
 place_of names (Read name) = name.now
 place_of names (Deck fault) = codes "deck"
 place_of names (Run side fault) = run_place names fault
 place_of names (Output fault) = codes "stdout"
 place_of names Memory = codes "memory"
 place_of names Flush = codes "stdout"
+
+-- the line `WHERE:LINE: NAME`
+abbrev pub fault_line : Names → ProgramFault → List ℕ
+fault_line names fault = line (place_of names fault ++ codes ":" ++ decimal (line_of fault) ++ codes ": " ++ name_of fault)
+
+-- the line of a fault by which an order ended
+abbrev pub line_in_order : Order → ProgramFault → List ℕ
+line_in_order asked fault = fault_line (names_of asked (side_of fault)) fault

@@ -1,28 +1,58 @@
 //! What the program says and answers where it ended early.
-ghost use Rattle.std.specs.Prelude.{◌≡◌};
-ghost use Rattle.orders.specs.Status.{status_of};
+ghost use Rattle.std.specs.Prelude.{◌++◌, OnErr, OnOk, codes};
+ghost use Rattle.std.specs.Io.KnownBytes.{Appends};
+ghost use Rattle.vcd_dump.specs.Bytes.{AppendsPrefix};
+ghost use Rattle.vcd_dump.specs.Dump.{line};
+ghost use Rattle.orders.specs.Place.{called, fault_line};
+ghost use Rattle.orders.specs.Report.{Reports};
 
-use crate::place::{TextNames, line, place};
+use crate::output::write_pieces;
+use crate::place::{TextNames, place};
 use crate::program_fault::ProgramFault;
 use crate::status::status;
-use std::fmt::InlineText;
+use itoa::Buffer;
 use std::io::Write;
-use vcd_dump::write_all_bytes;
+use vcd_dump::DumpFault;
 
-/// The most bytes of a fault's line behind its place: a number of at most 20 digits, a name of at
-/// most 12, and the 4 round them.
-const LONGEST_REASON: usize = 40;
-
-/// Writes the line `WHERE:LINE: NAME` of a fault, or a first part of it where the writer fails, and
-/// answers the exit status. Takes no memory.
-pub fn report<E: Write>(err: &mut E, fault: ProgramFault<'_>, names: TextNames<'_>) -> u8
-    ensures { result ≡ status_of fault.entry }
+/// Writes the line `WHERE:LINE: NAME` of a fault. Takes no memory.
+///
+/// # Errors
+/// `Write` or `WroteNothing`; a first part of the line went out then.
+pub fn write_fault_line<E: Write>(
+    err: &mut E,
+    fault: ProgramFault<'_>,
+    names: TextNames<'_>,
+) -> Result<(), DumpFault>
+    ensures ok { OnOk result (Appends (E.contents err.old) (E.contents err.new)
+        (fault_line (called names.entry) fault.entry)) }
+    ensures err { OnErr result (AppendsPrefix (E.contents err.old) (E.contents err.new)
+        (fault_line (called names.entry) fault.entry)) }
 {
-    let line = line(fault);
-    let reason = InlineText::<LONGEST_REASON>::of(format_args!(":{line}: {fault}\n"));
-    let told = write_all_bytes(err, place(fault, names).as_bytes());
-    if told.is_ok() {
-        let _ = write_all_bytes(err, reason.as_str().as_bytes());
-    }
+    let mut buffer = Buffer::new();
+    let number = buffer.format(fault.line());
+    write_line_of(err, place(fault, names), number, fault.name())
+}
+
+/// Writes the line `WHERE:LINE: NAME` of these three.
+fn write_line_of<'a, E: Write>(
+    err: &mut E,
+    place: &'a str,
+    number: &'a str,
+    name: &'a str,
+) -> Result<(), DumpFault>
+    ensures ok { OnOk result (Appends (E.contents err.old) (E.contents err.new)
+        (line (place.now ++ codes ":" ++ number.now ++ codes ": " ++ name.now))) }
+    ensures err { OnErr result (AppendsPrefix (E.contents err.old) (E.contents err.new)
+        (line (place.now ++ codes ":" ++ number.now ++ codes ": " ++ name.now))) }
+{
+    write_pieces(err, &[place, ":", number, ": ", name, "\n"])
+}
+
+/// Writes the line of a fault, or a first part of it where the writer fails, and answers the exit
+/// status. Takes no memory.
+pub fn report<E: Write>(err: &mut E, fault: ProgramFault<'_>, names: TextNames<'_>) -> u8
+    ensures { Reports (called names.entry) fault.entry (E.contents err.old) (E.contents err.new) result }
+{
+    let _ = write_fault_line(err, fault, names);
     status(fault)
 }

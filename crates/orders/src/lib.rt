@@ -15,10 +15,10 @@ mod source_texts;
 pub mod status;
 mod texts;
 
-pub use fault_line::report;
+pub use fault_line::{report, write_fault_line};
 pub use input::{ReadFault, read_text};
 pub use order::{Order, PickOptions, SourceOptions};
-pub use output::{flush, write_text};
+pub use output::{flush, write_pieces, write_text};
 pub use place::{SECTIONS, TextNames};
 pub use program_fault::ProgramFault;
 pub use texts::Texts;

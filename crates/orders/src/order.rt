@@ -1,6 +1,7 @@
 //! What the words of the command line ask for.
 ghost use Rattle.std.specs.Prelude.{◌≡◌};
 ghost use Rattle.orders.specs.Options.{schedule_file};
+ghost use Rattle.orders.specs.Place.{called, file_names, names_of};
 
 use crate::place::TextNames;
 use runs::{Side, View};
@@ -75,7 +76,9 @@ pub enum Order<'a> {
 impl<'a> Order<'a> {
     /// What a fault on this side calls the texts: the names of their files. An order of one run
     /// has that on the first side.
-    pub fn text_names(&self, side: Side) -> TextNames<'a> {
+    pub fn text_names(&self, side: Side) -> TextNames<'a>
+        ensures { called result ≡ names_of self.now side }
+    {
         match (self, side) {
             (Order::Run { source, .. }, _) => source.text_names(),
             (Order::Plain { source, .. }, _) => source.text_names(),
@@ -93,7 +96,9 @@ impl<'a> Order<'a> {
 }
 
 impl<'a> SourceOptions<'a> {
-    fn text_names(&self) -> TextNames<'a> {
+    fn text_names(&self) -> TextNames<'a>
+        ensures { called result ≡ file_names self.now }
+    {
         TextNames {
             bench: self.bench,
             delays: self.delays.unwrap_or("delays"),

@@ -2,6 +2,7 @@
 ghost use Rattle.std.specs.Prelude.{◌≡◌, IfErr, IfOk, OnOk, None};
 ghost use Rattle.orders.specs.declared.order.Order.TheVariants as order;
 ghost use Rattle.orders.specs.OrderAnswer.{Answered, OrderEndsBy};
+ghost use Rattle.orders.specs.Readings.{ReadsAll, ReadsUntil, files_of};
 
 use crate::answer_text::{check_text, twin_text};
 use crate::order::{Order, SourceOptions};
@@ -33,6 +34,10 @@ impl<'a> Order<'a> {
             (Answered (T.known texts.old) self.now (W.contents out.old) (W.contents out.new)) }
         ensures err { IfErr result
             (OrderEndsBy (T.known texts.old) self.now (W.contents out.old) (W.contents out.new)) }
+        ensures read { OnOk result
+            (ReadsAll (files_of self.now) (T.readings texts.old) (T.readings texts.new)) }
+        ensures stopped { IfErr result
+            (ReadsUntil (files_of self.now) (T.readings texts.old) (T.readings texts.new)) }
     {
         match self {
             Order::Run {
@@ -67,6 +72,10 @@ fn carry_out_run<'a, T: Texts, W: Write>(
         (W.contents out.old) (W.contents out.new)) }
     ensures err { IfErr result (OrderEndsBy (T.known texts.old) (order.Run options.now view.now counts)
         (W.contents out.old) (W.contents out.new)) }
+    ensures read { OnOk result
+        (ReadsAll (files_of (order.Run options.now view.now counts)) (T.readings texts.old) (T.readings texts.new)) }
+    ensures stopped { IfErr result
+        (ReadsUntil (files_of (order.Run options.now view.now counts)) (T.readings texts.old) (T.readings texts.new)) }
 {
     let read = SourceTexts::read(alloc, options, texts)?;
     let report = simulate(alloc, &read.source(options), view, out)?;
@@ -85,6 +94,10 @@ fn carry_out_plain<'a, T: Texts, W: Write>(
         (W.contents out.old) (W.contents out.new)) }
     ensures err { IfErr result (OrderEndsBy (T.known texts.old) (order.Plain options.now view.now)
         (W.contents out.old) (W.contents out.new)) }
+    ensures read { OnOk result
+        (ReadsAll (files_of (order.Plain options.now view.now)) (T.readings texts.old) (T.readings texts.new)) }
+    ensures stopped { IfErr result
+        (ReadsUntil (files_of (order.Plain options.now view.now)) (T.readings texts.old) (T.readings texts.new)) }
 {
     let read = SourceTexts::read(alloc, options, texts)?;
     plain(alloc, &read.source(options), view, out)?;
@@ -103,6 +116,10 @@ fn carry_out_cone<'a, T: Texts, W: Write>(
         (W.contents out.old) (W.contents out.new)) }
     ensures err { IfErr result (OrderEndsBy (T.known texts.old) (order.Cone bench.entry names.now)
         (W.contents out.old) (W.contents out.new)) }
+    ensures read { OnOk result
+        (ReadsAll (files_of (order.Cone bench.entry names.now)) (T.readings texts.old) (T.readings texts.new)) }
+    ensures stopped { IfErr result
+        (ReadsUntil (files_of (order.Cone bench.entry names.now)) (T.readings texts.old) (T.readings texts.new)) }
 {
     let read = file_text(alloc, texts, Some(bench))?;
     let text = cone_text(alloc, read.as_slice(), names.as_slice())?;
@@ -123,6 +140,10 @@ fn carry_out_twin<'a, T: Texts, W: Write>(
         (W.contents out.old) (W.contents out.new)) }
     ensures err { IfErr result (OrderEndsBy (T.known texts.old) (order.Twin first.now second.now net.entry horizon)
         (W.contents out.old) (W.contents out.new)) }
+    ensures read { OnOk result
+        (ReadsAll (files_of (order.Twin first.now second.now net.entry horizon)) (T.readings texts.old) (T.readings texts.new)) }
+    ensures stopped { IfErr result
+        (ReadsUntil (files_of (order.Twin first.now second.now net.entry horizon)) (T.readings texts.old) (T.readings texts.new)) }
 {
     let one = SourceTexts::read(alloc, first, texts)?;
     let other = SourceTexts::read(alloc, second, texts)?;
@@ -149,6 +170,10 @@ fn carry_out_check<'a, T: Texts, W: Write>(
         (W.contents out.old) (W.contents out.new)) }
     ensures err { IfErr result (OrderEndsBy (T.known texts.old) (order.Check options.now horizon)
         (W.contents out.old) (W.contents out.new)) }
+    ensures read { OnOk result
+        (ReadsAll (files_of (order.Check options.now horizon)) (T.readings texts.old) (T.readings texts.new)) }
+    ensures stopped { IfErr result
+        (ReadsUntil (files_of (order.Check options.now horizon)) (T.readings texts.old) (T.readings texts.new)) }
 {
     let read = SourceTexts::read(alloc, options, texts)?;
     let answer = check(alloc, &read.source(options), horizon)?;

@@ -1,12 +1,15 @@
 //! Texts that go out whole.
-ghost use Rattle.std.specs.Prelude.{◌≡◌, IfErr, OnOk};
+ghost use Rattle.std.specs.Prelude.{◌≡◌, IfErr, OnErr, OnOk};
+ghost use Rattle.std.specs.List.{concat};
 ghost use Rattle.std.specs.Io.KnownBytes.{Appends, Keeps};
+ghost use Rattle.bench_text.specs.Seen.{seen_names};
+ghost use Rattle.vcd_dump.specs.Bytes.{AppendsPrefix};
 ghost use Rattle.orders.specs.Ends.{WriteEndsBy};
 ghost use Rattle.orders.specs.declared.program_fault.ProgramFault.TheVariants.{Flush};
 
 use crate::program_fault::ProgramFault;
 use std::io::Write;
-use vcd_dump::write_all_bytes;
+use vcd_dump::{DumpFault, write_all_bytes};
 
 /// Writes a text and flushes once.
 ///
@@ -20,6 +23,22 @@ pub fn write_text<W: Write>(out: &mut W, text: &[u8]) -> Result<(), ProgramFault
         Ok(()) => flush(out),
         Err(fault) => Err(ProgramFault::Output(fault)),
     }
+}
+
+/// Writes these texts, one behind the other. Takes no memory.
+///
+/// # Errors
+/// That of the first write that failed; a first part of the texts went out then.
+pub fn write_pieces<W: Write>(out: &mut W, pieces: &[&str]) -> Result<(), DumpFault>
+    ensures ok { OnOk result (Appends (W.contents out.old) (W.contents out.new)
+        (concat (seen_names pieces.now))) }
+    ensures err { OnErr result (AppendsPrefix (W.contents out.old) (W.contents out.new)
+        (concat (seen_names pieces.now))) }
+{
+    for piece in pieces {
+        write_all_bytes(out, piece.as_bytes())?;
+    }
+    Ok(())
 }
 
 /// Flushes once.

@@ -2,7 +2,7 @@
 ghost use Rattle.std.specs.Prelude.{◌≡◌};
 ghost use Rattle.runs.specs.declared.twin_run.Side.TheVariants.{First};
 ghost use Rattle.orders.specs.declared.program_fault.ProgramFault.TheVariants as program;
-ghost use Rattle.orders.specs.ProgramFaults.{fault_of_read, fault_of_run, fault_of_twin};
+ghost use Rattle.orders.specs.ProgramFaults.{fault_of_read, fault_of_run, fault_of_twin, line_of, name_of, side_of};
 
 use crate::input::ReadFault;
 use deck_text::DeckTextFault;
@@ -13,33 +13,58 @@ use vcd_dump::DumpFault;
 
 /// Why the program ended early: its text is the name that the line of a fault ends with.
 #[derive(Clone, Copy, Debug, Error)]
+#[error("{}", self.name())]
 pub enum ProgramFault<'a> {
     /// The text of this name could not be read.
-    #[error("Read")]
     Read(&'a str),
     /// The text of a deck is refused.
-    #[error("{0}")]
     Deck(DeckTextFault),
     /// A run is refused: the only one, which counts as the first, or one of two.
-    #[error("{fault}")]
     Run { side: Side, fault: SimFault },
     /// A write of the answer failed.
-    #[error("{0}")]
     Output(DumpFault),
     /// A growth was refused.
-    #[error("Memory")]
     Memory,
     /// The whole answer was written, and then the writer could not be flushed.
-    #[error("Write")]
     Flush,
 }
 
 impl<'a> ProgramFault<'a> {
     /// The side of the run that is refused, which is the first one for any other fault.
-    pub fn side(&self) -> Side {
+    pub fn side(&self) -> Side
+        ensures { result ≡ side_of self.now }
+    {
         match self {
             ProgramFault::Run { side, .. } => *side,
             _ => Side::First,
+        }
+    }
+
+    /// The line of the text at fault, from 1, and 0 for a fault without a line.
+    pub fn line(&self) -> u64
+        ensures { result ≡ line_of self.now }
+    {
+        match self {
+            ProgramFault::Deck(fault) => fault.line(),
+            ProgramFault::Run { fault, .. } => fault.line(),
+            ProgramFault::Read(_)
+            | ProgramFault::Output(_)
+            | ProgramFault::Memory
+            | ProgramFault::Flush => 0,
+        }
+    }
+
+    /// The fault's name, which is its text.
+    pub fn name(&self) -> &'static str
+        ensures { result.now ≡ name_of self.now }
+    {
+        match self {
+            ProgramFault::Read(_) => "Read",
+            ProgramFault::Deck(fault) => fault.name(),
+            ProgramFault::Run { fault, .. } => fault.name(),
+            ProgramFault::Output(fault) => fault.name(),
+            ProgramFault::Memory => "Memory",
+            ProgramFault::Flush => "Write",
         }
     }
 

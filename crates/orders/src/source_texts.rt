@@ -1,8 +1,8 @@
 //! The texts of a run's files.
-ghost use Rattle.std.specs.Prelude.{◌≡◌, IfErr, IfOk};
+ghost use Rattle.std.specs.Prelude.{◌≡◌, IfErr, IfOk, OnOk};
 ghost use Rattle.orders.specs.Options.{IsRead, ReadsSource, picks_of_options, source_from, text_named};
 ghost use Rattle.runs.specs.Events.{seen_picks};
-ghost use Rattle.orders.specs.ProgramFaults.{IsReadFault};
+ghost use Rattle.orders.specs.Readings.{ReadsAll, StopsBy, files_of_options, if_named};
 ghost use Rattle.runs.specs.Source.{seen_source};
 
 use crate::order::{PickOptions, SourceOptions};
@@ -28,7 +28,10 @@ impl SourceTexts {
         texts: &mut T,
     ) -> Result<SourceTexts, ProgramFault<'a>>
         ensures ok { IfOk result (ReadsSource (T.known texts.old) options.now) }
-        ensures err { IfErr result IsReadFault }
+        ensures read { OnOk result
+            (ReadsAll (files_of_options options.now) (T.readings texts.old) (T.readings texts.new)) }
+        ensures err { IfErr result
+            (StopsBy (files_of_options options.now) (T.readings texts.old) (T.readings texts.new)) }
         ensures stays { T.known texts.new ≡ T.known texts.old }
     {
         let bench = file_text(alloc, texts, Some(options.bench))?;
@@ -75,7 +78,10 @@ pub(crate) fn file_text<'a, T: Texts>(
     name: Option<&'a str>,
 ) -> Result<Vec<u8>, ProgramFault<'a>>
     ensures ok { IfOk result (λ text. IsRead (text_named (T.known texts.old) name.entry) text.items) }
-    ensures err { IfErr result IsReadFault }
+    ensures read { OnOk result
+        (ReadsAll (if_named name.entry) (T.readings texts.old) (T.readings texts.new)) }
+    ensures err { IfErr result
+        (StopsBy (if_named name.entry) (T.readings texts.old) (T.readings texts.new)) }
     ensures stays { T.known texts.new ≡ T.known texts.old }
 {
     let Some(name) = name else {

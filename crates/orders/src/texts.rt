@@ -1,6 +1,7 @@
 //! Texts by name.
-ghost use Rattle.std.specs.Prelude.{◌≡◌, ◌+◌, ◌≤◌, ℕ, List, Option, None, IfOk, IfSome, length, take};
+ghost use Rattle.std.specs.Prelude.{◌≡◌, ◌+◌, ◌≤◌, ℕ, List, [], ◌∷◌, Option, None, IfOk, IfSome, length, take};
 ghost use Rattle.bench_text.specs.Text.{longest_text};
+ghost use Rattle.orders.specs.Readings.{KnownReadings, reading_of, with_more};
 
 use crate::input::ReadFault;
 
@@ -8,6 +9,9 @@ use crate::input::ReadFault;
 pub trait Texts {
     // The text under each name, where it is known.
     ghost known: { Self → List ℕ → Option (List ℕ) } = { λ _ _. None };
+
+    // Which texts were asked for so far, and how each was read, where that is known.
+    ghost readings: { Self → KnownReadings } = { λ _. None };
 
     /// All bytes of the text of this name, or the first 16,777,217 where there are more.
     ///
@@ -18,5 +22,7 @@ pub trait Texts {
         ensures bytes { IfOk result (λ text. IfSome (known self.old name.now)
             (λ all. text.items ≡ take (longest_text + 1) all)) }
         ensures bound { IfOk result (λ text. length text.items ≤ longest_text + 1) }
-        ensures stays { known self.new ≡ known self.old };
+        ensures stays { known self.new ≡ known self.old }
+        ensures reading { readings self.new
+            ≡ with_more (readings self.old) (reading_of name.now result ∷ []) };
 }

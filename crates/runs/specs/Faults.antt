@@ -1,4 +1,9 @@
--- How a layer's fault comes out of a run: want of memory in any layer is the run's own.
+-- What a fault of a run tells, its name and its line, and how a layer's fault comes out of a run.
+use Rattle.std.specs.Prelude.{ℕ, List, codes}
+use Rattle.bench_text.specs.Faults as of_bench
+use Rattle.design.specs.Faults.{delay_line, delay_name, option_name, stimulus_line, stimulus_name}
+use Rattle.cmb_kernel.specs.ScheduleFaults as of_schedule
+use Rattle.vcd_dump.specs.Faults as of_dump
 use Rattle.bench_text.specs.declared.fault.BenchFault.{BenchFault}
 use Rattle.bench_text.specs.declared.fault.BenchFault.TheVariants as bench
 use Rattle.design.specs.declared.fault.BuildFault.{BuildFault}
@@ -13,6 +18,26 @@ use Rattle.vcd_dump.specs.declared.fault.DumpFault.{DumpFault}
 use Rattle.vcd_dump.specs.declared.fault.DumpFault.TheVariants as dump
 use Rattle.runs.specs.declared.fault.SimFault.{SimFault}
 use Rattle.runs.specs.declared.fault.SimFault.TheVariants.{Setting, Bench, Timing, Stimulus, Schedule, UnknownNet, Dump, Memory}
+
+-- the line that a fault names, and 0 for one without a line
+abbrev pub line_of : SimFault → ℕ
+line_of (Bench fault) = of_bench.line_of fault
+line_of (Timing fault) = delay_line fault
+line_of (Stimulus fault) = stimulus_line fault
+line_of (Schedule fault) = of_schedule.line_of fault
+line_of other = 0
+
+abbrev pub name_of : SimFault → List ℕ
+name_of (Setting fault) = option_name fault
+name_of (Bench fault) = of_bench.name_of fault
+name_of (Timing fault) = delay_name fault
+name_of (Stimulus fault) = stimulus_name fault
+name_of (Schedule fault) = of_schedule.name_of fault
+name_of UnknownNet = codes "UnknownNet"
+name_of (Dump fault) = of_dump.name_of fault
+name_of Memory = codes "Memory"
+
+-- ---- want of memory in any layer is the run's own
 
 abbrev pub sim_of_bench : BenchFault → SimFault
 sim_of_bench bench.Memory = Memory

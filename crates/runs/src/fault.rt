@@ -1,6 +1,6 @@
 ghost use Rattle.std.specs.Prelude.{◌≡◌};
 ghost use Rattle.runs.specs.declared.fault.SimFault.TheVariants as sim;
-ghost use Rattle.runs.specs.Faults.{sim_of_bench, sim_of_build, sim_of_cone, sim_of_dump, sim_of_schedule};
+ghost use Rattle.runs.specs.Faults.{line_of, name_of, sim_of_bench, sim_of_build, sim_of_cone, sim_of_dump, sim_of_schedule};
 
 use bench_text::BenchFault;
 use cmb_kernel::{KernelFault, ScheduleFault};
@@ -15,26 +15,50 @@ use vcd_dump::DumpFault;
 /// The first fault decides: the settings (default delay, period, horizon), the netlist, the delays,
 /// the stimuli, the schedule, the names of nets. A want of memory of any layer is [`Memory`](Self::Memory).
 #[derive(Clone, Copy, Debug, PartialEq, Eq, Error)]
+#[error("{}", self.name())]
 pub enum SimFault {
-    #[error("{0}")]
     Setting(OptionFault),
-    #[error("{0}")]
     Bench(BenchFault),
-    #[error("{0}")]
     Timing(DelayFault),
-    #[error("{0}")]
     Stimulus(StimulusFault),
-    #[error("{0}")]
     Schedule(ScheduleFault),
     /// No net has a name that was asked for.
-    #[error("UnknownNet")]
     UnknownNet,
     /// The dump broke off.
-    #[error("{0}")]
     Dump(DumpFault),
     /// A growth was refused.
-    #[error("Memory")]
     Memory,
+}
+
+impl SimFault {
+    /// The line that the fault names, from 1, and 0 for one without a line.
+    pub fn line(&self) -> u64
+        ensures { result ≡ line_of self.now }
+    {
+        match self {
+            SimFault::Bench(fault) => fault.line(),
+            SimFault::Timing(fault) => fault.line(),
+            SimFault::Stimulus(fault) => fault.line(),
+            SimFault::Schedule(fault) => fault.line(),
+            SimFault::Setting(_) | SimFault::UnknownNet | SimFault::Dump(_) | SimFault::Memory => 0,
+        }
+    }
+
+    /// The fault's name, which is its text.
+    pub fn name(&self) -> &'static str
+        ensures { result.now ≡ name_of self.now }
+    {
+        match self {
+            SimFault::Setting(fault) => fault.name(),
+            SimFault::Bench(fault) => fault.name(),
+            SimFault::Timing(fault) => fault.name(),
+            SimFault::Stimulus(fault) => fault.name(),
+            SimFault::Schedule(fault) => fault.name(),
+            SimFault::UnknownNet => "UnknownNet",
+            SimFault::Dump(fault) => fault.name(),
+            SimFault::Memory => "Memory",
+        }
+    }
 }
 
 impl From<AllocError> for SimFault {

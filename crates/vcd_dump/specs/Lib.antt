@@ -5,6 +5,7 @@ pub use Rattle.design.specs.Circuit
 pub mod Bytes
 pub mod Codes
 pub mod Dump
+pub mod Faults
 pub mod Pending
 pub mod Traces
 pub mod Shown

@@ -1,21 +1,33 @@
 ghost use Rattle.std.specs.Prelude.{◌≡◌};
 ghost use Rattle.vcd_dump.specs.declared.fault.DumpFault.TheVariants.{Memory};
+ghost use Rattle.vcd_dump.specs.Faults.{name_of};
 
 use std::alloc::{AllocError, AllocFailed};
 use thiserror::Error;
 
 /// Why a dump ended early: what went out is then a prefix of its text.
 #[derive(Clone, Copy, Debug, PartialEq, Eq, Error)]
+#[error("{}", self.name())]
 pub enum DumpFault {
     /// A `write` answered a fault, of whatever kind.
-    #[error("Write")]
     Write,
     /// A `write` of some bytes took none of them.
-    #[error("WroteNothing")]
     WroteNothing,
     /// A growth was refused.
-    #[error("Memory")]
     Memory,
+}
+
+impl DumpFault {
+    /// The fault's name, which is its text.
+    pub fn name(&self) -> &'static str
+        ensures { result.now ≡ name_of self.now }
+    {
+        match self {
+            DumpFault::Write => "Write",
+            DumpFault::WroteNothing => "WroteNothing",
+            DumpFault::Memory => "Memory",
+        }
+    }
 }
 
 impl From<AllocError> for DumpFault {

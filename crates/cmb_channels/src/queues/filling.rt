@@ -1,6 +1,7 @@
 //! A message into the queues of many pins: room in all of them first, and then the message.
 ghost use Rattle.std.specs.Prelude.{◌≡◌, ◌<◌, vec_len, All, OnOk};
-ghost use Rattle.cmb_channels.specs.Waiting.{appended, lists_in, HasRoom, IsRising};
+ghost use Rattle.logic3.specs.Rising.{Rises};
+ghost use Rattle.cmb_channels.specs.Waiting.{appended, lists_in, HasRoom};
 
 use crate::message::Message;
 use std::alloc::AllocError;
@@ -25,7 +26,7 @@ pub(super) fn reserve_places(
 
 /// Puts a message at the end of the queue of each of these pins.
 pub(super) fn push_at_all(queues: &mut Vec<VecDeque<Message>>, pins: &[u32], message: Message)
-    requires rising { IsRising pins.now }
+    requires rising { Rises pins.now }
     requires exist { All (λ pin. pin < vec_len queues.old) pins.now }
     requires room { All (HasRoom queues.old.items) pins.now }
     ensures { lists_in queues.new.items ≡ appended message pins.now (lists_in queues.old.items) }

@@ -6,8 +6,9 @@ pub returns-clause-advanced : goal.returns-clause-advanced
 returns-clause-advanced c = λ signals number process ok. advanced_knows signals number process ok.meets ok.knows
 
 pub returns-clause-heard : goal.returns-clause-heard
-returns-clause-heard c = λ signals number place to process message rest ok comes.
-    heard_knows signals number process place comes.source to comes.received message rest ok.meets ok.knows comes.pin comes.so_far comes.tells
+returns-clause-heard c = λ signals number place to process message rest hears.
+    heard_knows signals number process place hears.source to hears.received message rest hears.truthful.meets hears.truthful.knows
+    hears.pin hears.so_far hears.tells
 
 pub returns-clause-news : goal.returns-clause-news
 returns-clause-news c = λ signals number process ok. news_true signals number process ok.meets ok.knows

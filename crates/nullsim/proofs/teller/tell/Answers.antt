@@ -1,13 +1,8 @@
-use Rattle.std.proofs.Common.{sym, ◌∙◌}
-use Rattle.nullsim.proofs.Told.{Told-part, TellEndsBy-part, TellEndsBy-status_1}
+use Rattle.std.proofs.Common.{inr}
+use Rattle.nullsim.proofs.Told.{DeckTold-read}
 use Rattle.nullsim.proofs.teller.tell.Goals as goal
 
-pub returns-in-Ok-clause-part : goal.returns-in-Ok-clause-part
-returns-in-Ok-clause-part g c = Told-part (g.R.Read.remaining c.args.input.now) _ _ c.in-Ok.ensures.ok
-
-pub returns-in-Err-clause-part : goal.returns-in-Err-clause-part
-returns-in-Err-clause-part g c = TellEndsBy-part (g.R.Read.remaining c.args.input.now) _ _ c.in-Err.fault c.in-Err.ensures.err
-
-pub returns-in-Err-clause-refused : goal.returns-in-Err-clause-refused
-returns-in-Err-clause-refused g c is =
-    TellEndsBy-status_1 (g.R.Read.remaining c.args.input.now) _ _ c.in-Err.fault c.in-Err.ensures.err (sym c.report.ensures ∙ is)
+pub returns-in-Ok : goal.returns-in-Ok
+returns-in-Ok g c =
+    inr (DeckTold-read (g.R.Read.remaining c.args.input.now) c.in-Ok.text.items c.as_slice.result.now c.in-Ok.ensures.bytes c.as_slice.ensures.value
+    _ _ _ _ _ c.answer_deck.ensures)

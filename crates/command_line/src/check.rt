@@ -1,0 +1,26 @@
+//! The subcommand `check`: what it takes, and the order that it is.
+use crate::help::subcommand_named;
+use crate::options::{ALONE, horizon, number_given, source_given, source_options};
+use clap::{ArgMatches, Command};
+use orders::{Order, PickOptions};
+use std::alloc::{AllocError, Global};
+
+const ABOUT: &str =
+    "Simulates a circuit by run's engine and by plain's, and writes for how many nets they give the\n\
+     same waveform";
+
+const USAGE: &str = "nullsim check --bench <FILE> --horizon <N> [OPTIONS]";
+
+/// The subcommand with its options.
+pub(super) fn subcommand<'a>(alloc: Global) -> Result<Command<'a>, AllocError> {
+    let command = subcommand_named(alloc, "check", ABOUT, USAGE);
+    source_options(alloc, command, &ALONE)?.arg(horizon(alloc))
+}
+
+/// The order of its options.
+pub(super) fn order_given<'a>(options: &ArgMatches<'a>) -> Order<'a> {
+    Order::Check {
+        source: source_given(options, &ALONE, PickOptions::Nothing),
+        horizon: number_given(options, "horizon"),
+    }
+}

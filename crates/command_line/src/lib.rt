@@ -1,0 +1,13 @@
+//! The words of a command line as an order. What words mean is in no contract, and tested.
+#![tactic(auto)]
+
+mod check;
+mod cone;
+mod help;
+mod options;
+mod plain;
+mod run;
+mod twin;
+mod words;
+
+pub use words::{NoOrder, order_of_words};

@@ -1,0 +1,46 @@
+//! The subcommand `twin`: what it takes, and the order that it is.
+use crate::help::subcommand_named;
+use crate::options::{
+    FIRST, SECOND, horizon, number_given, schedule, source_given, source_options,
+};
+use clap::{Arg, ArgMatches, Command};
+use orders::{Order, PickOptions};
+use std::alloc::{AllocError, Global};
+
+const ABOUT: &str =
+    "Writes whether two runs agree on all that a net's value can come from, and what the net shows\n\
+     in each: lines such as agree yes, first 12 1, second 12 1";
+
+const USAGE: &str =
+    "nullsim twin --first <FILE> --second <FILE> --net <NAME> --horizon <N> [OPTIONS]";
+
+/// The subcommand with its options.
+pub(super) fn subcommand<'a>(alloc: Global) -> Result<Command<'a>, AllocError> {
+    let net = Arg::new(alloc, "net")
+        .long("net")
+        .required(true)
+        .value_name("NAME")
+        .help("The net to be compared, by its name in both circuits");
+    let command = subcommand_named(alloc, "twin", ABOUT, USAGE)
+        .arg(net)?
+        .arg(horizon(alloc))?;
+    let command = source_options(alloc, command, &FIRST)?.arg(schedule(alloc, &FIRST))?;
+    source_options(alloc, command, &SECOND)?.arg(schedule(alloc, &SECOND))
+}
+
+/// The order of its options.
+pub(super) fn order_given<'a>(options: &ArgMatches<'a>) -> Order<'a> {
+    Order::Twin {
+        first: source_given(options, &FIRST, side_picks(options, FIRST.schedule)),
+        second: source_given(options, &SECOND, side_picks(options, SECOND.schedule)),
+        net: options.get_str("net").unwrap_or("").as_bytes(),
+        horizon: number_given(options, "horizon"),
+    }
+}
+
+fn side_picks<'a>(options: &ArgMatches<'a>, id: &str) -> PickOptions<'a> {
+    match options.get_str(id) {
+        Some(name) => PickOptions::File(name),
+        None => PickOptions::Nothing,
+    }
+}

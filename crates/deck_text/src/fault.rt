@@ -1,0 +1,36 @@
+ghost use Rattle.std.specs.Prelude.{◌≡◌};
+ghost use Rattle.deck_text.specs.Faults.{line_of, name_of};
+
+use thiserror::Error;
+
+/// Why a text is no deck. Lines count from 1.
+#[derive(Clone, Copy, Debug, PartialEq, Eq, Error)]
+#[error("{}", self.name())]
+pub enum DeckTextFault {
+    /// The text has more than 16,777,216 bytes.
+    TooLong,
+    /// The first line that breaks a rule of decks.
+    BadDeck { line: u64 },
+}
+
+impl DeckTextFault {
+    /// The line that the fault names, from 1, and 0 for a fault of the whole text.
+    pub fn line(&self) -> u64
+        ensures { result ≡ line_of self.now }
+    {
+        match *self {
+            DeckTextFault::BadDeck { line } => line,
+            DeckTextFault::TooLong => 0,
+        }
+    }
+
+    /// The fault's name, which is its text.
+    pub fn name(&self) -> &'static str
+        ensures { result.now ≡ name_of self.now }
+    {
+        match self {
+            DeckTextFault::TooLong => "TooLong",
+            DeckTextFault::BadDeck { .. } => "BadDeck",
+        }
+    }
+}

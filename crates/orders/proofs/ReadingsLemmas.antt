@@ -1,0 +1,76 @@
+-- Readings that come one behind the other.
+use Rattle.std.proofs.Common.{◌≡◌, ℕ, List, [], ◌∷◌, ◌++◌, map, option_map, Option, None, Some, Bor, refl, ap, sym, ◌∙◌, inl, inr, append_assoc}
+use Rattle.std.proofs.lemmas.List.{append-nil, map-append}
+use Rattle.runs.specs.declared.fault.SimFault.{SimFault}
+use Rattle.runs.specs.declared.fault.SimFault.TheVariants.{Dump, Memory}
+use Rattle.runs.specs.declared.twin_run.Side.{Side}
+use Rattle.orders.specs.declared.input.ReadFault.{ReadFault}
+use Rattle.orders.specs.declared.input.ReadFault.TheVariants as read
+use Rattle.orders.specs.declared.program_fault.ProgramFault.{ProgramFault}
+use Rattle.orders.specs.Ends.{WriteEndsBy}
+use Rattle.orders.specs.ProgramFaults.{fault_of_read, fault_of_run}
+use Rattle.orders.specs.Readings.{KnownReadings, Reading, ReadsAll, ReadsUntil, StopsAt, StopsBy, well_read, with_more}
+
+with_more-nothing : (known : KnownReadings) → with_more known [] ≡ known
+with_more-nothing None = refl
+with_more-nothing (Some readings) = ap Some (append-nil readings)
+
+with_more-twice : (known : KnownReadings) (first second : List Reading) → with_more (with_more known first) second ≡ with_more known (first ++ second)
+with_more-twice None first second = refl
+with_more-twice (Some readings) first second = ap Some (append_assoc readings first second)
+
+pub ReadsAll-none : (known : KnownReadings) → ReadsAll [] known known
+ReadsAll-none known = sym (with_more-nothing known)
+
+pub ReadsAll-append : (first second : List (List ℕ)) (old mid new : KnownReadings) → ReadsAll first old mid → ReadsAll second mid new →
+    ReadsAll (first ++ second) old new
+ReadsAll-append first second old mid new one other =
+    other ∙ ap (λ known. with_more known (map well_read second)) one
+    ∙ with_more-twice old (map well_read first) (map well_read second) ∙ ap (with_more old) (sym (map-append well_read first second))
+
+-- one of the first files could not be read
+StopsAt-longer : (first second : List (List ℕ)) (old new : KnownReadings) (name : List ℕ) (fault : ReadFault) → StopsAt first old new name fault →
+    StopsAt (first ++ second) old new name fault
+StopsAt-longer first second old new name fault (before, (behind, are, ends)) =
+    (before, (behind ++ second, ap (λ files. files ++ second) are ∙ append_assoc before (name ∷ behind) second, ends))
+
+-- one of the files behind them
+StopsAt-after : (first second : List (List ℕ)) (old mid new : KnownReadings) (name : List ℕ) (fault : ReadFault) → ReadsAll first old mid →
+    StopsAt second mid new name fault → StopsAt (first ++ second) old new name fault
+StopsAt-after first second old mid new name fault one (before, (behind, are, ends)) =
+    let last : List Reading = record { name = name; fault = Some fault } ∷ [] in (
+      first ++ before,
+      (
+        behind,
+        ap (λ files. first ++ files) are ∙ sym (append_assoc first before (name ∷ behind)),
+        ends ∙ ap (λ known. with_more known (map well_read before ++ last)) one
+            ∙ with_more-twice old (map well_read first) (map well_read before ++ last)
+            ∙ ap (with_more old) (sym (append_assoc (map well_read first) (map well_read before) last)
+            ∙ ap (λ readings. readings ++ last) (sym (map-append well_read first before))),
+      ),
+    )
+
+module _ (first second : List (List ℕ)) where
+  pub StopsBy-longer : (old new : KnownReadings) (fault : ProgramFault) → StopsBy first old new fault → StopsBy (first ++ second) old new fault
+  StopsBy-longer old new fault (name, (failed, is, at)) = (name, (failed, is, StopsAt-longer first second old new name.now failed at))
+
+  pub StopsBy-after : (old mid new : KnownReadings) (fault : ProgramFault) → ReadsAll first old mid → StopsBy second mid new fault →
+      StopsBy (first ++ second) old new fault
+  StopsBy-after old mid new fault one (name, (failed, is, at)) = (name, (failed, is, StopsAt-after first second old mid new name.now failed one at))
+
+pub ReadsUntil-stopped : (files : List (List ℕ)) (old new : KnownReadings) (fault : ProgramFault) → StopsBy files old new fault → ReadsUntil files old new fault
+ReadsUntil-stopped files old new fault (name, (read.Read, is, at)) = rw is at
+ReadsUntil-stopped files old new fault (name, (read.Memory, is, at)) = rw is (inr (name.now, at))
+
+-- all were read, and then a run ended by a fault
+pub ReadsUntil-run : (files : List (List ℕ)) (old new : KnownReadings) (side : Side) (fault : SimFault) → ReadsAll files old new →
+    ReadsUntil files old new (fault_of_run side fault)
+ReadsUntil-run files old new side (Dump fault) all = all
+ReadsUntil-run files old new side Memory all = inl all
+ReadsUntil-run files old new side fault all = all
+
+-- or its text could not be written
+pub ReadsUntil-write : (files : List (List ℕ)) (old new : KnownReadings) (out written : Option (List ℕ)) (text : List ℕ) (fault : ProgramFault) →
+    ReadsAll files old new → WriteEndsBy out written text fault → ReadsUntil files old new fault
+ReadsUntil-write files old new out written text fault all (inl (failed, is, part)) = rw is all
+ReadsUntil-write files old new out written text fault all (inr (is, done)) = rw is all

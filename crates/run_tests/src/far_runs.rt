@@ -1,0 +1,70 @@
+//! Many nets over ten million ticks: `simulate` and `twin` give what the kernel knows, since the engine
+//! that goes tick by tick would have to reckon 200,000,000,000 values here, and a test has a minute.
+use logic3::{Change, Value};
+use runs::{Picks, Show, Source, View, simulate, twin};
+use std::alloc::{AllocError, Global};
+use std::test::Fail;
+use vcd_dump::TimeUnit;
+
+// An input, and so many gates that invert it, the first of them an output.
+fn inverters(alloc: Global, count: u32) -> Result<Vec<u8>, AllocError> {
+    let mut text = Vec::from_slice(alloc, b"INPUT(a)\nOUTPUT(y0)\n")?;
+    for number in 0..count {
+        push_inverter(&mut text, number)?;
+    }
+    Ok(text)
+}
+
+fn push_inverter(text: &mut Vec<u8>, number: u32) -> Result<(), AllocError> {
+    let digits = number.to_string(*text.allocator())?;
+    text.push(b'y')?;
+    text.extend_from_slice(digits.as_bytes())?;
+    text.extend_from_slice(b" = NOT(a)\n")
+}
+
+// The input is 0, and 1 from tick 5,000,000 on; each gate takes a million ticks.
+fn driven(bench: &[u8]) -> Source<'_> {
+    Source {
+        bench,
+        delays: b"",
+        stimuli: b"0 a 0\n5000000 a 1\n",
+        default_delay: 1_000_000,
+        period: 10,
+        picks: Picks::Nothing,
+    }
+}
+
+#[test]
+fn a_run(rt: HostRuntime) -> Result<(), Fail> {
+    let bench = inverters(rt.alloc(), 20_000)?;
+    let view = View {
+        horizon: 10_000_000,
+        show: Show::Outputs,
+        unit: TimeUnit::Ns,
+    };
+    let mut out = Vec::new(rt.alloc());
+    simulate(rt.alloc(), &driven(bench.as_slice()), &view, &mut out)?;
+    let dump =
+        b"$version nullsim 1 $end\n$timescale 1 ns $end\n$scope module top $end\n$var wire 1 ! y0 $end\n$upscope $end\n$enddefinitions $end\n#0\n$dumpvars\nx!\n$end\n#1000000\n1!\n#6000000\n0!\n#10000000\n";
+    assert!(rt; out.as_slice() == dump.as_slice());
+    Ok(())
+}
+
+#[test]
+fn two_runs(rt: HostRuntime) -> Result<(), Fail> {
+    let bench = inverters(rt.alloc(), 20_000)?;
+    let source = driven(bench.as_slice());
+    let answer = twin(rt.alloc(), &source, &source, b"y0", 10_000_000)?;
+    assert!(rt; answer.agree);
+    let rise = Change {
+        tick: 1_000_000,
+        value: Value::One,
+    };
+    let fall = Change {
+        tick: 6_000_000,
+        value: Value::Zero,
+    };
+    assert_eq!(rt; answer.first.changes(), [rise, fall].as_slice());
+    assert_eq!(rt; answer.second.changes(), [rise, fall].as_slice());
+    Ok(())
+}

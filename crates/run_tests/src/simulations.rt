@@ -1,0 +1,251 @@
+//! Runs by the kernel: dumps byte for byte, what is reported, schedules.
+use cmb_kernel::{Counts, ScheduleFault};
+use design::StimulusFault;
+use runs::{Picks, Report, Show, SimFault, Source, View, plain, simulate};
+use std::alloc::Global;
+use std::process::Abort;
+use vcd_dump::{DumpFault, TimeUnit};
+use worked_examples::dumps::{
+    EDGE_DUMP, INVERTER_DUMP, OSCILLATOR_DUMP, OUTPUTS_DUMP, RING_COUNTER_DUMP, SAMPLER_DUMP,
+    SELF_INVERTER_DUMP, SLOW_DUMP,
+};
+
+const INVERTER: Source<'static> = Source {
+    bench: b"INPUT(a)\nOUTPUT(y)\ny = NOT(a)\n",
+    delays: b"",
+    stimuli: b"0 a 0\n3 a 1\n",
+    default_delay: 1,
+    period: 10,
+    picks: Picks::Nothing,
+};
+
+// A buffer and a gate that compares its two sides.
+const EDGE: Source<'static> = Source {
+    bench: b"INPUT(a)\nb = BUFF(a)\ny = XOR(a, b)\n",
+    stimuli: b"0 a 0\n5 a 1\n",
+    ..INVERTER
+};
+
+const SLOW_INVERTER: Source<'static> = Source {
+    delays: b"y 9",
+    ..INVERTER
+};
+
+const SELF_INVERTER: Source<'static> = Source {
+    bench: b"y = NOT(y)",
+    stimuli: b"",
+    ..INVERTER
+};
+
+const OSCILLATOR: Source<'static> = Source {
+    bench: b"INPUT(e)\ny = NAND(e, y)\n",
+    delays: b"y 2",
+    stimuli: b"0 e 0\n5 e 1\n",
+    ..INVERTER
+};
+
+const SAMPLER: Source<'static> = Source {
+    bench: b"INPUT(d)\nq = DFF(d)\n",
+    stimuli: b"4 d 1\n5 d 0\n",
+    period: 4,
+    ..INVERTER
+};
+
+const RING_COUNTER: Source<'static> = Source {
+    bench: b"q = DFF(n)\nn = NOT(q)\n",
+    stimuli: b"",
+    period: 3,
+    ..INVERTER
+};
+
+fn counts(events: u64, changes: u64, nulls: u64, rounds: u64) -> Counts {
+    Counts {
+        events,
+        changes,
+        nulls,
+        rounds,
+    }
+}
+
+// All nets in nanoseconds, up to a horizon.
+fn all_up_to(horizon: u64) -> View {
+    View {
+        horizon,
+        show: Show::All,
+        unit: TimeUnit::Ns,
+    }
+}
+
+// The run ends with this report and this dump, which is the plain engine's too.
+fn runs(rt: &impl Abort, alloc: Global, source: Source, horizon: u64, report: Report, dump: &[u8]) {
+    let view = all_up_to(horizon);
+    let mut out = Vec::new(alloc);
+    assert_eq!(rt; simulate(alloc, &source, &view, &mut out), Ok(report));
+    assert!(rt; out.as_slice() == dump);
+    let mut second = Vec::new(alloc);
+    assert_eq!(rt; plain(alloc, &source, &view, &mut second), Ok(()));
+    assert!(rt; second.as_slice() == dump);
+}
+
+// The same of a run without any events before its rounds.
+fn completes(
+    rt: &impl Abort,
+    alloc: Global,
+    source: Source,
+    horizon: u64,
+    total: Counts,
+    dump: &[u8],
+) {
+    let after = counts(0, 0, 0, 0);
+    let report = Report {
+        after,
+        least: 0,
+        total,
+    };
+    runs(rt, alloc, source, horizon, report, dump);
+}
+
+#[test]
+fn worked_runs(rt: HostRuntime) {
+    assert_eq!(rt; INVERTER_DUMP.len(), 190);
+    for (source, horizon, total, dump) in [
+        (INVERTER, 5, counts(7, 4, 3, 2), INVERTER_DUMP),
+        (INVERTER, 0, counts(2, 1, 1, 1), &INVERTER_DUMP[..169]),
+        (SLOW_INVERTER, 5, counts(2, 2, 2, 1), SLOW_DUMP),
+        (SELF_INVERTER, 3, counts(7, 0, 4, 4), SELF_INVERTER_DUMP),
+        (OSCILLATOR, 12, counts(24, 6, 5, 7), OSCILLATOR_DUMP),
+        (SAMPLER, 9, counts(7, 4, 2, 2), SAMPLER_DUMP),
+        (RING_COUNTER, 10, counts(21, 0, 8, 7), RING_COUNTER_DUMP),
+        (EDGE, 8, counts(19, 7, 6, 3), EDGE_DUMP),
+    ] {
+        completes(&rt, rt.alloc(), source, horizon, total, dump);
+    }
+}
+
+#[test]
+fn schedules(rt: HostRuntime) {
+    let advance_y = [*b"advance y\n"; 50];
+    let deliveries = b"deliver b 0\ndeliver y 0\ndeliver y 1\n";
+    let ahead = b"advance a\ndeliver b 0\nadvance b\n";
+    for (text, after, total) in [
+        (b"".as_slice(), counts(0, 0, 0, 0), counts(19, 7, 6, 3)),
+        (
+            advance_y.as_flattened(),
+            counts(50, 0, 1, 0),
+            counts(69, 7, 6, 3),
+        ),
+        (
+            deliveries.as_slice(),
+            counts(3, 0, 0, 0),
+            counts(22, 7, 6, 3),
+        ),
+        (ahead.as_slice(), counts(3, 3, 1, 0), counts(17, 7, 3, 2)),
+    ] {
+        let source = Source {
+            picks: Picks::Text(text),
+            ..EDGE
+        };
+        let report = Report {
+            after,
+            least: 0,
+            total,
+        };
+        runs(&rt, rt.alloc(), source, 8, report, EDGE_DUMP);
+    }
+}
+
+#[test]
+fn random_schedule(rt: HostRuntime) {
+    for seed in [0, 1, 7, u64::MAX] {
+        let picks = Picks::Seeded { seed, picks: 1_000 };
+        let source = Source { picks, ..EDGE };
+        let mut out = Vec::new(rt.alloc());
+        let answer = simulate(rt.alloc(), &source, &all_up_to(8), &mut out);
+        assert!(rt; answer.is_ok_and(|report| report.after.events == 1_000));
+        assert!(rt; out.as_slice() == EDGE_DUMP);
+    }
+}
+
+// The run is refused, and nothing is written.
+fn refuses(rt: &impl Abort, alloc: Global, source: Source, fault: SimFault) {
+    let mut out = Vec::new(alloc);
+    assert_eq!(rt;
+        simulate(alloc, &source, &all_up_to(5), &mut out),
+        Err(fault)
+    );
+    assert!(rt; out.is_empty());
+}
+
+#[test]
+fn faulty_schedules(rt: HostRuntime) {
+    for (text, fault) in [
+        (b"deliver y 1".as_slice(), ScheduleFault::BadPin { line: 1 }),
+        (b"Advance y".as_slice(), ScheduleFault::BadLine { line: 1 }),
+        (
+            b"advance zz".as_slice(),
+            ScheduleFault::UnknownNet { line: 1 },
+        ),
+        (
+            b"advance y\n# none\nadvance".as_slice(),
+            ScheduleFault::BadLine { line: 3 },
+        ),
+    ] {
+        let source = Source {
+            picks: Picks::Text(text),
+            ..INVERTER
+        };
+        refuses(&rt, rt.alloc(), source, SimFault::Schedule(fault));
+        // The stimuli are looked at before.
+        let not_an_input = Source {
+            stimuli: b"3 y 1",
+            ..source
+        };
+        let fault = SimFault::Stimulus(StimulusFault::NotAnInput { line: 1 });
+        refuses(&rt, rt.alloc(), not_an_input, fault);
+    }
+    let many = Source {
+        picks: Picks::Seeded {
+            seed: 0,
+            picks: 10_000_001,
+        },
+        ..INVERTER
+    };
+    let fault = SimFault::Schedule(ScheduleFault::TooManyEvents);
+    refuses(&rt, rt.alloc(), many, fault);
+}
+
+#[test]
+fn writer_without_room(rt: HostRuntime) {
+    let mut room = [0; 100];
+    let mut out = room.as_mut_slice();
+    let answer = simulate(rt.alloc(), &INVERTER, &all_up_to(5), &mut out);
+    let fault = SimFault::Dump(DumpFault::WroteNothing);
+    assert_eq!(rt; answer, Err(fault));
+    assert!(rt; room.as_slice() == &INVERTER_DUMP[..100]);
+}
+
+// The dump of the outputs of a circuit, in picoseconds, up to tick 5.
+fn dumps_outputs(rt: &impl Abort, alloc: Global, source: Source, dump: &[u8]) {
+    let view = View {
+        horizon: 5,
+        show: Show::Outputs,
+        unit: TimeUnit::Ps,
+    };
+    let mut out = Vec::new(alloc);
+    assert_eq!(rt; plain(alloc, &source, &view, &mut out), Ok(()));
+    assert!(rt; out.as_slice() == dump);
+}
+
+#[test]
+fn outputs_only(rt: HostRuntime) {
+    assert_eq!(rt; OUTPUTS_DUMP.len(), 160);
+    dumps_outputs(&rt, rt.alloc(), INVERTER, OUTPUTS_DUMP);
+    let without_outputs = Source {
+        bench: b"INPUT(a)",
+        stimuli: b"",
+        ..INVERTER
+    };
+    let dump =
+        b"$version nullsim 1 $end\n$timescale 1 ps $end\n$scope module top $end\n$upscope $end\n$enddefinitions $end\n#0\n$dumpvars\n$end\n#5\n";
+    dumps_outputs(&rt, rt.alloc(), without_outputs, dump);
+}

@@ -1,0 +1,12 @@
+//! Tests of gates and waveforms, of texts and netlists, and of the texts and settings that a design is
+//! built with.
+#![tactic(auto)]
+
+#[cfg(test)]
+mod logic;
+#[cfg(test)]
+mod reading;
+#[cfg(test)]
+mod texts;
+#[cfg(test)]
+mod timing;

@@ -1,0 +1,88 @@
+//! Gates and waveforms.
+use GateKind::{And, Buf, Nand, Nor, Not, Or, Xnor, Xor};
+use Value::{One, Unknown, Zero};
+use logic3::{Change, GateKind, Value, Waveform, gate};
+use std::alloc::{AllocError, Global};
+use std::test::Fail;
+
+// Entries of Kleene's strong tables, and of XOR, which is X as soon as one pin is.
+#[test]
+fn gates_are_the_table(rt: HostRuntime) {
+    for (first, second, and, or, xor) in [
+        (Zero, Zero, Zero, Zero, Zero),
+        (Zero, One, Zero, One, One),
+        (Zero, Unknown, Zero, Unknown, Unknown),
+        (One, One, One, One, Zero),
+        (One, Unknown, Unknown, One, Unknown),
+        (Unknown, Unknown, Unknown, Unknown, Unknown),
+    ] {
+        for pins in [[first, second], [second, first]] {
+            assert_eq!(rt; gate(And, &pins), and);
+            assert_eq!(rt; gate(Or, &pins), or);
+            assert_eq!(rt; gate(Xor, &pins), xor);
+            assert_eq!(rt; gate(Nand, &pins), gate(Not, &[and]));
+            assert_eq!(rt; gate(Nor, &pins), gate(Not, &[or]));
+            assert_eq!(rt; gate(Xnor, &pins), gate(Not, &[xor]));
+        }
+    }
+}
+
+#[test]
+fn gates_of_one_and_of_three_pins(rt: HostRuntime) {
+    for (pin, opposite) in [(Zero, One), (One, Zero), (Unknown, Unknown)] {
+        assert_eq!(rt; gate(Buf, &[pin]), pin);
+        assert_eq!(rt; gate(Not, &[pin]), opposite);
+        assert_eq!(rt; gate(And, &[pin]), pin);
+        assert_eq!(rt; gate(Nor, &[pin]), opposite);
+    }
+    assert_eq!(rt; gate(Xor, &[One, One, One]), One);
+    assert_eq!(rt; gate(Xnor, &[One, One, One]), Zero);
+    assert_eq!(rt; gate(And, &[One, Unknown, Zero]), Zero);
+    assert_eq!(rt; gate(Nand, &[One, One, One]), Zero);
+}
+
+const RISE: Change = Change {
+    tick: 1,
+    value: One,
+};
+
+const FALL: Change = Change {
+    tick: 4,
+    value: Zero,
+};
+
+// The waveform of an inverter's output, X, from tick 1 on 1, and from tick 4 on 0; and a copy of it
+// from before these changes.
+fn grown(alloc: Global) -> Result<(Waveform, Waveform), AllocError> {
+    let mut wave = Waveform::new(alloc);
+    let empty = wave.copy()?;
+    wave.push(RISE)?;
+    wave.push(FALL)?;
+    Ok((wave, empty))
+}
+
+#[test]
+fn waveforms_grow_and_are_read(rt: HostRuntime) -> Result<(), Fail> {
+    let (wave, empty) = grown(rt.alloc())?;
+    assert_eq!(rt; empty.value_at(7), Unknown);
+    assert_eq!(rt; wave.before(), Unknown);
+    assert_eq!(rt; wave.changes(), [RISE, FALL].as_slice());
+    for (tick, value) in [
+        (0, Unknown),
+        (1, One),
+        (3, One),
+        (4, Zero),
+        (u64::MAX, Zero),
+    ] {
+        assert_eq!(rt; wave.value_at(tick), value, "at {tick}");
+    }
+    Ok(())
+}
+
+#[test]
+fn waveforms_are_copied_and_compared(rt: HostRuntime) -> Result<(), Fail> {
+    let (wave, empty) = grown(rt.alloc())?;
+    assert!(rt; wave.copy()? == wave);
+    assert!(rt; wave != empty);
+    Ok(())
+}

@@ -1,0 +1,260 @@
+//! Reading and writing .bench texts.
+use crate::texts::longest;
+use bench_text::{BenchFault, Netlist, Part, read, write};
+use logic3::GateKind;
+use std::alloc::{AllocError, Global};
+use std::process::Abort;
+use std::test::Fail;
+
+// The net of this number has this name and is this part, with pins at these nets.
+fn net_is(rt: &impl Abort, netlist: &Netlist, net: u32, name: &[u8], part: Part, pins: &[u32]) {
+    assert!(rt; net < netlist.nets());
+    assert_eq!(rt; netlist.name(net), name);
+    assert_eq!(rt; netlist.part(net), part);
+    assert_eq!(rt; netlist.pins_of(net), pins);
+}
+
+#[test]
+fn the_inverter(rt: HostRuntime) -> Result<(), Fail> {
+    let netlist = read(rt.alloc(), b"INPUT(a)\nOUTPUT(y)\ny = NOT(a)\n")?;
+    assert_eq!(rt; netlist.nets(), 2);
+    net_is(&rt, &netlist, 0, b"a", Part::Input, &[]);
+    net_is(&rt, &netlist, 1, b"y", Part::Gate(GateKind::Not), &[0]);
+    assert_eq!(rt; netlist.outputs(), [1].as_slice());
+    assert_eq!(rt; netlist.find(b"y"), Some(1));
+    assert_eq!(rt; netlist.find(b"z"), None);
+    Ok(())
+}
+
+#[test]
+fn names_in_order_of_definition(rt: HostRuntime) -> Result<(), Fail> {
+    let netlist = read(rt.alloc(), b"OUTPUT(y)\ny = NOT(n)\nn = NOT(a)\nINPUT(a)")?;
+    for (net, name) in [(0, b"y"), (1, b"n"), (2, b"a")] {
+        assert_eq!(rt; netlist.find(name), Some(net));
+    }
+    Ok(())
+}
+
+#[test]
+fn refused_texts(rt: HostRuntime) {
+    for (text, fault) in [
+        (b"".as_slice(), BenchFault::NoNets),
+        (
+            b"INPUT(a)\ny = NOT(a)\ny = BUF(a)".as_slice(),
+            BenchFault::DefinedTwice { line: 3 },
+        ),
+        (
+            b"INPUT(a)\ny = AND(a, zz)".as_slice(),
+            BenchFault::Undefined { line: 2 },
+        ),
+        (
+            b"INPUT(a)\nINPUT(b)\nq = DFF(a, b)".as_slice(),
+            BenchFault::BadArity { line: 3 },
+        ),
+        (
+            b"INPUT(a)\ny = AND()".as_slice(),
+            BenchFault::BadArity { line: 2 },
+        ),
+        (
+            b"y = MUX(a)".as_slice(),
+            BenchFault::UnknownGate { line: 1 },
+        ),
+        (b"y = MUX()".as_slice(), BenchFault::UnknownGate { line: 1 }),
+        (b"INOUT(a)".as_slice(), BenchFault::BadLine { line: 1 }),
+        // Where there are several faults, one counts.
+        (
+            b"INPUT(a)\nINPUT(a)\nx y".as_slice(),
+            BenchFault::BadLine { line: 3 },
+        ),
+        (
+            b"INPUT(a)\nINPUT(a)\nOUTPUT(z)".as_slice(),
+            BenchFault::DefinedTwice { line: 2 },
+        ),
+        (
+            b"INPUT(a)\nOUTPUT(z)".as_slice(),
+            BenchFault::Undefined { line: 2 },
+        ),
+        (b"INPUT($end)".as_slice(), BenchFault::BadLine { line: 1 }),
+        (b"$INPUT(a)".as_slice(), BenchFault::BadLine { line: 1 }),
+        (
+            b"y = $AND(a)".as_slice(),
+            BenchFault::UnknownGate { line: 1 },
+        ),
+        (
+            b"\xEF\xBB\xBFINPUT(a)".as_slice(),
+            BenchFault::BadByte { line: 1 },
+        ),
+        (b"x y \x80".as_slice(), BenchFault::BadByte { line: 1 }),
+        (b"INPUT(a)\x0B".as_slice(), BenchFault::BadByte { line: 1 }),
+        (
+            b"INPUT(a)y=AND(a)".as_slice(),
+            BenchFault::BadLine { line: 1 },
+        ),
+    ] {
+        assert_eq!(rt; read(rt.alloc(), text).err(), Some(fault));
+    }
+}
+
+#[test]
+fn canonical_texts(rt: HostRuntime) -> Result<(), Fail> {
+    for (text, canonical) in [
+        (
+            b"input(a)\r\n\toutput ( y ) # \xC3\xA9\r\noutput(y)\r\ny = and( a )".as_slice(),
+            b"INPUT(a)\ny = AND(a)\nOUTPUT(y)\n".as_slice(),
+        ),
+        (
+            b"OUTPUT(y)\ny = NOT(n)\nn = NOT(a)\nINPUT(a)\n".as_slice(),
+            b"y = NOT(n)\nn = NOT(a)\nINPUT(a)\nOUTPUT(y)\n".as_slice(),
+        ),
+        (
+            b"INPUT(INPUT)\nNOT = not(INPUT)".as_slice(),
+            b"INPUT(INPUT)\nNOT = NOT(INPUT)\n".as_slice(),
+        ),
+        (
+            b"INPUT(a)\nb=nand(a,a)\nc=or(a)\nd=Nor(c,b,a)\ne=xor(a)\nf=xnor(a)".as_slice(),
+            b"INPUT(a)\nb = NAND(a, a)\nc = OR(a)\nd = NOR(c, b, a)\ne = XOR(a)\nf = XNOR(a)\n".as_slice(),
+        ),
+        (
+            b"INPUT(a)\ng=inv(a)\nh=buff(a)\ni=dff(h)".as_slice(),
+            b"INPUT(a)\ng = NOT(a)\nh = BUF(a)\ni = DFF(h)\n".as_slice(),
+        ),
+    ] {
+        let written = write(rt.alloc(), &read(rt.alloc(), text)?)?;
+        assert_eq!(rt; written.as_slice(), canonical);
+    }
+    Ok(())
+}
+
+#[test]
+fn limit_of_a_name(rt: HostRuntime) -> Result<(), Fail> {
+    let name = [b'n'; 256];
+    let longest = [b"INPUT(".as_slice(), &name[..255], b")"].concat(rt.alloc())?;
+    let netlist = read(rt.alloc(), longest.as_slice())?;
+    assert_eq!(rt; netlist.name(0), &name[..255]);
+
+    let longer = [b"INPUT(".as_slice(), &name, b")"].concat(rt.alloc())?;
+    let answer = read(rt.alloc(), longer.as_slice());
+    assert_eq!(rt; answer.err(), Some(BenchFault::NameTooLong { line: 1 }));
+    Ok(())
+}
+
+// So many pins of a gate, all at the same net.
+fn same_pins(alloc: Global, net: &[u8], count: usize) -> Result<Vec<u8>, AllocError> {
+    let mut pins = Vec::from_slice(alloc, net)?;
+    for _ in 1..count {
+        pins.push(b',')?;
+        pins.extend_from_slice(net)?;
+    }
+    Ok(pins)
+}
+
+// The input `a` and a gate with so many pins.
+fn wide_gate(alloc: Global, pins: usize) -> Result<Vec<u8>, AllocError> {
+    let mut text = Vec::from_slice(alloc, b"INPUT(a)\n")?;
+    push_gate(&mut text, 0, same_pins(alloc, b"a", pins)?.as_slice())?;
+    Ok(text)
+}
+
+#[test]
+fn limit_of_a_gate(rt: HostRuntime) -> Result<(), Fail> {
+    let netlist = read(rt.alloc(), wide_gate(rt.alloc(), 1024)?.as_slice())?;
+    assert_eq!(rt; netlist.nets(), 2);
+    assert_eq!(rt; netlist.pins_of(1).len(), 1024);
+
+    let answer = read(rt.alloc(), wide_gate(rt.alloc(), 1025)?.as_slice());
+    assert_eq!(rt; answer.err(), Some(BenchFault::BadArity { line: 2 }));
+    Ok(())
+}
+
+// The lines `INPUT(n0)`, `INPUT(n1)` and so on.
+fn numbered_inputs(alloc: Global, count: u32) -> Result<Vec<u8>, AllocError> {
+    let mut text = Vec::new(alloc);
+    for number in 0..count {
+        text.extend_from_slice(b"INPUT(n")?;
+        push_number(&mut text, number)?;
+        text.extend_from_slice(b")\n")?;
+    }
+    Ok(text)
+}
+
+fn push_number(text: &mut Vec<u8>, number: u32) -> Result<(), AllocError> {
+    let digits = number.to_string(*text.allocator())?;
+    text.extend_from_slice(digits.as_bytes())
+}
+
+#[test]
+fn limit_of_nets(rt: HostRuntime) -> Result<(), Fail> {
+    let mut text = numbered_inputs(rt.alloc(), 100_000)?;
+    let netlist = read(rt.alloc(), text.as_slice())?;
+    assert_eq!(rt; netlist.nets(), 100_000);
+    assert_eq!(rt; netlist.find(b"n99999"), Some(99_999));
+
+    text.extend_from_slice(b"INPUT(more)")?;
+    let answer = read(rt.alloc(), text.as_slice());
+    assert_eq!(rt; answer.err(), Some(BenchFault::TooMany));
+    Ok(())
+}
+
+// An input, 976 gates of 1,024 pins and a last one of so many.
+fn many_pins(alloc: Global, input: &[u8], last: usize) -> Result<Vec<u8>, AllocError> {
+    let pins = same_pins(alloc, input, 1024)?;
+    let mut text = [b"INPUT(".as_slice(), input, b")\n"].concat(alloc)?;
+    for number in 0..976 {
+        push_gate(&mut text, number, pins.as_slice())?;
+    }
+    let pins = same_pins(alloc, input, last)?;
+    push_gate(&mut text, 976, pins.as_slice())?;
+    Ok(text)
+}
+
+fn push_gate(text: &mut Vec<u8>, number: u32, pins: &[u8]) -> Result<(), AllocError> {
+    text.push(b'y')?;
+    push_number(text, number)?;
+    text.extend_from_slice(b"=AND(")?;
+    text.extend_from_slice(pins)?;
+    text.extend_from_slice(b")\n")
+}
+
+// What `read` says of such a text. The proofs of the tests don't look at the text.
+fn read_pins(
+    alloc: Global,
+    input: &[u8],
+    last: usize,
+) -> Result<Result<Netlist, BenchFault>, AllocError> {
+    let text = many_pins(alloc, input, last)?;
+    Ok(read(alloc, text.as_slice()))
+}
+
+// The input and 977 gates, the last of them with so many pins.
+fn last_has(rt: &impl Abort, netlist: &Netlist, pins: usize) {
+    assert_eq!(rt; netlist.nets(), 978);
+    assert_eq!(rt; netlist.pins_of(977).len(), pins);
+}
+
+#[test]
+fn limit_of_pins(rt: HostRuntime) -> Result<(), Fail> {
+    last_has(&rt, &read_pins(rt.alloc(), b"a", 576)??, 576);
+    let answer = read_pins(rt.alloc(), b"a", 577)?;
+    assert_eq!(rt; answer.err(), Some(BenchFault::TooMany));
+    Ok(())
+}
+
+// Without spaces the text isn't too long; with one after each comma it is.
+#[test]
+fn limit_of_a_written_text(rt: HostRuntime) -> Result<(), Fail> {
+    let netlist = read_pins(rt.alloc(), b"fifteen_letters", 576)??;
+    last_has(&rt, &netlist, 576);
+    let written = write(rt.alloc(), &netlist);
+    assert_eq!(rt; written.err(), Some(BenchFault::TooLong));
+    Ok(())
+}
+
+#[test]
+fn limit_of_a_text(rt: HostRuntime) -> Result<(), Fail> {
+    let mut text = longest(rt.alloc(), b"INPUT(a)\n#")?;
+    assert_eq!(rt; read(rt.alloc(), text.as_slice())?.nets(), 1);
+    text.push(b'x')?;
+    let answer = read(rt.alloc(), text.as_slice());
+    assert_eq!(rt; answer.err(), Some(BenchFault::TooLong));
+    Ok(())
+}

@@ -1,0 +1,41 @@
+//! Dumps of worked runs, byte for byte.
+
+/// Of an inverter driven by 0, and by 1 from tick 3 on, up to tick 5.
+pub const INVERTER_DUMP: &[u8] =
+    b"$version nullsim 1 $end\n$timescale 1 ns $end\n$scope module top $end\n$var wire 1 ! a $end\n$var wire 1 \" y $end\n$upscope $end\n$enddefinitions $end\n#0\n$dumpvars\n0!\nx\"\n$end\n#1\n1\"\n#3\n1!\n#4\n0\"\n#5\n";
+
+/// Of its output alone, in picoseconds.
+pub const OUTPUTS_DUMP: &[u8] =
+    b"$version nullsim 1 $end\n$timescale 1 ps $end\n$scope module top $end\n$var wire 1 ! y $end\n$upscope $end\n$enddefinitions $end\n#0\n$dumpvars\nx!\n$end\n#1\n1!\n#4\n0!\n#5\n";
+
+/// Of the inverter with a delay of 9 ticks.
+pub const SLOW_DUMP: &[u8] =
+    b"$version nullsim 1 $end\n$timescale 1 ns $end\n$scope module top $end\n$var wire 1 ! a $end\n$var wire 1 \" y $end\n$upscope $end\n$enddefinitions $end\n#0\n$dumpvars\n0!\nx\"\n$end\n#3\n1!\n#5\n";
+
+/// Of a buffer and a gate that compares its two sides, driven by 0, and by 1 from tick 5 on, up to tick 8.
+pub const EDGE_DUMP: &[u8] =
+    b"$version nullsim 1 $end\n$timescale 1 ns $end\n$scope module top $end\n$var wire 1 ! a $end\n$var wire 1 \" b $end\n$var wire 1 # y $end\n$upscope $end\n$enddefinitions $end\n#0\n$dumpvars\n0!\nx\"\nx#\n$end\n#1\n0\"\n#2\n0#\n#5\n1!\n#6\n1\"\n1#\n#7\n0#\n#8\n";
+
+/// Of a flip-flop of period 4 whose pin is 1 at tick 4 alone, up to tick 9.
+pub const SAMPLER_DUMP: &[u8] =
+    b"$version nullsim 1 $end\n$timescale 1 ns $end\n$scope module top $end\n$var wire 1 ! d $end\n$var wire 1 \" q $end\n$upscope $end\n$enddefinitions $end\n#0\n$dumpvars\nx!\nx\"\n$end\n#4\n1!\n#5\n0!\n1\"\n#9\n0\"\n";
+
+/// Of an inverter at its own pin, up to tick 3.
+pub const SELF_INVERTER_DUMP: &[u8] =
+    b"$version nullsim 1 $end\n$timescale 1 ns $end\n$scope module top $end\n$var wire 1 ! y $end\n$upscope $end\n$enddefinitions $end\n#0\n$dumpvars\nx!\n$end\n#3\n";
+
+/// Of a NAND at its own pin, which oscillates from tick 5 on, up to tick 12.
+pub const OSCILLATOR_DUMP: &[u8] =
+    b"$version nullsim 1 $end\n$timescale 1 ns $end\n$scope module top $end\n$var wire 1 ! e $end\n$var wire 1 \" y $end\n$upscope $end\n$enddefinitions $end\n#0\n$dumpvars\n0!\nx\"\n$end\n#2\n1\"\n#5\n1!\n#7\n0\"\n#9\n1\"\n#11\n0\"\n#12\n";
+
+/// Of a flip-flop of period 3 that samples its own opposite, up to tick 10.
+pub const RING_COUNTER_DUMP: &[u8] =
+    b"$version nullsim 1 $end\n$timescale 1 ns $end\n$scope module top $end\n$var wire 1 ! q $end\n$var wire 1 \" n $end\n$upscope $end\n$enddefinitions $end\n#0\n$dumpvars\nx!\nx\"\n$end\n#10\n";
+
+/// Of a gate whose two pins cross at tick 4, up to tick 6.
+pub const CROSSING_DUMP: &[u8] =
+    b"$version nullsim 1 $end\n$timescale 1 ns $end\n$scope module top $end\n$var wire 1 ! a $end\n$var wire 1 \" b $end\n$var wire 1 # y $end\n$upscope $end\n$enddefinitions $end\n#0\n$dumpvars\n1!\n0\"\nx#\n$end\n#1\n0#\n#4\n0!\n1\"\n#6\n";
+
+/// Of the same gate with one pin driven, by 0, up to tick 2.
+pub const CONTROLLED_DUMP: &[u8] =
+    b"$version nullsim 1 $end\n$timescale 1 ns $end\n$scope module top $end\n$var wire 1 ! a $end\n$var wire 1 \" b $end\n$var wire 1 # y $end\n$upscope $end\n$enddefinitions $end\n#0\n$dumpvars\n0!\nx\"\nx#\n$end\n#1\n0#\n#2\n";
