@@ -1,26 +1,15 @@
-mod Among
 pub mod CallerLemmas
 mod CanonicalLines
-mod Distinct
-mod FirstWord
-mod FoldLemmas
-mod Joined
 mod Limit
 mod LineBytes
 mod LineSaid
 mod LineTokens
-mod Lines
 mod LinesLeft
 mod Named
-mod NewName
 mod NoFault
-mod Numbers
-mod Picked
-mod Places
 mod ProperNames
 mod ReadBack
 mod ReadNetlist
-mod Rising
 mod Rows
 mod Scan
 mod SeenNames

@@ -5,9 +5,9 @@ use Rattle.std.proofs.lemmas.Bool.Decides.{nat_tests}
 use Rattle.std.proofs.lemmas.Grind.{flat_map-append}
 use Rattle.std.proofs.lemmas.List.Elements.{All-head, All-tail, All-weaker}
 use Rattle.std.proofs.lemmas.List.Splits.{slice_split_at}
-use Rattle.bench_text.specs.Text.{is_white, is_empty}
+use Rattle.text_lines.specs.Text.{is_white, is_empty}
 use Rattle.bench_text.specs.Line.{Token, left, comma, equals, word, spaced, token_of, tokens_of, more_names, names_of, form_of, port, assignment}
-use Rattle.bench_text.specs.Name.{is_name_byte}
+use Rattle.netlist.specs.Name.{is_name_byte}
 use Rattle.bench_text.specs.Canonical.{port_line, assignment_line, listed}
 use Rattle.bench_text.proofs.Scan.{token_of-word}
 use Rattle.bench_text.proofs.Words.{IsWord, is_mark-name_byte}

@@ -6,12 +6,12 @@ use Rattle.std.proofs.lemmas.List.{at_drop_more, take_at, length_push, map_push,
 use denote.Ref.{Bor}
 use Rattle.bench_text.specs.declared.fault.BenchFault.{BenchFault}
 use Rattle.bench_text.specs.declared.fault.BenchFault.TheVariants.{DefinedTwice}
-use Rattle.bench_text.specs.declared.part.Part.{Part}
+use Rattle.netlist.specs.declared.part.Part.{Part}
 use Rattle.bench_text.specs.declared.statement.Statement as code
 use Rattle.bench_text.specs.declared.statement.Statement.TheVariants.{Defines, NamesOutput}
-use Rattle.bench_text.specs.Netlist.{Definition, definition_in, is_among, defined_names, repeated_fault, unless}
+use Rattle.bench_text.specs.NetlistOf.{Definition, definition_in, is_among, defined_names, repeated_fault, unless}
 use Rattle.bench_text.specs.Stages.{seen_lines}
-use Rattle.bench_text.proofs.Among.{is_some-position}
+use Rattle.netlist.proofs.CallerLemmas.{is_some-position}
 
 -- these names, followed by those of more definitions, unless one is defined already
 abbrev pub named_from : List (List ℕ) → List Definition → Result (List (List ℕ)) BenchFault

@@ -6,8 +6,8 @@ use Rattle.std.proofs.lemmas.Bool.Decides.{nat_tests}
 use Rattle.std.proofs.lemmas.List.{append-nil, get_or_append_left}
 use Rattle.std.proofs.lemmas.List.Folds.{list_any_none}
 use Rattle.bench_text.specs.declared.fault.BenchFault.TheVariants.{DefinedTwice}
-use Rattle.bench_text.specs.Netlist.{Definition, defined_names, is_among, repeated_fault, is_over_limit, size_fault}
-use Rattle.bench_text.proofs.Among.{bytes_eq-other}
+use Rattle.bench_text.specs.NetlistOf.{Definition, defined_names, is_among, repeated_fault, is_over_limit, size_fault}
+use Rattle.netlist.proofs.CallerLemmas.{bytes_eq-other}
 use Rattle.bench_text.proofs.Named.{named_from, named_from-all}
 use Rattle.bench_text.proofs.Whole.{is_empty-some}
 use Rattle.bench_text.proofs.Wired.{unless-Ok}

@@ -5,13 +5,15 @@ use Rattle.std.specs.Str.{str_eq_ignore_ascii_case}
 use Rattle.std.specs.Option.{IfSome}
 use Rattle.std.proofs.lemmas.Bool.{or_parts, ltb-false, eqb-false}
 use Rattle.std.proofs.lemmas.List.Elements.{All-nil, All-cons, All-head, All-tail}
-use Rattle.bench_text.specs.declared.part.Part.{Part}
-use Rattle.bench_text.specs.declared.part.Part.TheVariants.{Input}
+use Rattle.netlist.specs.declared.part.Part.{Part}
+use Rattle.netlist.specs.declared.part.Part.TheVariants.{Input}
 use Rattle.bench_text.specs.declared.fault.BenchFault.{BenchFault}
 use Rattle.bench_text.specs.declared.fault.BenchFault.TheVariants.{BadByte, BadLine, NameTooLong, BadArity}
-use Rattle.bench_text.specs.Text.{is_plain, code_of}
-use Rattle.bench_text.specs.Line.{Token, word, left, right, comma, equals, Form, port, assignment, Statement, defines, names_output, tokens_of, more_names, names_of, form_of, part_of, takes_pins, is_dollar_name, is_long_name, with_names, definition_of, statement_of_form, statement_of}
-use Rattle.bench_text.specs.Name.{IsName, IsStatement}
+use Rattle.text_lines.specs.Text.{is_plain, code_of}
+use Rattle.netlist.specs.Part.{takes_pins}
+use Rattle.bench_text.specs.Line.{Token, word, left, right, comma, equals, Form, port, assignment, Statement, defines, names_output, tokens_of, more_names, names_of, form_of, part_of, is_dollar_name, is_long_name, with_names, definition_of, statement_of_form, statement_of}
+use Rattle.netlist.specs.Name.{IsName}
+use Rattle.bench_text.specs.Line.{IsStatement}
 use Rattle.bench_text.proofs.Words.{IsWord, IsToken, tokens_proper, no_comment}
 
 -- ---- the names of a form

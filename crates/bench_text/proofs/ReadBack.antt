@@ -7,15 +7,19 @@ use Rattle.std.proofs.lemmas.List.Elements.{All-head, All-tail, All-map, All-app
 use Rattle.std.proofs.lemmas.List.Folds.{list_any_at}
 use Rattle.std.proofs.lemmas.List.Sums.{position_or_len_is, sum_by-cons}
 use Rattle.bench_text.specs.declared.fault.BenchFault.TheVariants.{TooLong, Undefined}
-use Rattle.bench_text.specs.Text.{◌>>=◌, longest_text}
+use Rattle.text_lines.specs.Text.{◌>>=◌, longest_text}
 use Rattle.bench_text.specs.Line.{Statement}
-use Rattle.bench_text.specs.Name.{IsName, IsStatement}
-use Rattle.bench_text.specs.Netlist.{NetView, NetlistView, Definition, definition_in, uses_in, output_in, defined_names, is_among, undefined_fault, size_fault, fault_of, unless, place_of, distinct, netlist_with, netlist_of_statements, statements_of, netlist_of, IsNetlist}
-use Rattle.bench_text.specs.Canonical.{name_at, net_statement, output_statement, canonical_statements, canonical}
-use Rattle.bench_text.proofs.Among.{bytes_eq-other, bytes_eq-same}
+use Rattle.netlist.specs.Name.{IsName}
+use Rattle.bench_text.specs.Line.{IsStatement}
+use Rattle.netlist.specs.Netlist.{NetView, NetlistView, IsNetlist}
+use Rattle.netlist.specs.Repeats.{distinct}
+use Rattle.bench_text.specs.NetlistOf.{Definition, definition_in, uses_in, output_in, defined_names, is_among, undefined_fault, size_fault, fault_of, unless, place_of, netlist_with, netlist_of_statements, statements_of, netlist_of}
+use Rattle.netlist.specs.Netlist.{name_at}
+use Rattle.bench_text.specs.Canonical.{net_statement, output_statement, canonical_statements, canonical}
+use Rattle.netlist.proofs.CallerLemmas.{bytes_eq-other, bytes_eq-same}
 use Rattle.bench_text.proofs.CanonicalLines.{said-canonical_lines}
-use Rattle.bench_text.proofs.Distinct.{distinct-same}
-use Rattle.bench_text.proofs.FoldLemmas.{unless_too_long-short}
+use Rattle.netlist.proofs.CallerLemmas.{distinct-same}
+use Rattle.text_lines.proofs.CallerLemmas.{unless_too_long-short}
 use Rattle.bench_text.proofs.NoFault.{repeated_fault-distinct, size_fault-within}
 use Rattle.bench_text.proofs.Wired.{undefined_fault-append}
 

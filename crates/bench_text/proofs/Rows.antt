@@ -1,8 +1,8 @@
 -- Worked canonical texts, by computation.
 use Rattle.std.proofs.Common.{◌≡◌, ℕ, List, ◌∷◌, ◌++◌, Result, Ok, codes, refl}
 use Rattle.bench_text.specs.declared.fault.BenchFault.{BenchFault}
-use Rattle.bench_text.specs.Text.{◌>>=◌}
-use Rattle.bench_text.specs.Netlist.{netlist_of}
+use Rattle.text_lines.specs.Text.{◌>>=◌}
+use Rattle.bench_text.specs.NetlistOf.{netlist_of}
 use Rattle.bench_text.specs.Canonical.{canonical}
 
 -- the canonical text of the netlist of a text

@@ -4,7 +4,7 @@ use Rattle.std.specs.List.{list_any}
 use Rattle.bench_text.specs.declared.fault.BenchFault.{BenchFault}
 use Rattle.bench_text.specs.declared.fault.BenchFault.TheVariants.{BadLine, NameTooLong}
 use Rattle.bench_text.specs.Line.{is_dollar_name, is_long_name, with_names}
-use Rattle.bench_text.specs.Seen.{seen_names}
+use Rattle.netlist.specs.Names.{seen_names}
 
 -- a test of some name is a test of some borrowed one
 pub list_any_seen : (test : List ℕ → Bool) (names : List (Bor (List ℕ))) → list_any test (seen_names names) ≡ list_any (λ name. test name.now) names

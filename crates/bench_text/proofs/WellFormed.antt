@@ -8,12 +8,15 @@ use Rattle.std.proofs.lemmas.Simd.{map-map}
 use Rattle.std.proofs.lemmas.List.Elements.{All-nil, All-cons, All-head, All-tail, All-map, All-weaker}
 use Rattle.std.proofs.lemmas.List.Folds.{fold-map}
 use Rattle.bench_text.specs.declared.fault.BenchFault.TheVariants.{Undefined}
-use Rattle.bench_text.specs.Line.{Statement, defines, names_output, takes_pins}
-use Rattle.bench_text.specs.Netlist.{NetView, Definition, definition_in, uses_in, output_in, defined_names, undefined_fault, place_of, netlist_with, IsNetlist}
-use Rattle.bench_text.specs.Name.{IsName, IsStatement}
-use Rattle.bench_text.specs.Names.{IsNames}
-use Rattle.bench_text.proofs.Among.{list_any-place}
-use Rattle.bench_text.proofs.Distinct.{All-distinct, AllPairs-distinct}
+use Rattle.netlist.specs.Part.{takes_pins}
+use Rattle.bench_text.specs.Line.{Statement, defines, names_output}
+use Rattle.netlist.specs.Netlist.{NetView, IsNetlist}
+use Rattle.bench_text.specs.NetlistOf.{Definition, definition_in, uses_in, output_in, defined_names, undefined_fault, place_of, netlist_with}
+use Rattle.netlist.specs.Name.{IsName}
+use Rattle.bench_text.specs.Line.{IsStatement}
+use Rattle.netlist.specs.Names.{IsNames}
+use Rattle.netlist.proofs.CallerLemmas.{list_any-place, sum_by-map}
+use Rattle.netlist.proofs.CallerLemmas.{All-distinct, AllPairs-distinct}
 use Rattle.bench_text.proofs.Wired.{undefined_fault-append}
 
 pub both_None : {A : Type 0} (first second : Option A) → option_or first second ≡ None → (first ≡ None) × (second ≡ None)
@@ -82,8 +85,6 @@ AllPairs-from_map R f xs pairs i j d before within =
     let last : j < length (map f xs) = omega arith in
     rw (← get_or-map f xs i d (f d) first, ← get_or-map f xs j d (f d) within) (pairs i j (f d) before last)
 
-pub sum_by-map : {X Y : Type 0} (f : Y → ℕ) (h : X → Y) (xs : List X) → sum_by f (map h xs) ≡ sum_by (λ x. f (h x)) xs
-sum_by-map f h xs = fold-map (λ (total : ℕ) y. total + f y) h 0 xs
 
 module _ (lines : List (ℕ × Statement)) where
   abbrev definitions : List Definition

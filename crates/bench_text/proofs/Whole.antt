@@ -4,19 +4,23 @@ use Rattle.std.specs.List.{filter_map, flat_map, sum_by}
 use Rattle.std.proofs.lemmas.Bool.Decides.{nat_tests}
 use Rattle.std.proofs.lemmas.List.{length-map}
 use Rattle.std.proofs.lemmas.List.Elements.{All-map}
-use Rattle.bench_text.specs.declared.netlist.Net.{Net}
-use Rattle.bench_text.specs.declared.part.Part.{Part}
+use Rattle.netlist.specs.declared.netlist.Net.{Net}
+use Rattle.netlist.specs.declared.part.Part.{Part}
 use Rattle.bench_text.specs.declared.fault.BenchFault.TheVariants.{TooMany}
-use Rattle.bench_text.specs.Text.{is_empty}
+use Rattle.text_lines.specs.Text.{is_empty}
 use Rattle.bench_text.specs.Line.{Statement}
-use Rattle.bench_text.specs.Netlist.{NetView, Definition, definition_in, uses_in, output_in, defined_names, repeated_fault, undefined_fault, is_over_limit, size_fault, fault_of, unless, place_of, distinct, netlist_with, netlist_of_statements, IsNetlist}
-use Rattle.bench_text.specs.Name.{IsStatement}
-use Rattle.bench_text.specs.Names.{IsNames}
-use Rattle.bench_text.specs.Joined.{named_nets, netlist_view}
-use Rattle.bench_text.specs.Stages.{seen_net, net_wiring, WiringView, wiring}
-use Rattle.bench_text.proofs.Joined.{named_nets-wired}
+use Rattle.netlist.specs.Netlist.{NetView, IsNetlist}
+use Rattle.netlist.specs.Repeats.{distinct}
+use Rattle.bench_text.specs.NetlistOf.{Definition, definition_in, uses_in, output_in, defined_names, repeated_fault, undefined_fault, is_over_limit, size_fault, fault_of, unless, place_of, netlist_with, netlist_of_statements}
+use Rattle.bench_text.specs.Line.{IsStatement}
+use Rattle.netlist.specs.Names.{IsNames}
+use Rattle.netlist.specs.Joined.{named_nets, netlist_view}
+use Rattle.netlist.specs.Joined.{seen_net}
+use Rattle.bench_text.specs.Stages.{net_wiring, WiringView, wiring}
+use Rattle.netlist.proofs.CallerLemmas.{named_nets-wired}
 use Rattle.bench_text.proofs.Wired.{unless-Ok}
-use Rattle.bench_text.proofs.WellFormed.{HasPlace-outputs, IsNetlist-with, sum_by-map}
+use Rattle.bench_text.proofs.WellFormed.{HasPlace-outputs, IsNetlist-with}
+use Rattle.netlist.proofs.CallerLemmas.{sum_by-map}
 
 pub is_empty-some : {A : Type 0} (xs : List A) → 0 < length xs → is_empty xs ≡ false
 is_empty-some [] some = absurd (omega arith)

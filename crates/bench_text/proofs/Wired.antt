@@ -5,17 +5,18 @@ use Rattle.std.specs.Option.{option_or, ok_or}
 use Rattle.std.proofs.lemmas.List.Folds.{find-append}
 use Rattle.std.proofs.lemmas.List.{at_drop_more, map_push}
 use denote.Ref.{Bor}
-use Rattle.bench_text.specs.declared.part.Part.{Part}
+use Rattle.netlist.specs.declared.part.Part.{Part}
 use Rattle.bench_text.specs.declared.fault.BenchFault.{BenchFault}
 use Rattle.bench_text.specs.declared.fault.BenchFault.TheVariants.{Undefined}
-use Rattle.bench_text.specs.declared.netlist.Net.{Net}
+use Rattle.netlist.specs.declared.netlist.Net.{Net}
 use Rattle.bench_text.specs.declared.statement.Statement as code
 use Rattle.bench_text.specs.declared.statement.Statement.TheVariants.{Defines, NamesOutput}
 use Rattle.bench_text.specs.Line.{Statement, defines, names_output}
-use Rattle.bench_text.specs.Netlist.{is_among, undefined_fault, first_undefined, unless, place_of, uses_in}
-use Rattle.bench_text.specs.Stages.{WiringView, wiring, seen_lines, seen_net}
-use Rattle.bench_text.specs.Seen.{seen_names}
-use Rattle.bench_text.proofs.Among.{list_any-place}
+use Rattle.bench_text.specs.NetlistOf.{is_among, undefined_fault, first_undefined, unless, place_of, uses_in}
+use Rattle.netlist.specs.Joined.{seen_net}
+use Rattle.bench_text.specs.Stages.{WiringView, wiring, seen_lines}
+use Rattle.netlist.specs.Names.{seen_names}
+use Rattle.netlist.proofs.CallerLemmas.{list_any-place}
 
 -- this wiring, followed by that of more lines
 abbrev pub wired_from : List (List ℕ) → List (Part × List ℕ) → List ℕ → List (ℕ × Statement) → Result WiringView BenchFault

@@ -2,13 +2,13 @@
 use Rattle.std.specs.Prelude.{ℕ, List, ◌++◌, map, flat_map, Result, Ok, codes}
 use Rattle.std.specs.List.{join_by}
 use Rattle.logic3.specs.declared.gates.GateKind.TheVariants.{And, Nand, Or, Nor, Xor, Xnor, Not, Buf}
-use Rattle.bench_text.specs.declared.part.Part.{Part}
-use Rattle.bench_text.specs.declared.part.Part.TheVariants.{Input, Gate, Flop}
+use Rattle.netlist.specs.declared.part.Part.{Part}
+use Rattle.netlist.specs.declared.part.Part.TheVariants.{Input, Gate, Flop}
 use Rattle.bench_text.specs.declared.fault.BenchFault.{BenchFault}
 use Rattle.bench_text.specs.declared.fault.BenchFault.TheVariants.{TooLong}
-use Rattle.bench_text.specs.Text.{unless_too_long}
+use Rattle.text_lines.specs.Text.{unless_too_long}
 use Rattle.bench_text.specs.Line.{Statement, defines, names_output}
-use Rattle.bench_text.specs.Netlist.{NetView, NetlistView, net_at}
+use Rattle.netlist.specs.Netlist.{NetView, NetlistView, name_at}
 
 -- the keyword of a part
 abbrev pub keyword_of : Part → List ℕ
@@ -45,10 +45,6 @@ canonical_line (names_output name) = port_line (codes "OUTPUT") name
 -- these lines, each with its line feed
 abbrev pub canonical_lines : List Statement → List ℕ
 canonical_lines statements = flat_map (λ said. canonical_line said ++ codes "\n") statements
-
--- the name of the net of a number
-abbrev pub name_at : NetlistView → ℕ → List ℕ
-name_at netlist number = (net_at netlist number).name
 
 -- what defines a net
 abbrev pub net_statement : NetlistView → NetView → Statement

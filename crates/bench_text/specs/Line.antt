@@ -1,13 +1,15 @@
 -- What a line of a .bench text says.
-use Rattle.std.specs.Prelude.{ℕ, ◌==◌, ◌&&◌, nat_lt, nat_le, Bool, if◌then◌else◌, List, [], ◌∷◌, length, map, flat_map, find, option_map, Option, None, Some, Result, Ok, Err, codes, bytes_eq, slice_index}
+use Rattle.std.specs.Prelude.{ℕ, ◌==◌, ◌&&◌, nat_lt, Bool, IsTrue, All, if◌then◌else◌, List, [], ◌∷◌, length, map, flat_map, find, option_map, Option, None, Some, Result, Ok, Err, codes, bytes_eq, slice_index}
 use Rattle.std.specs.List.{list_any}
 use Rattle.std.specs.Str.{str_eq_ignore_ascii_case}
 use Rattle.logic3.specs.declared.gates.GateKind.TheVariants.{And, Nand, Or, Nor, Xor, Xnor, Not, Buf}
-use Rattle.bench_text.specs.declared.part.Part.{Part}
-use Rattle.bench_text.specs.declared.part.Part.TheVariants.{Input, Gate, Flop}
+use Rattle.netlist.specs.Name.{IsName}
+use Rattle.netlist.specs.Part.{takes_pins}
+use Rattle.netlist.specs.declared.part.Part.{Part}
+use Rattle.netlist.specs.declared.part.Part.TheVariants.{Input, Gate, Flop}
 use Rattle.bench_text.specs.declared.fault.BenchFault.{BenchFault}
 use Rattle.bench_text.specs.declared.fault.BenchFault.TheVariants.{BadByte, BadLine, NameTooLong, UnknownGate, BadArity}
-use Rattle.bench_text.specs.Text.{is_plain, words_of}
+use Rattle.text_lines.specs.Text.{is_plain, words_of}
 
 -- a token: a word or one of the four marks
 pub data Token : Type 0 where
@@ -71,14 +73,6 @@ part_in table text = option_map (λ entry. entry.1) (find (λ entry. str_eq_igno
 abbrev pub part_of : List ℕ → Option Part
 part_of text = part_in keywords text
 
--- how many pins a part may have
-abbrev pub takes_pins : Part → ℕ → Bool
-takes_pins Input pins = pins == 0
-takes_pins (Gate Not) pins = pins == 1
-takes_pins (Gate Buf) pins = pins == 1
-takes_pins (Gate kind) pins = nat_le 1 pins && nat_le pins 1024
-takes_pins Flop pins = pins == 1
-
 -- a name that begins with '$'
 abbrev pub is_dollar_name : List ℕ → Bool
 is_dollar_name name = slice_index name 0 == 36
@@ -117,3 +111,8 @@ statement_of_form line (Some (assignment name keyword pins)) =
 abbrev pub statement_of : ℕ → List ℕ → Result Statement BenchFault
 statement_of line code =
     if is_plain code then statement_of_form line (form_of (tokens_of code)) else Err (BadByte line)
+
+-- the names are names, and the part may have so many pins
+abbrev pub IsStatement : Statement → Type 0
+IsStatement (defines name part pins) = IsName name × All IsName pins × IsTrue (takes_pins part (length pins))
+IsStatement (names_output name) = IsName name

@@ -1,7 +1,7 @@
 -- The code's tokens and statements, which borrow the bytes of a line, as those of the definitions.
-use Rattle.std.specs.Prelude.{ℕ, ◌&&◌, not, if◌then◌else◌, Bool, List, [], ◌∷◌, map, Option, Some, None}
-use denote.Ref.{Bor}
-use Rattle.bench_text.specs.Text.{is_white}
+use Rattle.std.specs.Prelude.{ℕ, ◌&&◌, not, if◌then◌else◌, Bool, List, [], ◌∷◌, Option, Some, None}
+use Rattle.text_lines.specs.Text.{is_white}
+use Rattle.netlist.specs.Names.{seen_names}
 use Rattle.bench_text.specs.Line as line
 use Rattle.bench_text.specs.Line.{is_mark, token_of, left, right, comma, equals, word, port, assignment, defines, names_output}
 use Rattle.bench_text.specs.declared.token.Token.{Token}
@@ -17,9 +17,6 @@ seen_token Left = left
 seen_token Right = right
 seen_token Comma = comma
 seen_token Equals = equals
-
-abbrev pub seen_names : List (Bor (List ℕ)) → List (List ℕ)
-seen_names names = map (λ name. name.now) names
 
 abbrev pub seen_form : Form → line.Form
 seen_form (Port keyword name) = port keyword.now name.now

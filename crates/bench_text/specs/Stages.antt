@@ -1,10 +1,10 @@
 -- What the stages of the reader make of the lines of a text.
 use Rattle.std.specs.Prelude.{ℕ, List, map, filter_map}
 use Rattle.bench_text.specs.Line as line
-use Rattle.bench_text.specs.Netlist.{Definition, definition_in, output_in, place_of}
+use Rattle.bench_text.specs.NetlistOf.{Definition, definition_in, output_in, place_of}
 use Rattle.bench_text.specs.Seen.{seen_statement}
-use Rattle.bench_text.specs.declared.netlist.Net.{Net}
-use Rattle.bench_text.specs.declared.part.Part.{Part}
+use Rattle.netlist.specs.Joined.{seen_net}
+use Rattle.netlist.specs.declared.part.Part.{Part}
 use Rattle.bench_text.specs.declared.reader.Wiring.{Wiring}
 use Rattle.bench_text.specs.declared.statement.Statement.{Statement}
 
@@ -14,10 +14,6 @@ seen_line (number, said) = (number, seen_statement said)
 
 abbrev pub seen_lines : List (ℕ × Statement) → List (ℕ × line.Statement)
 seen_lines lines = map seen_line lines
-
--- what drives a net, and the numbers at its pins
-abbrev pub seen_net : Net → Part × List ℕ
-seen_net net = (net.part, net.pins.items)
 
 abbrev pub net_wiring : List (List ℕ) → Definition → Part × List ℕ
 net_wiring names definition = (definition.part, map (place_of names) definition.pins)

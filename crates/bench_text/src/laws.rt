@@ -1,7 +1,8 @@
 //! Facts about the definitions alone.
 ghost use Rattle.std.specs.Prelude.{◌≡◌, ◌≤◌, length, Ok};
-ghost use Rattle.bench_text.specs.Text.{longest_text};
-ghost use Rattle.bench_text.specs.Netlist.{NetlistView, IsNetlist, netlist_of};
+ghost use Rattle.text_lines.specs.Text.{longest_text};
+ghost use Rattle.netlist.specs.Netlist.{NetlistView, IsNetlist};
+ghost use Rattle.bench_text.specs.NetlistOf.{netlist_of};
 ghost use Rattle.bench_text.specs.Canonical.{canonical};
 
 /// The canonical text of a netlist, where it isn't too long, reads back as that netlist.

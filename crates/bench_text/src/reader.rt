@@ -2,27 +2,19 @@
 ghost use Rattle.std.specs.Prelude.{◌≡◌, ◌≢◌, ℕ, ◌≤◌, ◌^◌, ◌∷◌, [], List, length, map, filter_map, flat_map, sum_by, All};
 ghost use Rattle.std.specs.Result.{result_map_both};
 ghost use Rattle.bench_text.specs.declared.fault.BenchFault.TheVariants.{Memory};
-ghost use Rattle.bench_text.specs.declared.netlist.Net.{Net as TheNet};
+ghost use Rattle.netlist.specs.declared.netlist.Net.{Net as TheNet};
 ghost use Rattle.bench_text.specs.Line.{Statement as TheStatement};
-ghost use Rattle.bench_text.specs.Netlist.{statements_of, definition_in, uses_in, defined_names, repeated_fault, undefined_fault, is_over_limit, unless, place_of, netlist_of_statements, netlist_of};
-ghost use Rattle.bench_text.specs.Name.{IsStatement};
-ghost use Rattle.bench_text.specs.Seen.{seen_names};
+ghost use Rattle.bench_text.specs.NetlistOf.{statements_of, definition_in, uses_in, defined_names, repeated_fault, undefined_fault, is_over_limit, unless, place_of, netlist_of_statements, netlist_of};
+ghost use Rattle.bench_text.specs.Line.{IsStatement};
+ghost use Rattle.netlist.specs.Names.{seen_names};
 ghost use Rattle.bench_text.specs.Stages.{seen_lines, seen_wiring, wiring};
 
 use crate::fault::BenchFault;
-use crate::names::Names;
-use crate::netlist::{Net, Netlist};
-use crate::repeats::without_repeats;
 use crate::statement::{Statement, statement_of};
-use crate::text::{LONGEST_TEXT, code_lines};
+use netlist::{MOST_NETS, MOST_PINS, Names, Net, Netlist, without_repeats};
 use smallvec::SmallVec;
 use std::alloc::Global;
-
-/// The most nets that a netlist may have.
-const MOST_NETS: usize = 100_000;
-
-/// The most pins that the nets may have in all.
-const MOST_PINS: usize = 1_000_000;
+use text_lines::{LONGEST_TEXT, code_lines};
 
 /// The netlist of a .bench text.
 pub fn read(alloc: Global, text: &[u8]) -> Result<Netlist, BenchFault>

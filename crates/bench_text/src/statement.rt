@@ -4,12 +4,14 @@ ghost use Rattle.std.specs.List.{list_any};
 ghost use Rattle.std.specs.Result.{result_map_both};
 ghost use Rattle.std.specs.Str.{str_eq_ignore_ascii_case};
 ghost use Rattle.bench_text.specs.declared.fault.BenchFault.TheVariants.{Memory};
-ghost use Rattle.bench_text.specs.Line.{port, assignment, left, equals, word, is_dollar_name, is_long_name, form_of, names_of, more_names, part_in, part_of, takes_pins, with_names, definition_of, statement_of, statement_of_form};
-ghost use Rattle.bench_text.specs.Seen.{seen_names, seen_form, seen_statement};
+ghost use Rattle.netlist.specs.Part.{takes_pins};
+ghost use Rattle.bench_text.specs.Line.{port, assignment, left, equals, word, is_dollar_name, is_long_name, form_of, names_of, more_names, part_in, part_of, with_names, definition_of, statement_of, statement_of_form};
+ghost use Rattle.netlist.specs.Names.{seen_names};
+ghost use Rattle.bench_text.specs.Seen.{seen_form, seen_statement};
 
 use crate::fault::BenchFault;
-use crate::part::Part;
-use crate::text::is_plain;
+use netlist::Part;
+use text_lines::is_plain;
 use crate::token::{Token, Tokens, tokens_of};
 use logic3::GateKind;
 use std::alloc::{AllocError, Global};

@@ -2,11 +2,11 @@
 ghost use Rattle.std.specs.Prelude.{◌≡◌, ◌<◌, ◌≤◌, [], ◌∷◌, length, false, slice_index, option_map, MatchOption};
 ghost use Rattle.std.specs.List.{prefix_len};
 ghost use Rattle.std.specs.Iterator.{YieldsFirstBy, item_count};
-ghost use Rattle.bench_text.specs.Text.{is_white};
+ghost use Rattle.text_lines.specs.Text.{is_white};
 ghost use Rattle.bench_text.specs.Line.{is_mark, token_of, tokens_of};
 ghost use Rattle.bench_text.specs.Seen.{seen_token, is_word_byte, mark_of};
 
-use crate::text::{is_white, white_len};
+use text_lines::{is_white, white_len};
 use std::marker::Model;
 
 /// A word, or one of the four marks.

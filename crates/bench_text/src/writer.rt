@@ -2,14 +2,16 @@
 ghost use Rattle.std.specs.Prelude.{◌≡◌, ◌≢◌, ◌<◌, ◌≤◌, ◌++◌, length, map, All, OnOk, IfOk, codes};
 ghost use Rattle.std.specs.Result.{result_map_both};
 ghost use Rattle.bench_text.specs.declared.fault.BenchFault.TheVariants.{Memory};
-ghost use Rattle.bench_text.specs.Text.{longest_text};
-ghost use Rattle.bench_text.specs.Netlist.{IsNetlist, net_at, netlist_of};
-ghost use Rattle.bench_text.specs.Canonical.{keyword_of, port_line, listed, canonical_line, canonical_lines, name_at, net_statement, output_statement, canonical, within_limit};
+ghost use Rattle.text_lines.specs.Text.{longest_text};
+ghost use Rattle.netlist.specs.Netlist.{IsNetlist, net_at};
+ghost use Rattle.bench_text.specs.NetlistOf.{netlist_of};
+ghost use Rattle.netlist.specs.Netlist.{name_at};
+ghost use Rattle.bench_text.specs.Canonical.{keyword_of, port_line, listed, canonical_line, canonical_lines, net_statement, output_statement, canonical, within_limit};
 
 use crate::fault::BenchFault;
-use crate::netlist::Netlist;
-use crate::part::Part;
-use crate::text::LONGEST_TEXT;
+use netlist::Netlist;
+use netlist::Part;
+use text_lines::LONGEST_TEXT;
 use logic3::GateKind;
 use std::alloc::{AllocError, Global};
 

@@ -6,8 +6,8 @@ use Rattle.logic3.specs.declared.value.Value.TheVariants.{Zero, One}
 use Rattle.logic3.specs.declared.gates.GateKind.TheVariants.{Not}
 use Rattle.logic3.specs.declared.change.Change.{Change}
 use Rattle.logic3.specs.Wave.{Wave}
-use Rattle.bench_text.specs.declared.part.Part.{Part}
-use Rattle.bench_text.specs.declared.part.Part.TheVariants.{Input, Gate, Flop}
+use Rattle.netlist.specs.declared.part.Part.{Part}
+use Rattle.netlist.specs.declared.part.Part.TheVariants.{Input, Gate, Flop}
 use Rattle.design.specs.Circuit.{Net, Circuit}
 use Rattle.gate_process.specs.Step.{ProcessState, drained_changes}
 use Rattle.cmb_kernel.specs.State.{State, started, least_frontier}

@@ -7,8 +7,8 @@ use Rattle.std.proofs.lemmas.Option.{slice_get_within, get_or_from_slice_get}
 use Rattle.design.proofs.CallerLemmas.{timed_at, pin_is}
 use Rattle.design.specs.Circuit.{Net, Circuit, IsCircuit, HasDelay, pin_count}
 use Rattle.design.specs.Equations.{value_of}
-use Rattle.bench_text.specs.declared.part.Part.{Part}
-use Rattle.bench_text.specs.declared.part.Part.TheVariants.{Input, Gate, Flop}
+use Rattle.netlist.specs.declared.part.Part.{Part}
+use Rattle.netlist.specs.declared.part.Part.TheVariants.{Input, Gate, Flop}
 use Rattle.cmb_channels.specs.declared.message.Message.{Message}
 use Rattle.cmb_channels.specs.Lists.{update}
 use Rattle.design.specs.Pins.{net_of_pin, place_of_pin}

@@ -5,7 +5,7 @@ ghost use Rattle.cmb_kernel.specs.Sound.{Exists};
 
 use crate::event::{Event, MOST_EVENTS};
 use crate::schedule_fault::ScheduleFault;
-use bench_text::text::{LONGEST_TEXT, Words, code_lines, is_plain, number, words_of};
+use text_lines::{LONGEST_TEXT, Words, code_lines, is_plain, number, words_of};
 use design::Design;
 use rand_core::SeedableRng;
 use rand_core::utils::NextWord;

@@ -10,4 +10,4 @@ mod run;
 mod twin;
 mod words;
 
-pub use words::{NoOrder, order_of_words};
+pub use words::{NoOrder, parse_words};

@@ -20,8 +20,9 @@ pub enum NoOrder {
 /// What the words ask for, which don't have the program's own name.
 ///
 /// # Errors
-/// The text of the help, or a text that says what is wrong with the words.
-pub fn order_of_words<'a>(alloc: Global, words: &'a [String]) -> Result<Order<'a>, NoOrder> {
+/// The text of the help, for words that `clap` answers by it, or a text that says what is wrong with
+/// the words.
+pub fn parse_words<'a>(alloc: Global, words: &'a [String]) -> Result<Order<'a>, NoOrder> {
     match read_order(alloc, words) {
         Ok(order) => Ok(order),
         Err(error) => Err(no_order(alloc, &error)),

@@ -3,7 +3,7 @@ use Rattle.std.proofs.Common.{◌≡◌, ℕ, ◌&&◌, ◌||◌, not, Bool, tru
 use Rattle.std.specs.List.{find, list_any, position_or_len, before_first, enumerate_from}
 use Rattle.std.proofs.Math.Seq.{take-append_seam}
 use Rattle.std.proofs.lemmas.List.{length_push}
-use Rattle.bench_text.specs.Text.{is_empty}
+use Rattle.text_lines.specs.Text.{is_empty}
 use Rattle.deck_text.specs.declared.sections.Marker.{Marker}
 use Rattle.deck_text.specs.Deck.{line_words, has_words, is_just, is_marker, breaks_rule}
 use Rattle.deck_text.specs.Seen.{word_of}

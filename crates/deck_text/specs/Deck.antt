@@ -2,7 +2,7 @@
 use Rattle.std.specs.Prelude.{ℕ, ◌+◌, ◌==◌, ◌||◌, ◌&&◌, not, nat_lt, Bool, false, if◌then◌else◌, List, [], ◌∷◌, length, take, find, Option, None, Result, Ok, Err, codes, bytes_eq}
 use Rattle.std.specs.List.{list_any, before_first, after_first, onto_first, concat, enumerate_from}
 use Rattle.std.specs.Option.{option_map_or}
-use Rattle.bench_text.specs.Text.{words_of, number_of, is_empty, longest_text}
+use Rattle.text_lines.specs.Text.{words_of, number_of, is_empty, longest_text}
 use Rattle.deck_text.specs.declared.fault.DeckTextFault.{DeckTextFault}
 use Rattle.deck_text.specs.declared.fault.DeckTextFault.TheVariants.{TooLong, BadDeck}
 

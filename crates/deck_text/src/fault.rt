@@ -14,7 +14,7 @@ pub enum DeckTextFault {
 }
 
 impl DeckTextFault {
-    /// The line that the fault names, from 1, and 0 for a fault of the whole text.
+    /// The line that the fault names, from 1, and 0 for a fault without a line.
     pub fn line(&self) -> u64
         ensures { result ≡ line_of self.now }
     {

@@ -1,12 +1,12 @@
 //! The sections of a deck, which is a whole run in one text.
 ghost use Rattle.std.specs.Prelude.{◌≡◌, ◌∷◌, ◌+◌, ◌-◌, ◌<◌, ◌≤◌, ◌^◌, ◌==◌, [], length, drop, false, min, option_map, MatchBool, MatchOption, IfSome, IsSome};
 ghost use Rattle.std.specs.List.{before_first, concat, position_or_len};
-ghost use Rattle.bench_text.specs.Text.{longest_text};
+ghost use Rattle.text_lines.specs.Text.{longest_text};
 ghost use Rattle.deck_text.specs.Deck.{ended_lines, has_words, horizon_in, is_marker, line_words, sections_behind, sections_of};
 ghost use Rattle.deck_text.specs.Seen.{IsRefused, FillsOwnPlace, PassesLine, SplitsLine, held, is_marker_word, on_sections, seen_sections, stops, word_of};
 
 use crate::fault::DeckTextFault;
-use bench_text::text::{self, LONGEST_TEXT, first_place, split_word};
+use text_lines::{LONGEST_TEXT, first_place, has_words, split_word};
 
 /// The horizon and the texts of a deck. The text of a section that isn't there is empty.
 #[derive(Clone, Copy, Debug)]
@@ -161,7 +161,7 @@ fn stops(line: &[u8], in_section: bool) -> bool
     if in_section {
         marker_in(line).is_some()
     } else {
-        text::has_words(without_newline(line))
+        has_words(without_newline(line))
     }
 }
 
@@ -192,8 +192,8 @@ fn horizon_in(line: &[u8]) -> Option<u64>
 {
     let (mark, rest) = split_word(without_newline(line))?;
     let (number, rest) = split_word(rest)?;
-    if mark == b"%nullsim".as_slice() && !text::has_words(rest) {
-        text::number(number)
+    if mark == b"%nullsim".as_slice() && !has_words(rest) {
+        text_lines::number(number)
     } else {
         None
     }
@@ -214,7 +214,7 @@ fn marker_in(line: &[u8]) -> Option<Marker>
         (λ marker. line_words line.now ≡ word_of marker ∷ []) }
 {
     let (word, rest) = split_word(without_newline(line))?;
-    if text::has_words(rest) {
+    if has_words(rest) {
         None
     } else {
         marker_named(word)

@@ -6,8 +6,8 @@ use Rattle.std.proofs.lemmas.Bool.{and_parts, leb-true}
 use Rattle.std.proofs.lemmas.List.{length-map}
 use Rattle.std.proofs.lemmas.List.Elements.{All-map}
 use Rattle.logic3.specs.declared.change.Change.{Change}
-use Rattle.bench_text.specs.Text.{◌>>=◌}
-use Rattle.bench_text.specs.Netlist.{NetView, NetlistView, IsNetlist}
+use Rattle.text_lines.specs.Text.{◌>>=◌}
+use Rattle.netlist.specs.Netlist.{NetView, NetlistView, IsNetlist}
 use Rattle.design.specs.declared.fault.OptionFault.{OptionFault}
 use Rattle.design.specs.declared.fault.OptionFault.TheVariants.{BadDelay, BadPeriod}
 use Rattle.design.specs.declared.fault.DelayFault.{DelayFault}

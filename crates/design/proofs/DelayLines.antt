@@ -2,7 +2,7 @@
 use Rattle.std.proofs.Common.{◌≡◌, ℕ, ◌<◌, ◌≤◌, min, false, List, option_map, Option, None, Some, Ok, Err, sym, ap, ◌∙◌, arith}
 use Rattle.std.specs.Option.{option_map_or}
 use Rattle.std.proofs.lemmas.Bool.Decides.{nat_tests}
-use Rattle.bench_text.specs.Netlist.{NetView, NetlistView, net_named, net_at}
+use Rattle.netlist.specs.Netlist.{NetView, NetlistView, net_named, net_at}
 use Rattle.design.specs.declared.fault.DelayFault.TheVariants.{BadLine}
 use Rattle.design.specs.Circuit.{most_delay}
 use Rattle.design.specs.Delays.{DelayLine, delay_in, delay_at, delay_or_fault, find_net, is_input}

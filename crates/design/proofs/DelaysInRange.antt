@@ -5,16 +5,16 @@ use Rattle.std.specs.Option.{is_some, option_map_or, unwrap_or}
 use Rattle.std.specs.Str.{bytes_eq}
 use Rattle.std.proofs.lemmas.Bool.{and_parts, leb-true}
 use Rattle.std.proofs.lemmas.List.Elements.{All-nil, All-head, All-tail, All-push}
-use Rattle.bench_text.specs.declared.part.Part.{Part}
-use Rattle.bench_text.specs.declared.part.Part.TheVariants.{Input, Gate, Flop}
-use Rattle.bench_text.specs.Text.{code_lines}
-use Rattle.bench_text.specs.Fold.{fold_text}
-use Rattle.bench_text.specs.Netlist.{NetView, NetlistView}
+use Rattle.netlist.specs.declared.part.Part.{Part}
+use Rattle.netlist.specs.declared.part.Part.TheVariants.{Input, Gate, Flop}
+use Rattle.text_lines.specs.Text.{code_lines}
+use Rattle.text_lines.specs.Fold.{fold_text}
+use Rattle.netlist.specs.Netlist.{NetView, NetlistView}
 use Rattle.design.specs.declared.fault.DelayFault.TheVariants.{TooLong, BadLine, IsInput, BadTicks, Twice}
 use Rattle.design.specs.Circuit.{most_delay, HasDelay}
 use Rattle.design.specs.Options.{is_in_limits}
 use Rattle.design.specs.Delays.{DelayLine, delay_in, delay_at, delay_or_fault, with_delay, delays_after, delays_of, delay_named, delay_of_net, delay_of_part, find_net, is_input, ticks_named}
-use Rattle.bench_text.proofs.CallerLemmas.{bind-Ok, fold_lines-keeps, unless_too_long-Ok}
+use Rattle.text_lines.proofs.CallerLemmas.{bind-Ok, fold_lines-keeps, unless_too_long-Ok}
 
 abbrev InLimits : ℕ → Type 0
 InLimits ticks = (1 ≤ ticks) × (ticks ≤ most_delay)

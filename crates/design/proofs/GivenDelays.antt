@@ -5,12 +5,13 @@ use Rattle.std.specs.Option.{is_some, option_or}
 use Rattle.std.specs.Str.{bytes_eq}
 use Rattle.std.proofs.lemmas.List.{get_or-map}
 use Rattle.std.proofs.lemmas.List.Folds.{find-append}
-use Rattle.bench_text.specs.Text.{◌>>=◌, code_lines, longest_text}
-use Rattle.bench_text.specs.Fold.{fold_lines, fold_text}
-use Rattle.bench_text.specs.Netlist.{NetView, NetlistView, net_at}
+use Rattle.text_lines.specs.Text.{◌>>=◌, code_lines, longest_text}
+use Rattle.text_lines.specs.Fold.{fold_lines, fold_text}
+use Rattle.netlist.specs.Netlist.{NetView, NetlistView, net_at}
 use Rattle.design.specs.declared.fault.DelayFault.TheVariants.{TooLong, Twice}
 use Rattle.design.specs.Delays.{DelayLine, delay_or_fault, with_delay, delays_after, delays_of, net_ticks, ticks_named}
-use Rattle.bench_text.proofs.CallerLemmas.{bytes_eq-same, bytes_eq-other, fold_lines-next, unless_too_long-short}
+use Rattle.text_lines.proofs.CallerLemmas.{fold_lines-next, unless_too_long-short}
+use Rattle.netlist.proofs.CallerLemmas.{bytes_eq-same, bytes_eq-other}
 use Rattle.design.proofs.Named.{HasDistinctNames, no_net, map-named}
 
 -- earlier lines gave each net its ticks, and some lines are left of all

@@ -7,8 +7,8 @@ use Rattle.std.proofs.lemmas.Option.{slice_get-map, slice_get-get_or}
 use Rattle.std.proofs.lemmas.Simd.{map-map}
 use Rattle.std.proofs.lemmas.Slice.Zip.{length-zip, firsts-zip, seconds-zip}
 use Rattle.logic3.specs.declared.change.Change.{Change}
-use Rattle.bench_text.specs.Netlist.{NetView, net_named}
-use Rattle.bench_text.proofs.CallerLemmas.{position-map}
+use Rattle.netlist.specs.Netlist.{NetView, net_named}
+use Rattle.netlist.proofs.CallerLemmas.{position-map}
 use Rattle.design.specs.Circuit.{Net}
 use Rattle.design.specs.Design.{DesignView, IsDesign, untimed}
 use Rattle.design.specs.Joined.{timed_net, timed_nets}

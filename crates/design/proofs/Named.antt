@@ -6,8 +6,8 @@ use Rattle.std.proofs.lemmas.List.{ext_get_or, get_or-map, length-map}
 use Rattle.std.proofs.lemmas.List.Quantifiers.{position-Some}
 use Rattle.std.proofs.lemmas.Slice.Eq.{bytes_eq-Decides}
 use Rattle.std.specs.Str.{bytes_eq}
-use Rattle.bench_text.specs.declared.part.Part.TheVariants.{Input}
-use Rattle.bench_text.specs.Netlist.{NetView, NetlistView, net_named, net_at}
+use Rattle.netlist.specs.declared.part.Part.TheVariants.{Input}
+use Rattle.netlist.specs.Netlist.{NetView, NetlistView, net_named, net_at}
 
 -- what stands for a net past the last
 abbrev pub no_net : NetView

@@ -7,7 +7,7 @@ use Rattle.logic3.specs.declared.value.Value.{Value}
 use Rattle.logic3.specs.declared.value.Value.TheVariants.{Unknown}
 use Rattle.logic3.specs.declared.gates.GateKind.{GateKind}
 use Rattle.logic3.specs.Gate.{value_of_gate}
-use Rattle.bench_text.specs.declared.part.Part.TheVariants.{Gate, Flop}
+use Rattle.netlist.specs.declared.part.Part.TheVariants.{Gate, Flop}
 use Rattle.design.specs.declared.samples.Timing.{Timing}
 use Rattle.design.specs.Circuit.{Net}
 use Rattle.design.specs.Samples.{timing_of, asked_of_part}

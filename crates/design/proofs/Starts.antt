@@ -6,8 +6,8 @@ use Rattle.std.proofs.lemmas.List.{length-map, get_or-map}
 use Rattle.std.proofs.lemmas.List.Sums.{sum_by-cons}
 use Rattle.std.proofs.lemmas.Bool.{cases_lt, lt-ltb, le-ltb, le-leb, leb-true}
 use Rattle.design.specs.Circuit.{Net, Circuit, pin_count}
-use Rattle.bench_text.specs.Netlist.{NetView, NetlistView, IsNetlist, net_at}
-use Rattle.bench_text.proofs.CallerLemmas.{sum_by-map}
+use Rattle.netlist.specs.Netlist.{NetView, NetlistView, IsNetlist, net_at}
+use Rattle.netlist.proofs.CallerLemmas.{sum_by-map}
 use Rattle.design.specs.Joined.{starts_from, first_pins_of}
 use Rattle.design.specs.Pins.{first_pin, net_of_pin}
 use Rattle.design.proofs.Numbers.{pin_count-cons}

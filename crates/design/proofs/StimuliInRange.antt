@@ -7,12 +7,12 @@ use Rattle.std.proofs.lemmas.List.Elements.{All-nil, All-head, All-tail, All-pus
 use Rattle.std.proofs.lemmas.Slice.Eq.{bytes_eq-Decides}
 use Rattle.logic3.specs.declared.value.Value.{Value}
 use Rattle.logic3.specs.declared.change.Change.{Change}
-use Rattle.bench_text.specs.declared.part.Part.{Part}
-use Rattle.bench_text.specs.declared.part.Part.TheVariants.{Input, Gate, Flop}
+use Rattle.netlist.specs.declared.part.Part.{Part}
+use Rattle.netlist.specs.declared.part.Part.TheVariants.{Input, Gate, Flop}
 use Rattle.logic3.specs.Rising.{TicksRise}
-use Rattle.bench_text.specs.Text.{code_lines}
-use Rattle.bench_text.specs.Fold.{fold_text}
-use Rattle.bench_text.specs.Netlist.{NetView, NetlistView, net_named, net_at}
+use Rattle.text_lines.specs.Text.{code_lines}
+use Rattle.text_lines.specs.Fold.{fold_text}
+use Rattle.netlist.specs.Netlist.{NetView, NetlistView, net_named, net_at}
 use Rattle.design.specs.declared.fault.StimulusFault.TheVariants.{TooLong, BadLine, NotAnInput, TickTooLarge, BadValue, NotRising}
 use Rattle.design.specs.Circuit.{most_ticks, HasStimuli}
 use Rattle.design.specs.Delays.{find_net, is_input}
@@ -20,7 +20,7 @@ use Rattle.design.specs.Stimuli.{StimulusLine, NamedChange, named_change, stimul
 use Rattle.design.proofs.Named.{HasDistinctNames, no_net, net_at-named, names-differ}
 use Rattle.design.proofs.Rising.{is_reached}
 use Rattle.design.proofs.StimuliNamed.{TicksRise-more}
-use Rattle.bench_text.proofs.CallerLemmas.{bind-Ok, fold_lines-keeps, unless_too_long-Ok}
+use Rattle.text_lines.proofs.CallerLemmas.{bind-Ok, fold_lines-keeps, unless_too_long-Ok}
 
 -- a change of the input of this number, not past the last tick
 record IsStimulus (netlist : NetlistView) (s : NamedChange) : Type 0 where

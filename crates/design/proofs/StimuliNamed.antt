@@ -11,7 +11,7 @@ use Rattle.std.proofs.lemmas.Slice.Eq.{bytes_eq-Decides}
 use Rattle.logic3.specs.declared.change.Change.{Change}
 use Rattle.logic3.specs.Rising.{TicksRise}
 use Rattle.design.specs.Stimuli.{NamedChange, stimuli_named}
-use Rattle.bench_text.proofs.CallerLemmas.{bytes_eq-same, bytes_eq-other}
+use Rattle.netlist.proofs.CallerLemmas.{bytes_eq-same, bytes_eq-other}
 use Rattle.design.proofs.Rising.{is_reached}
 
 -- a further stimulus goes behind those of its own net, and changes no other

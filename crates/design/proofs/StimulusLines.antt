@@ -3,7 +3,7 @@ use Rattle.std.proofs.Common.{◌≡◌, ℕ, ◌<◌, ◌≤◌, min, Bool, tru
 use Rattle.std.specs.Option.{option_map_or}
 use Rattle.std.proofs.lemmas.Bool.Decides.{nat_tests}
 use Rattle.logic3.specs.declared.value.Value.{Value}
-use Rattle.bench_text.specs.Netlist.{NetView, NetlistView, net_named, net_at}
+use Rattle.netlist.specs.Netlist.{NetView, NetlistView, net_named, net_at}
 use Rattle.design.specs.declared.fault.StimulusFault.TheVariants.{BadLine, NotAnInput, TickTooLarge, BadValue}
 use Rattle.design.specs.Circuit.{most_ticks}
 use Rattle.design.specs.Delays.{find_net, is_input}

@@ -4,8 +4,8 @@ use Rattle.std.specs.Result.{result_map_both}
 use Rattle.logic3.specs.declared.value.Value.TheVariants.{Zero, One, Unknown}
 use Rattle.logic3.specs.declared.gates.GateKind.TheVariants.{Not}
 use Rattle.logic3.specs.declared.change.Change.{Change}
-use Rattle.bench_text.specs.declared.part.Part.TheVariants.{Input, Gate}
-use Rattle.bench_text.specs.Netlist.{NetlistView}
+use Rattle.netlist.specs.declared.part.Part.TheVariants.{Input, Gate}
+use Rattle.netlist.specs.Netlist.{NetlistView}
 use Rattle.design.specs.declared.fault.DelayFault.{DelayFault}
 use Rattle.design.specs.declared.fault.DelayFault.TheVariants as delay
 use Rattle.design.specs.declared.fault.StimulusFault.{StimulusFault}

@@ -6,10 +6,10 @@ use Rattle.std.proofs.lemmas.Option.{slice_get_within, get_or_from_slice_get, no
 use Rattle.logic3.specs.Gate.{HasArity}
 use Rattle.logic3.specs.declared.gates.GateKind.{GateKind}
 use Rattle.logic3.specs.declared.gates.GateKind.TheVariants.{Not, Buf}
-use Rattle.bench_text.specs.declared.part.Part.{Part}
-use Rattle.bench_text.specs.declared.part.Part.TheVariants.{Gate, Flop}
-use Rattle.bench_text.specs.Line.{takes_pins}
-use Rattle.bench_text.specs.Netlist.{NetView}
+use Rattle.netlist.specs.declared.part.Part.{Part}
+use Rattle.netlist.specs.declared.part.Part.TheVariants.{Gate, Flop}
+use Rattle.netlist.specs.Part.{takes_pins}
+use Rattle.netlist.specs.Netlist.{NetView}
 use Rattle.design.specs.declared.samples.Timing.{Timing}
 use Rattle.design.specs.Circuit.{Net, Circuit, IsCircuit, IsTimed}
 use Rattle.design.specs.Samples.{timing_of}

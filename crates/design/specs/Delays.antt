@@ -1,11 +1,11 @@
 -- What a delay text says of a netlist.
 use Rattle.std.specs.Prelude.{ℕ, not, Bool, true, false, if◌then◌else◌, List, [], ◌∷◌, ◌++◌, map, find, option_map, Option, None, Some, Result, Ok, Err, bytes_eq}
 use Rattle.std.specs.Option.{is_some, option_map_or, unwrap_or}
-use Rattle.bench_text.specs.declared.part.Part.{Part}
-use Rattle.bench_text.specs.declared.part.Part.TheVariants.{Input, Gate, Flop}
-use Rattle.bench_text.specs.Text.{◌>>=◌, words_of, number_of, is_plain, unless_too_long}
-use Rattle.bench_text.specs.Fold.{fold_text}
-use Rattle.bench_text.specs.Netlist.{NetView, NetlistView, net_named, net_at}
+use Rattle.netlist.specs.declared.part.Part.{Part}
+use Rattle.netlist.specs.declared.part.Part.TheVariants.{Input, Gate, Flop}
+use Rattle.text_lines.specs.Text.{◌>>=◌, words_of, number_of, is_plain, unless_too_long}
+use Rattle.text_lines.specs.Fold.{fold_text}
+use Rattle.netlist.specs.Netlist.{NetView, NetlistView, net_named, net_at}
 use Rattle.design.specs.declared.fault.DelayFault.{DelayFault}
 use Rattle.design.specs.declared.fault.DelayFault.TheVariants.{TooLong, BadLine, UnknownNet, IsInput, BadTicks, Twice}
 use Rattle.design.specs.Circuit.{most_delay}

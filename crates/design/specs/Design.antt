@@ -1,6 +1,6 @@
 -- A design: a netlist with its timing and stimuli.
 use Rattle.std.specs.Prelude.{◌≡◌, All, map}
-use Rattle.bench_text.specs.Netlist.{NetView, NetlistView, IsNetlist}
+use Rattle.netlist.specs.Netlist.{NetView, NetlistView, IsNetlist}
 use Rattle.design.specs.Circuit.{Net, Circuit, IsTimed}
 
 pub record DesignView : Type 0 where

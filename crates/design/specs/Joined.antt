@@ -2,7 +2,7 @@
 use Rattle.std.specs.Prelude.{◌≡◌, ℕ, ◌+◌, List, [], ◌∷◌, length, map}
 use Rattle.std.specs.List.{zip}
 use Rattle.logic3.specs.declared.change.Change.{Change}
-use Rattle.bench_text.specs.Netlist.{NetView, NetlistView}
+use Rattle.netlist.specs.Netlist.{NetView, NetlistView}
 use Rattle.design.specs.Circuit.{Net, Circuit}
 use Rattle.design.specs.Design.{DesignView, IsDesign}
 

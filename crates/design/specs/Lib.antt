@@ -2,9 +2,9 @@ pub use Rattle.logic3.specs.Value
 pub use Rattle.logic3.specs.Gate
 pub use Rattle.logic3.specs.Wave
 pub use Rattle.logic3.specs.Rising
-pub use Rattle.bench_text.specs.Text
-pub use Rattle.bench_text.specs.Fold
-pub use Rattle.bench_text.specs.Netlist
+pub use Rattle.text_lines.specs.Text
+pub use Rattle.text_lines.specs.Fold
+pub use Rattle.netlist.specs.Netlist
 pub mod Circuit
 pub mod Design
 pub mod Joined

@@ -1,7 +1,7 @@
 -- At which tick a net looks at its pins: what its part, its delay and its period mean, and nothing else says so.
 use Rattle.std.specs.Prelude.{ℕ, ◌+◌, ◌-◌, ◌*◌, ◌/◌, nat_lt, max, if◌then◌else◌, Option, None, Some}
-use Rattle.bench_text.specs.declared.part.Part.{Part}
-use Rattle.bench_text.specs.declared.part.Part.TheVariants.{Input, Gate, Flop}
+use Rattle.netlist.specs.declared.part.Part.{Part}
+use Rattle.netlist.specs.declared.part.Part.TheVariants.{Input, Gate, Flop}
 use Rattle.design.specs.declared.samples.Timing.{Timing}
 use Rattle.design.specs.Circuit.{Net}
 

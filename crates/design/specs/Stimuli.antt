@@ -5,9 +5,9 @@ use Rattle.std.specs.Option.{option_map_or}
 use Rattle.logic3.specs.declared.value.Value.{Value}
 use Rattle.logic3.specs.declared.value.Value.TheVariants.{Zero, One, Unknown}
 use Rattle.logic3.specs.declared.change.Change.{Change}
-use Rattle.bench_text.specs.Text.{◌>>=◌, words_of, number_of, is_plain, unless_too_long}
-use Rattle.bench_text.specs.Fold.{fold_text}
-use Rattle.bench_text.specs.Netlist.{NetView, NetlistView}
+use Rattle.text_lines.specs.Text.{◌>>=◌, words_of, number_of, is_plain, unless_too_long}
+use Rattle.text_lines.specs.Fold.{fold_text}
+use Rattle.netlist.specs.Netlist.{NetView, NetlistView}
 use Rattle.design.specs.declared.fault.StimulusFault.{StimulusFault}
 use Rattle.design.specs.declared.fault.StimulusFault.TheVariants.{TooLong, BadLine, UnknownNet, NotAnInput, TickTooLarge, BadValue, NotRising}
 use Rattle.design.specs.Circuit.{most_ticks}

@@ -1,13 +1,13 @@
 //! The delay of each net, from a delay text.
 ghost use Rattle.std.specs.Prelude.{◌≡◌, ◌≢◌, ◌<◌, ◌-◌, ◌^◌, length, map, min, option_map, IfOk};
 ghost use Rattle.std.specs.Result.{result_map_both};
-ghost use Rattle.bench_text.specs.Netlist.{net_at};
+ghost use Rattle.netlist.specs.Netlist.{net_at};
 ghost use Rattle.design.specs.Delays.{DelayLine, delay_in, delay_of_part, delay_or_fault, delays_of, is_input, net_delays, net_ticks};
 
 use crate::fault::DelayFault;
 use crate::limits::MOST_DELAY;
-use bench_text::text::{LONGEST_TEXT, code_lines, is_plain, number, words_of};
-use bench_text::{Netlist, Part};
+use text_lines::{LONGEST_TEXT, code_lines, is_plain, number, words_of};
+use netlist::{Netlist, Part};
 use std::alloc::Global;
 
 /// The delay that a line gives a net.

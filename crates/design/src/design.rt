@@ -1,6 +1,6 @@
 ghost use Rattle.std.specs.Prelude.{◌≡◌, ℕ, ◌+◌, ◌<◌, length, option_map, position, bytes_eq, slice_get, Some};
 ghost use Rattle.std.specs.Option.{ForSome};
-ghost use Rattle.bench_text.specs.Netlist.{net_named};
+ghost use Rattle.netlist.specs.Netlist.{net_named};
 ghost use Rattle.design.specs.Circuit.{Net, pin_count};
 ghost use Rattle.design.specs.Pins.{sources_of, first_pin, net_of_pin};
 ghost use Rattle.design.specs.Samples.{timing_of};
@@ -8,7 +8,7 @@ ghost use Rattle.design.specs.Samples.{timing_of};
 mod build;
 
 use crate::samples::Timing;
-use bench_text::{Netlist, Part};
+use netlist::{Netlist, Part};
 use logic3::Change;
 use std::marker::Model;
 

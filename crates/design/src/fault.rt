@@ -56,7 +56,7 @@ pub enum DelayFault {
 }
 
 impl DelayFault {
-    /// The line that the fault names, from 1, and 0 for a fault of the whole text.
+    /// The line that the fault names, from 1, and 0 for a fault without a line.
     pub fn line(&self) -> u64
         ensures { result ≡ delay_line self.now }
     {
@@ -128,7 +128,7 @@ pub enum StimulusFault {
 }
 
 impl StimulusFault {
-    /// The line that the fault names, from 1, and 0 for a fault of the whole text.
+    /// The line that the fault names, from 1, and 0 for a fault without a line.
     pub fn line(&self) -> u64
         ensures { result ≡ stimulus_line self.now }
     {

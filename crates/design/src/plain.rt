@@ -13,7 +13,7 @@ ghost use Rattle.design.specs.Equations.{equation_at, signals_in, waves_of};
 
 use crate::design::Design;
 use crate::horizon::Horizon;
-use bench_text::Part;
+use netlist::Part;
 use logic3::{Change, GateKind, Value, Waveform, gate, value_after};
 use std::alloc::{AllocError, Global};
 

@@ -3,7 +3,7 @@ ghost use Rattle.std.specs.Prelude.{◌≡◌, ◌<◌, ◌≤◌, ◌+◌};
 ghost use Rattle.design.specs.Circuit.{most_delay, most_ticks};
 ghost use Rattle.design.specs.Samples.{last_sample, next_sample, asked_of_part, asker_of_part};
 
-use bench_text::Part;
+use netlist::Part;
 
 /// When a net looks at its pins, in ticks.
 #[derive(Clone, Copy, Debug, PartialEq, Eq)]

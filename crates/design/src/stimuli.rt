@@ -3,14 +3,14 @@ ghost use Rattle.std.specs.Prelude.{◌≡◌, ◌≢◌, ◌<◌, ◌-◌, ◌^
 ghost use Rattle.std.specs.Option.{option_map_or};
 ghost use Rattle.std.specs.Result.{result_map_both};
 ghost use Rattle.logic3.specs.declared.change.Change.{Change};
-ghost use Rattle.bench_text.specs.Netlist.{net_at};
+ghost use Rattle.netlist.specs.Netlist.{net_at};
 ghost use Rattle.design.specs.Stimuli.{StimulusLine, net_stimuli, stimuli_of, stimulus_in, stimulus_or_fault, value_of_word};
 
 use crate::delays::is_input;
 use crate::fault::StimulusFault;
 use crate::limits::MOST_TICKS;
-use bench_text::Netlist;
-use bench_text::text::{LONGEST_TEXT, code_lines, is_plain, number, words_of};
+use netlist::Netlist;
+use text_lines::{LONGEST_TEXT, code_lines, is_plain, number, words_of};
 use logic3::{Change, Value};
 use std::alloc::{AllocError, Global};
 

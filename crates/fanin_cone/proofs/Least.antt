@@ -1,7 +1,7 @@
 -- The cone of some names is the least closed set that holds them.
 use Rattle.std.proofs.Common.{ℕ, get_or, List, [], ◌∷◌, refl, subst, arith, All, Contains}
 use Rattle.std.proofs.lemmas.List.Elements.{All-contains, All-contains_itself, All-weaker, Contains-get_or}
-use Rattle.bench_text.specs.Netlist.{NetView, NetlistView}
+use Rattle.netlist.specs.Netlist.{NetView, NetlistView}
 use Rattle.fanin_cone.proofs.Listed.{Contains-one}
 use Rattle.fanin_cone.specs.Cone.{pin_names, IsClosed, InCone, start, pin}
 

@@ -6,7 +6,7 @@ use Rattle.std.proofs.Math.Seq.{take-append_seam}
 use Rattle.std.proofs.lemmas.Bool.Decides.{nat_tests}
 use Rattle.std.proofs.lemmas.List.{get_or-map, length-map}
 use Rattle.std.proofs.lemmas.Map.Views.{Contains-from_any, list_any-from_Contains, exact_unsigned_eq}
-use Rattle.bench_text.specs.Netlist.{distinct}
+use Rattle.netlist.specs.Repeats.{distinct}
 
 -- between the test and the fact
 pub contains_from_any : (numbers : List ℕ) (n : ℕ) → list_any (λ m. n == m) numbers ≡ true → Contains numbers n

@@ -7,8 +7,8 @@ use Rattle.std.proofs.lemmas.List.{append-nil, append_assoc, take_more, length_p
 use Rattle.std.proofs.lemmas.List.Elements.{All-append, All-filter, All-from_get_or, filter-append, Contains-append_left, Contains-append_right, Contains-get_or}
 use Rattle.std.proofs.lemmas.List.Folds.{list_any_more}
 use Rattle.std.proofs.lemmas.List.Sums.{sum_by-set}
-use Rattle.bench_text.specs.Netlist.{distinct}
-use Rattle.bench_text.proofs.CallerLemmas.{distinct_push, All-distinct}
+use Rattle.netlist.specs.Repeats.{distinct}
+use Rattle.netlist.proofs.CallerLemmas.{distinct_push, All-distinct}
 use Rattle.fanin_cone.specs.Walk.{is_marked, unmarked, Marks}
 use Rattle.fanin_cone.proofs.Listed.{contains_from_any, any_from_contains, list_any-filter, list_any-distinct}
 

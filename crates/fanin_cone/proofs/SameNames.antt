@@ -5,7 +5,7 @@ use Rattle.std.proofs.lemmas.Slice.Eq.{bytes_eq-Decides}
 use Rattle.std.specs.Str.{bytes_eq}
 use Rattle.design.specs.Circuit.{Net}
 use Rattle.design.specs.Design.{DesignView, IsDesign}
-use Rattle.bench_text.specs.Canonical.{name_at}
+use Rattle.netlist.specs.Netlist.{name_at}
 use Rattle.fanin_cone.specs.Cone.{pin_names}
 use Rattle.fanin_cone.proofs.DesignNets.{name_at-circuit}
 

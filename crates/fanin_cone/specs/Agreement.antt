@@ -1,8 +1,8 @@
 -- Two designs that agree on a set of names.
 use Rattle.std.specs.Prelude.{◌≡◌, ℕ, ◌≤◌, nat_le, List, filter, find, Option, Some, IsSome, bytes_eq}
 use Rattle.logic3.specs.declared.change.Change.{Change}
-use Rattle.bench_text.specs.declared.part.Part.TheVariants.{Flop}
-use Rattle.bench_text.specs.Netlist.{net_named}
+use Rattle.netlist.specs.declared.part.Part.TheVariants.{Flop}
+use Rattle.netlist.specs.Netlist.{net_named}
 use Rattle.design.specs.Circuit.{Net}
 use Rattle.design.specs.Design.{DesignView, IsDesign}
 use Rattle.design.specs.Equations.{value_of}

@@ -1,8 +1,9 @@
 -- The nets of some cones as a netlist of their own.
 use Rattle.std.specs.Prelude.{◌≡◌, ℕ, List, filter_map, position, Option, Some}
 use Rattle.std.specs.Option.{is_none}
-use Rattle.bench_text.specs.Netlist.{NetlistView, net_named, distinct}
-use Rattle.bench_text.specs.Pick.{picked}
+use Rattle.netlist.specs.Netlist.{NetlistView, net_named}
+use Rattle.netlist.specs.Repeats.{distinct}
+use Rattle.netlist.specs.Pick.{picked}
 use Rattle.design.specs.Circuit.{Net}
 use Rattle.design.specs.Design.{DesignView, IsDesign}
 use Rattle.fanin_cone.specs.Cone.{IsConeOf}

@@ -1,11 +1,11 @@
 pub use Rattle.logic3.specs.Value
 pub use Rattle.logic3.specs.Gate
 pub use Rattle.logic3.specs.Wave
-pub use Rattle.bench_text.specs.Text
-pub use Rattle.bench_text.specs.Netlist
-pub use Rattle.bench_text.specs.Pick
-pub use Rattle.bench_text.specs.Canonical
-pub use Rattle.bench_text.specs.Seen
+pub use Rattle.text_lines.specs.Text
+pub use Rattle.netlist.specs.Netlist
+pub use Rattle.netlist.specs.Repeats
+pub use Rattle.netlist.specs.Pick
+pub use Rattle.netlist.specs.Names
 pub use Rattle.design.specs.Circuit
 pub use Rattle.design.specs.Design
 pub use Rattle.design.specs.Equations

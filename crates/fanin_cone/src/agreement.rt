@@ -3,12 +3,12 @@ ghost use Rattle.std.specs.Prelude.{◌≡◌, ◌∷◌, [], ◌<◌, ◌↔◌
 ghost use Rattle.logic3.specs.Rising.{TicksRise};
 ghost use Rattle.design.specs.Circuit.{Net};
 ghost use Rattle.design.specs.Design.{IsDesign};
-ghost use Rattle.bench_text.specs.Canonical.{name_at};
+ghost use Rattle.netlist.specs.Netlist.{name_at};
 ghost use Rattle.fanin_cone.specs.Cone.{pin_names, InCone};
 ghost use Rattle.fanin_cone.specs.Agreement.{net_of, stimuli_to, IsSameNet, AgreesAt, AgreesOn};
 
 use crate::cones::cone;
-use bench_text::Part;
+use netlist::Part;
 use design::{Design, Horizon};
 use logic3::Change;
 use std::alloc::{AllocError, Global};

@@ -1,10 +1,10 @@
 //! The walk from nets back over their pins.
 ghost use Rattle.std.specs.Prelude.{◌<◌, ◌≤◌, ◌^◌, ◌∷◌, [], length, map, All, IfOk, OnOk};
-ghost use Rattle.bench_text.specs.Canonical.{name_at};
+ghost use Rattle.netlist.specs.Netlist.{name_at};
 ghost use Rattle.fanin_cone.specs.Cone.{IsConeOf};
 ghost use Rattle.fanin_cone.specs.Walk.{Marks, MarksCone, NumbersMarked};
 
-use bench_text::Netlist;
+use netlist::Netlist;
 use design::Design;
 use std::alloc::{AllocError, Global};
 

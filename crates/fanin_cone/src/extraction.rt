@@ -1,12 +1,12 @@
 //! The nets of some cones as a netlist of their own.
 ghost use Rattle.std.specs.Prelude.{◌≡◌, ◌≢◌, ℕ, ◌<◌, ◌↔◌, length, map, All, IfOk, Some};
-ghost use Rattle.bench_text.specs.Netlist.{net_named};
-ghost use Rattle.bench_text.specs.Seen.{seen_names};
+ghost use Rattle.netlist.specs.Netlist.{net_named};
+ghost use Rattle.netlist.specs.Names.{seen_names};
 ghost use Rattle.fanin_cone.specs.Extract.{first_unknown, IsExtract};
 
 use crate::cones::cone_of;
 use crate::fault::ConeFault;
-use bench_text::{Netlist, without_repeats};
+use netlist::{Netlist, without_repeats};
 use std::alloc::Global;
 
 /// The nets in the fan-in cones of the nets of these names, in their old order, as a netlist of

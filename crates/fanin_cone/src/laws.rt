@@ -1,6 +1,6 @@
 //! Facts about cones and agreement alone. A set of names is a test here.
 ghost use Rattle.std.specs.Prelude.{ℕ, ◌↔◌, ◌∷◌, [], Bool, List, All, Contains};
-ghost use Rattle.bench_text.specs.Netlist.{NetlistView};
+ghost use Rattle.netlist.specs.Netlist.{NetlistView};
 ghost use Rattle.design.specs.Design.{DesignView};
 ghost use Rattle.fanin_cone.specs.Cone.{Passes, IsClosed, InCone};
 ghost use Rattle.fanin_cone.specs.Agreement.{HasNet, AgreesOn, DesignsAgree, ShowTheSame};

@@ -3,8 +3,8 @@ use Rattle.std.proofs.Common.{◌≡◌, ℕ, zero, suc, ◌+◌, ◌<◌, ◌�
 use Rattle.std.specs.Option.{option_map_or}
 use Rattle.std.proofs.lemmas.List.{map_more}
 use Rattle.std.proofs.lemmas.Option.{none-some, same_Some}
-use Rattle.bench_text.specs.declared.part.Part.{Part}
-use Rattle.bench_text.specs.declared.part.Part.TheVariants.{Input, Gate, Flop}
+use Rattle.netlist.specs.declared.part.Part.{Part}
+use Rattle.netlist.specs.declared.part.Part.TheVariants.{Input, Gate, Flop}
 use Rattle.design.specs.Circuit.{Net}
 use Rattle.design.specs.Samples.{timing_of, asked_tick, asker_of_part, first_asker}
 use Rattle.design.proofs.CallerLemmas.{asked-from, asker-late, asker-mono, asker-none}

@@ -13,8 +13,8 @@ use Rattle.logic3.specs.Value.{is_same, is_same_equiv}
 use Rattle.logic3.specs.Rising.{TicksRise}
 use Rattle.logic3.specs.Wave.{value_after, value_before, change_at, changes_between}
 use Rattle.logic3.proofs.CallerLemmas.{value_after-partition, RisesBy-ascends}
-use Rattle.bench_text.specs.declared.part.Part.{Part}
-use Rattle.bench_text.specs.declared.part.Part.TheVariants.{Input, Gate, Flop}
+use Rattle.netlist.specs.declared.part.Part.{Part}
+use Rattle.netlist.specs.declared.part.Part.TheVariants.{Input, Gate, Flop}
 use Rattle.design.specs.Circuit.{Net}
 use Rattle.design.specs.Samples.{timing_of, asked_of_part, asked_tick, asker_of_part, first_asker}
 use Rattle.design.specs.Equations.{values_at, equation_of_part, equation}

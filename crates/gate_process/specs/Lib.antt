@@ -3,7 +3,7 @@ pub mod Step
 pub mod Truth
 pub use Rattle.logic3.specs.Gate
 pub use Rattle.logic3.specs.Wave
-pub use Rattle.bench_text.specs.Line
+pub use Rattle.netlist.specs.Part
 pub use Rattle.design.specs.Circuit
 pub use Rattle.design.specs.Equations
 pub use Rattle.cmb_channels.specs.Lists

@@ -2,7 +2,7 @@
 use Rattle.std.specs.Prelude.{◌≡◌, ◌≢◌, ℕ, ◌+◌, ◌<◌, ◌≤◌, true, List, length, map, slice_get, Some}
 use Rattle.logic3.specs.declared.value.Value.{Value}
 use Rattle.logic3.specs.declared.change.Change.{Change}
-use Rattle.bench_text.specs.Line.{takes_pins}
+use Rattle.netlist.specs.Part.{takes_pins}
 use Rattle.design.specs.Circuit.{Net, IsTimed, most_ticks}
 use Rattle.design.specs.Samples.{asked_tick}
 use Rattle.design.specs.Equations.{equation}

@@ -7,7 +7,7 @@ ghost use Rattle.gate_process.specs.Truth.{IsNet};
 use crate::changes::next_change;
 use crate::equation::{gate_value, next_pin_change, sampled_value};
 use crate::received::Received;
-use bench_text::Part;
+use netlist::Part;
 use design::{Design, Timing};
 use logic3::{Change, Value, value_after};
 use std::alloc::{AllocError, Global};

@@ -2,7 +2,7 @@
 use Rattle.std.proofs.Common.{◌≡◌, ℕ, ◌-◌, ◌^◌, ◌<◌, ◌≤◌, min, List, Option, Result, Ok, Err, IsOkAnd, ◌⊎◌, inl, inr, refl, sym, ap, subst, ◌∙◌, arith}
 use Rattle.std.proofs.KnownBytes.{Keeps-refl}
 use Rattle.std.proofs.lemmas.Bool.{cases_lt, lt-ltb}
-use Rattle.bench_text.specs.Text.{◌>>=◌}
+use Rattle.text_lines.specs.Text.{◌>>=◌}
 use Rattle.design.specs.Circuit.{most_ticks}
 use Rattle.design.specs.Options.{horizon_of}
 use Rattle.vcd_dump.specs.Bytes.{AppendsPrefix}

@@ -1,6 +1,6 @@
 -- How the program without words ends, from how the run of what it read does.
 use Rattle.std.proofs.Common.{◌≡◌, ℕ, ◌+◌, List, take, Option, Some, None, Result, Ok, Err, IfSome, IsOkAnd, refl, ap, subst, ◌∙◌}
-use Rattle.bench_text.specs.Text.{longest_text}
+use Rattle.text_lines.specs.Text.{longest_text}
 use Rattle.runs.specs.declared.simulation.Report.{Report}
 use Rattle.runs.specs.Simulated.{dump_in}
 use Rattle.nullsim.specs.declared.deck_run.DeckFault.{DeckFault}

@@ -1,5 +1,5 @@
 -- How the program with words ends.
-use Rattle.std.specs.Prelude.{◌≡◌, ◌⊎◌, ℕ, Bool, false, List, [], ◌∷◌, ◌++◌, Option, None, Some, String, codes, decimal, bytes_eq, string_bytes, IsTrue}
+use Rattle.std.specs.Prelude.{◌≡◌, ◌⊎◌, ℕ, Bool, List, [], ◌∷◌, ◌++◌, Option, None, Some, String, codes, decimal, bytes_eq, string_bytes, IsTrue}
 use Rattle.std.specs.List.{list_any}
 use Rattle.std.specs.Io.KnownBytes.{Appends, Keeps}
 use Rattle.std.specs.declared.alloc.Global.{Global}
@@ -64,6 +64,11 @@ is_help_word word = list_any (bytes_eq word) (codes "help" ∷ codes "--help" �
 abbrev pub asks_for_help : List (String Global) → Bool
 asks_for_help words = list_any (λ word. is_help_word (string_bytes word)) words
 
+-- help is given only where it is asked for
+abbrev pub HelpsIfAsked : List (String Global) → NoOrder → Type 0
+HelpsIfAsked words (Help text) = IsTrue (asks_for_help words)
+HelpsIfAsked words other = Unit {0}
+
 -- help goes out
 abbrev pub HelpGiven : List ℕ → Option (List ℕ) → Option (List ℕ) → Option (List ℕ) → Option (List ℕ) → ℕ → Type 0
 HelpGiven text out out_new err err_new status =
@@ -74,13 +79,11 @@ HelpGiven text out out_new err err_new status =
 abbrev pub WrongWords : List ℕ → Option (List ℕ) → Option (List ℕ) → Option (List ℕ) → Option (List ℕ) → ℕ → Type 0
 WrongWords text out out_new err err_new status = (status ≡ 2) × Keeps out out_new × AppendsPrefix err err_new text
 
--- help is given just where a word asks for it
-abbrev pub Explains : List (String Global) → Option (List ℕ) → Option (List ℕ) → Option (List ℕ) → Option (List ℕ) → NoOrder → ℕ → Type 0
-Explains words out out_new err err_new (Help text) status =
-    (IsTrue (asks_for_help words) × HelpGiven (string_bytes text) out out_new err err_new status)
-    ⊎ ((asks_for_help words ≡ false) × WrongWords (string_bytes text) out out_new err err_new status)
-Explains words out out_new err err_new (Usage text) status = WrongWords (string_bytes text) out out_new err err_new status
-Explains words out out_new err err_new Memory status = Keeps out out_new × Reports section_names program.Memory err err_new status
+-- the help, or what is wrong, goes out
+abbrev pub Explains : Option (List ℕ) → Option (List ℕ) → Option (List ℕ) → Option (List ℕ) → NoOrder → ℕ → Type 0
+Explains out out_new err err_new (Help text) status = HelpGiven (string_bytes text) out out_new err err_new status
+Explains out out_new err err_new (Usage text) status = WrongWords (string_bytes text) out out_new err err_new status
+Explains out out_new err err_new Memory status = Keeps out out_new × Reports section_names program.Memory err err_new status
 
 -- ---- words
 
@@ -88,4 +91,4 @@ Explains words out out_new err err_new Memory status = Keeps out out_new × Repo
 abbrev pub CommandEnds : List (String Global) → KnownTexts → Streams → Streams → ℕ → Type 0
 CommandEnds words known old new status =
     ((order : Order) × OrderTold known order old new status)
-    ⊎ ((other : NoOrder) × (new.readings ≡ old.readings) × Explains words old.out new.out old.err new.err other status)
+    ⊎ ((other : NoOrder) × HelpsIfAsked words other × (new.readings ≡ old.readings) × Explains old.out new.out old.err new.err other status)

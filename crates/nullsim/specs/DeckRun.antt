@@ -1,7 +1,7 @@
 -- The answer to a deck, which is that of its sections, and how its run ends.
 use Rattle.std.specs.Prelude.{◌≡◌, ℕ, List, Option, Result, Err, IsOkAnd}
 use Rattle.std.specs.Io.KnownBytes.{Keeps}
-use Rattle.bench_text.specs.Text.{◌>>=◌}
+use Rattle.text_lines.specs.Text.{◌>>=◌}
 use Rattle.vcd_dump.specs.declared.unit.TimeUnit.TheVariants.{Ns}
 use Rattle.vcd_dump.specs.Bytes.{AppendsPrefix}
 use Rattle.deck_text.specs.declared.fault.DeckTextFault.{DeckTextFault}

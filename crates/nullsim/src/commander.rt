@@ -1,11 +1,12 @@
 //! The program with words.
-ghost use Rattle.std.specs.Prelude.{◌≡◌, ◌≢◌, OnErr, OnOk};
+ghost use Rattle.std.specs.Prelude.{◌≡◌, ◌≢◌, IfErr, OnErr, OnOk};
 ghost use Rattle.std.specs.Io.KnownBytes.{Appends, Keeps};
 ghost use Rattle.vcd_dump.specs.Bytes.{AppendsPrefix};
-ghost use Rattle.nullsim.specs.Command.{CommandEnds, Explains, OrderTold, asks_for_help, counts_line, line_of_numbers};
+ghost use Rattle.nullsim.specs.Command.{CommandEnds, Explains, OrderTold, counts_line, line_of_numbers};
 
+use crate::words::order_of_words;
 use cmb_kernel::Counts;
-use command_line::{NoOrder, order_of_words};
+use command_line::NoOrder;
 use itoa::Buffer;
 use orders::status::{DONE, WRONG_WORDS};
 use orders::{Order, ProgramFault, SECTIONS, Texts, report, write_pieces, write_text};
@@ -33,7 +34,7 @@ pub fn command<T: Texts, W: Write, E: Write>(
 {
     match order_of_words(alloc, words) {
         Ok(order) => answer_order(alloc, &order, texts, out, err),
-        Err(no_order) => explain(words, no_order, out, err),
+        Err(no_order) => explain(no_order, out, err),
     }
 }
 
@@ -71,6 +72,7 @@ pub fn answer_order<T: Texts, W: Write, E: Write>(
 pub fn write_counts_line<E: Write>(err: &mut E, counts: Counts) -> Result<(), DumpFault>
     ensures ok { OnOk result (Appends (E.contents err.old) (E.contents err.new) (counts_line counts)) }
     ensures err { OnErr result (AppendsPrefix (E.contents err.old) (E.contents err.new) (counts_line counts)) }
+    ensures no_memory { IfErr result (λ fault. fault ≢ DumpFault.Memory) }
 {
     let (mut events, mut changes) = (Buffer::new(), Buffer::new());
     let (mut nulls, mut rounds) = (Buffer::new(), Buffer::new());
@@ -95,6 +97,7 @@ fn write_numbers<'a, E: Write>(
         (line_of_numbers events.now changes.now nulls.now rounds.now)) }
     ensures err { OnErr result (AppendsPrefix (E.contents err.old) (E.contents err.new)
         (line_of_numbers events.now changes.now nulls.now rounds.now)) }
+    ensures no_memory { IfErr result (λ fault. fault ≢ DumpFault.Memory) }
 {
     let pieces = [
         "events ",
@@ -110,31 +113,20 @@ fn write_numbers<'a, E: Write>(
     write_pieces(err, &pieces)
 }
 
-/// Writes the help where a word asks for it, or else what is wrong with the words; answers the exit
-/// status.
-fn explain<W: Write, E: Write>(words: &[String], no_order: NoOrder, out: &mut W, err: &mut E) -> u8
-    ensures { Explains words.now (W.contents out.old) (W.contents out.new)
+/// Writes the help, or what is wrong with the words; answers the exit status.
+fn explain<W: Write, E: Write>(no_order: NoOrder, out: &mut W, err: &mut E) -> u8
+    ensures { Explains (W.contents out.old) (W.contents out.new)
         (E.contents err.old) (E.contents err.new) no_order result }
 {
     match no_order {
-        NoOrder::Help(text) if asks_for_help(words) => {
-            match write_text(out, text.as_str().as_bytes()) {
-                Ok(()) => DONE,
-                Err(fault) => report(err, fault, SECTIONS),
-            }
-        }
-        NoOrder::Help(text) | NoOrder::Usage(text) => {
+        NoOrder::Help(text) => match write_text(out, text.as_str().as_bytes()) {
+            Ok(()) => DONE,
+            Err(fault) => report(err, fault, SECTIONS),
+        },
+        NoOrder::Usage(text) => {
             let _ = write_all_bytes(err, text.as_str().as_bytes());
             WRONG_WORDS
         }
         NoOrder::Memory => report(err, ProgramFault::Memory, SECTIONS),
     }
-}
-
-fn asks_for_help(words: &[String]) -> bool
-    ensures { result ≡ asks_for_help words.now }
-{
-    words
-        .iter()
-        .any(|word| matches!(word.as_str(), "help" | "--help" | "-h"))
 }

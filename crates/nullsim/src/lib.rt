@@ -4,8 +4,9 @@
 mod commander;
 mod deck_run;
 mod teller;
+mod words;
 
-pub use command_line::{NoOrder, order_of_words};
+pub use command_line::NoOrder;
 pub use commander::{answer_order, command, write_counts_line};
 pub use deck_run::{DeckFault, deck};
 pub use deck_text::{DeckTextFault, Sections, read_sections};
@@ -15,3 +16,4 @@ pub use runs::{
     cone_text, plain, simulate, twin,
 };
 pub use teller::{answer_deck, tell};
+pub use words::order_of_words;

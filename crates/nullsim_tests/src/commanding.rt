@@ -14,7 +14,7 @@ use worked_examples::dumps::{INVERTER_DUMP, OUTPUTS_DUMP, SAMPLER_DUMP, SLOW_DUM
 #[derive(Drop)]
 pub(crate) struct Shelf {
     alloc: Global,
-    texts: &'static [Named],
+    pub(crate) texts: &'static [Named],
     asked: u32,
 }
 

@@ -14,6 +14,8 @@ mod helping;
 #[cfg(test)]
 mod inputs;
 #[cfg(test)]
+mod ledger;
+#[cfg(test)]
 mod refusals;
 #[cfg(test)]
 mod running;

@@ -2,9 +2,10 @@
 use Rattle.std.proofs.Common.{◌≡◌, ℕ, ◌+◌, ◌<◌, ◌≤◌, nat_lt, if◌then◌else◌, List, [], length, take, Result, Ok, Err, ◌⊎◌, inl, inr, refl, ap, ◌∙◌, arith, length-take}
 use Rattle.std.proofs.lemmas.Bool.{cases_lt, lt-ltb}
 use Rattle.std.proofs.lemmas.List.{take_all}
-use Rattle.bench_text.specs.Text.{◌>>=◌, longest_text}
-use Rattle.bench_text.specs.Fold.{fold_text}
-use Rattle.bench_text.specs.Netlist.{NetlistView, netlist_of, netlist_of_statements, statements_of}
+use Rattle.text_lines.specs.Text.{◌>>=◌, longest_text}
+use Rattle.text_lines.specs.Fold.{fold_text}
+use Rattle.netlist.specs.Netlist.{NetlistView}
+use Rattle.bench_text.specs.NetlistOf.{netlist_of, netlist_of_statements, statements_of}
 use Rattle.bench_text.specs.declared.fault.BenchFault.{BenchFault}
 use Rattle.bench_text.specs.declared.fault.BenchFault.TheVariants as bench
 use Rattle.design.specs.declared.fault.BuildFault.{BuildFault}

@@ -4,11 +4,13 @@ use Rattle.std.specs.declared.alloc.Global.{Global}
 use Rattle.std.specs.List.{filter_map}
 use Rattle.bench_text.specs.declared.fault.BenchFault.{BenchFault}
 use Rattle.bench_text.specs.Canonical.{canonical, within_limit}
-use Rattle.bench_text.specs.Netlist.{NetlistView, distinct, net_named, netlist_of}
-use Rattle.bench_text.specs.Pick.{picked}
-use Rattle.bench_text.specs.Seen.{seen_names}
+use Rattle.netlist.specs.Netlist.{NetlistView, net_named}
+use Rattle.netlist.specs.Repeats.{distinct}
+use Rattle.bench_text.specs.NetlistOf.{netlist_of}
+use Rattle.netlist.specs.Pick.{picked}
+use Rattle.netlist.specs.Names.{seen_names}
 use Rattle.logic3.specs.Rising.{Rises}
-use Rattle.bench_text.proofs.CallerLemmas.{AllPairs-tail}
+use Rattle.netlist.proofs.CallerLemmas.{AllPairs-tail}
 use Rattle.fanin_cone.specs.Cone.{IsConeOf}
 use Rattle.fanin_cone.specs.Extract.{IsExtract, first_unknown}
 use Rattle.runs.specs.declared.fault.SimFault.{SimFault}

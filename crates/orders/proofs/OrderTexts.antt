@@ -1,7 +1,7 @@
 -- The answer to an order, from the texts that were read.
 use Rattle.std.proofs.Common.{◌≡◌, ℕ, Bool, List, Option, Some, None, Result, Err, IfSome, IsOkAnd, Ok, Bor, Vec, unwrap_or, refl, ap, subst, ◌∙◌}
 use Rattle.std.specs.declared.alloc.Global.{Global}
-use Rattle.bench_text.specs.Seen.{seen_names}
+use Rattle.netlist.specs.Names.{seen_names}
 use Rattle.runs.specs.declared.check_run.CheckAnswer.{CheckAnswer}
 use Rattle.runs.specs.declared.fault.SimFault.{SimFault}
 use Rattle.runs.specs.declared.twin_run.TwinAnswer.{TwinAnswer}

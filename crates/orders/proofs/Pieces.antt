@@ -6,7 +6,7 @@ use Rattle.std.proofs.KnownBytes.{Appends-trans}
 use Rattle.std.proofs.lemmas.List.{append-nil, take_more}
 use Rattle.std.proofs.lemmas.List.Folds.{concat-append}
 use Rattle.std.proofs.lemmas.Option.{slice_get_within, get_or_from_slice_get}
-use Rattle.bench_text.specs.Seen.{seen_names}
+use Rattle.netlist.specs.Names.{seen_names}
 use Rattle.vcd_dump.specs.Bytes.{AppendsPrefix}
 use Rattle.runs.proofs.CallerLemmas.{AppendsPrefix-whole}
 use Rattle.vcd_dump.proofs.CallerLemmas.{AppendsPrefix-after, AppendsPrefix-longer}

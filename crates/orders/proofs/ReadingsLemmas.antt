@@ -1,5 +1,5 @@
 -- Readings that come one behind the other.
-use Rattle.std.proofs.Common.{◌≡◌, ℕ, List, [], ◌∷◌, ◌++◌, map, option_map, Option, None, Some, Bor, refl, ap, sym, ◌∙◌, inl, inr, append_assoc}
+use Rattle.std.proofs.Common.{◌≡◌, ℕ, List, [], ◌∷◌, ◌++◌, map, option_map, Option, None, Some, Bor, refl, ap, sym, subst, ◌∙◌, inl, inr, append_assoc}
 use Rattle.std.proofs.lemmas.List.{append-nil, map-append}
 use Rattle.runs.specs.declared.fault.SimFault.{SimFault}
 use Rattle.runs.specs.declared.fault.SimFault.TheVariants.{Dump, Memory}
@@ -9,24 +9,28 @@ use Rattle.orders.specs.declared.input.ReadFault.TheVariants as read
 use Rattle.orders.specs.declared.program_fault.ProgramFault.{ProgramFault}
 use Rattle.orders.specs.Ends.{WriteEndsBy}
 use Rattle.orders.specs.ProgramFaults.{fault_of_read, fault_of_run}
-use Rattle.orders.specs.Readings.{KnownReadings, Reading, ReadsAll, ReadsUntil, StopsAt, StopsBy, well_read, with_more}
-
-with_more-nothing : (known : KnownReadings) → with_more known [] ≡ known
-with_more-nothing None = refl
-with_more-nothing (Some readings) = ap Some (append-nil readings)
+use Rattle.orders.specs.Readings.{AddsReadings, KnownReadings, Reading, ReadsAll, ReadsUntil, StopsAt, StopsBy, well_read, with_more}
 
 with_more-twice : (known : KnownReadings) (first second : List Reading) → with_more (with_more known first) second ≡ with_more known (first ++ second)
 with_more-twice None first second = refl
 with_more-twice (Some readings) first second = ap Some (append_assoc readings first second)
 
+AddsReadings-more : (old mid new : KnownReadings) (first second : List Reading) → AddsReadings old mid first → AddsReadings mid new second →
+    AddsReadings old new (first ++ second)
+AddsReadings-more old mid None first second one other = tt
+AddsReadings-more old None (Some now) first second one other = cc
+AddsReadings-more old (Some earlier) (Some now) first second one other =
+    sym (with_more-twice old first second) ∙ ap (λ known. with_more known second) one ∙ other
+
 pub ReadsAll-none : (known : KnownReadings) → ReadsAll [] known known
-ReadsAll-none known = sym (with_more-nothing known)
+ReadsAll-none None = tt
+ReadsAll-none (Some readings) = ap Some (append-nil readings)
 
 pub ReadsAll-append : (first second : List (List ℕ)) (old mid new : KnownReadings) → ReadsAll first old mid → ReadsAll second mid new →
     ReadsAll (first ++ second) old new
 ReadsAll-append first second old mid new one other =
-    other ∙ ap (λ known. with_more known (map well_read second)) one
-    ∙ with_more-twice old (map well_read first) (map well_read second) ∙ ap (with_more old) (sym (map-append well_read first second))
+    subst (AddsReadings old new) (sym (map-append well_read first second))
+    (AddsReadings-more old mid new (map well_read first) (map well_read second) one other)
 
 -- one of the first files could not be read
 StopsAt-longer : (first second : List (List ℕ)) (old new : KnownReadings) (name : List ℕ) (fault : ReadFault) → StopsAt first old new name fault →
@@ -43,10 +47,9 @@ StopsAt-after first second old mid new name fault one (before, (behind, are, end
       (
         behind,
         ap (λ files. first ++ files) are ∙ sym (append_assoc first before (name ∷ behind)),
-        ends ∙ ap (λ known. with_more known (map well_read before ++ last)) one
-            ∙ with_more-twice old (map well_read first) (map well_read before ++ last)
-            ∙ ap (with_more old) (sym (append_assoc (map well_read first) (map well_read before) last)
-            ∙ ap (λ readings. readings ++ last) (sym (map-append well_read first before))),
+        subst (AddsReadings old new)
+        (sym (append_assoc (map well_read first) (map well_read before) last) ∙ ap (λ readings. readings ++ last) (sym (map-append well_read first before)))
+        (AddsReadings-more old mid new (map well_read first) (map well_read before ++ last) one ends),
       ),
     )
 

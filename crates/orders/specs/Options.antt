@@ -1,7 +1,7 @@
 -- The runs that options ask for.
 use Rattle.std.specs.Prelude.{◌≡◌, ℕ, ◌+◌, List, [], take, unwrap_or, Option, None, Some, IfSome}
 use denote.Ref.{Bor}
-use Rattle.bench_text.specs.Text.{longest_text}
+use Rattle.text_lines.specs.Text.{longest_text}
 use Rattle.orders.specs.declared.order.PickOptions.{PickOptions}
 use Rattle.orders.specs.declared.order.PickOptions.TheVariants.{Nothing, File, Seeded}
 use Rattle.orders.specs.declared.order.SourceOptions.{SourceOptions}

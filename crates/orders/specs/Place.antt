@@ -14,7 +14,7 @@ use Rattle.orders.specs.declared.place.TextNames.{TextNames}
 use Rattle.orders.specs.declared.program_fault.ProgramFault.{ProgramFault}
 use Rattle.orders.specs.declared.program_fault.ProgramFault.TheVariants.{Read, Deck, Run, Output, Memory, Flush}
 use Rattle.orders.specs.Options.{schedule_file}
-use Rattle.orders.specs.ProgramFaults.{line_of, name_of, side_of}
+use Rattle.orders.specs.ProgramFaults.{line_of, name_of}
 
 -- what the texts of a run are called
 pub record Names : Type 0 where
@@ -80,7 +80,3 @@ place_of names Flush = codes "stdout"
 -- the line `WHERE:LINE: NAME`
 abbrev pub fault_line : Names → ProgramFault → List ℕ
 fault_line names fault = line (place_of names fault ++ codes ":" ++ decimal (line_of fault) ++ codes ": " ++ name_of fault)
-
--- the line of a fault by which an order ended
-abbrev pub line_in_order : Order → ProgramFault → List ℕ
-line_in_order asked fault = fault_line (names_of asked (side_of fault)) fault

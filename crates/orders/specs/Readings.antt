@@ -1,5 +1,5 @@
 -- Which texts were asked for, in order, and how each was read.
-use Rattle.std.specs.Prelude.{◌≡◌, ◌⊎◌, ℕ, List, [], ◌∷◌, ◌++◌, map, option_map, Option, None, Some, Result, Ok, Err}
+use Rattle.std.specs.Prelude.{◌≡◌, ◌⊎◌, ℕ, List, [], ◌∷◌, ◌++◌, map, option_map, Option, None, Some, IfSome, Result, Ok, Err}
 use denote.Ref.{Bor}
 use Rattle.orders.specs.declared.input.ReadFault.{ReadFault}
 use Rattle.orders.specs.declared.input.ReadFault.TheVariants as read
@@ -27,6 +27,10 @@ KnownReadings = Option (List Reading)
 abbrev pub with_more : KnownReadings → List Reading → KnownReadings
 with_more known more = option_map (λ readings. readings ++ more) known
 
+-- these texts were read behind the earlier ones, as far as is still known
+abbrev pub AddsReadings : KnownReadings → KnownReadings → List Reading → Type 0
+AddsReadings old new more = IfSome new (λ readings. with_more old more ≡ Some readings)
+
 -- a text that was read to its end
 abbrev pub well_read : List ℕ → Reading
 well_read name = record { name = name; fault = None }
@@ -52,13 +56,13 @@ files_of (Check options horizon) = files_of_options options
 
 -- all of them, each to its end
 abbrev pub ReadsAll : List (List ℕ) → KnownReadings → KnownReadings → Type 0
-ReadsAll files old new = new ≡ with_more old (map well_read files)
+ReadsAll files old new = AddsReadings old new (map well_read files)
 
 -- those before this one, which could not be read
 abbrev pub StopsAt : List (List ℕ) → KnownReadings → KnownReadings → List ℕ → ReadFault → Type 0
 StopsAt files old new name fault =
     (before : List (List ℕ)) × ((behind : List (List ℕ)) × (files ≡ before ++ name ∷ behind)
-    × (new ≡ with_more old (map well_read before ++ record { name = name; fault = Some fault } ∷ [])))
+    × AddsReadings old new (map well_read before ++ record { name = name; fault = Some fault } ∷ []))
 
 -- one of them could not be read: this is the fault, by its name
 abbrev pub StopsBy : List (List ℕ) → KnownReadings → KnownReadings → ProgramFault → Type 0

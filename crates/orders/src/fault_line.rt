@@ -1,5 +1,5 @@
 //! What the program says and answers where it ended early.
-ghost use Rattle.std.specs.Prelude.{◌++◌, OnErr, OnOk, codes};
+ghost use Rattle.std.specs.Prelude.{◌≢◌, ◌++◌, IfErr, OnErr, OnOk, codes};
 ghost use Rattle.std.specs.Io.KnownBytes.{Appends};
 ghost use Rattle.vcd_dump.specs.Bytes.{AppendsPrefix};
 ghost use Rattle.vcd_dump.specs.Dump.{line};
@@ -27,6 +27,7 @@ pub fn write_fault_line<E: Write>(
         (fault_line (called names.entry) fault.entry)) }
     ensures err { OnErr result (AppendsPrefix (E.contents err.old) (E.contents err.new)
         (fault_line (called names.entry) fault.entry)) }
+    ensures no_memory { IfErr result (λ fault. fault ≢ DumpFault.Memory) }
 {
     let mut buffer = Buffer::new();
     let number = buffer.format(fault.line());
@@ -44,6 +45,7 @@ fn write_line_of<'a, E: Write>(
         (line (place.now ++ codes ":" ++ number.now ++ codes ": " ++ name.now))) }
     ensures err { OnErr result (AppendsPrefix (E.contents err.old) (E.contents err.new)
         (line (place.now ++ codes ":" ++ number.now ++ codes ": " ++ name.now))) }
+    ensures no_memory { IfErr result (λ fault. fault ≢ DumpFault.Memory) }
 {
     write_pieces(err, &[place, ":", number, ": ", name, "\n"])
 }

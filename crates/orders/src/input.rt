@@ -1,11 +1,11 @@
 //! Texts from any reader.
 ghost use Rattle.std.specs.Prelude.{◌≡◌, ◌+◌, ◌<◌, ◌≤◌, IfOk, IfSome, OnErr, length, take};
 ghost use Rattle.std.specs.Io.KnownBytes.{Consumes};
-ghost use Rattle.bench_text.specs.Text.{longest_text};
+ghost use Rattle.text_lines.specs.Text.{longest_text};
 ghost use Rattle.orders.specs.Reading.{ConsumesSome, ReadsMore};
 ghost use Rattle.orders.specs.declared.input.ReadFault.TheVariants.{Memory};
 
-use bench_text::text::LONGEST_TEXT;
+use text_lines::LONGEST_TEXT;
 use std::alloc::{AllocError, Global};
 use std::io::Read;
 use thiserror::Error;

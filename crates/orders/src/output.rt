@@ -1,8 +1,7 @@
 //! Texts that go out whole.
-ghost use Rattle.std.specs.Prelude.{◌≡◌, IfErr, OnErr, OnOk};
+ghost use Rattle.std.specs.Prelude.{◌≡◌, ◌≢◌, map, IfErr, OnErr, OnOk};
 ghost use Rattle.std.specs.List.{concat};
 ghost use Rattle.std.specs.Io.KnownBytes.{Appends, Keeps};
-ghost use Rattle.bench_text.specs.Seen.{seen_names};
 ghost use Rattle.vcd_dump.specs.Bytes.{AppendsPrefix};
 ghost use Rattle.orders.specs.Ends.{WriteEndsBy};
 ghost use Rattle.orders.specs.declared.program_fault.ProgramFault.TheVariants.{Flush};
@@ -28,12 +27,13 @@ pub fn write_text<W: Write>(out: &mut W, text: &[u8]) -> Result<(), ProgramFault
 /// Writes these texts, one behind the other. Takes no memory.
 ///
 /// # Errors
-/// That of the first write that failed; a first part of the texts went out then.
+/// `Write` or `WroteNothing` of the first write that failed; a first part of the texts went out then.
 pub fn write_pieces<W: Write>(out: &mut W, pieces: &[&str]) -> Result<(), DumpFault>
     ensures ok { OnOk result (Appends (W.contents out.old) (W.contents out.new)
-        (concat (seen_names pieces.now))) }
+        (concat (map (λ piece. piece.now) pieces.now))) }
     ensures err { OnErr result (AppendsPrefix (W.contents out.old) (W.contents out.new)
-        (concat (seen_names pieces.now))) }
+        (concat (map (λ piece. piece.now) pieces.now))) }
+    ensures no_memory { IfErr result (λ fault. fault ≢ DumpFault.Memory) }
 {
     for piece in pieces {
         write_all_bytes(out, piece.as_bytes())?;

@@ -1,7 +1,7 @@
 //! Texts by name.
 ghost use Rattle.std.specs.Prelude.{◌≡◌, ◌+◌, ◌≤◌, ℕ, List, [], ◌∷◌, Option, None, IfOk, IfSome, length, take};
-ghost use Rattle.bench_text.specs.Text.{longest_text};
-ghost use Rattle.orders.specs.Readings.{KnownReadings, reading_of, with_more};
+ghost use Rattle.text_lines.specs.Text.{longest_text};
+ghost use Rattle.orders.specs.Readings.{AddsReadings, KnownReadings, reading_of};
 
 use crate::input::ReadFault;
 
@@ -10,7 +10,8 @@ pub trait Texts {
     // The text under each name, where it is known.
     ghost known: { Self → List ℕ → Option (List ℕ) } = { λ _ _. None };
 
-    // Which texts were asked for so far, and how each was read, where that is known.
+    // Which texts were asked for so far, and how each was read, where that is known; it may be
+    // forgotten, for example where noting it wants memory.
     ghost readings: { Self → KnownReadings } = { λ _. None };
 
     /// All bytes of the text of this name, or the first 16,777,217 where there are more.
@@ -23,6 +24,6 @@ pub trait Texts {
             (λ all. text.items ≡ take (longest_text + 1) all)) }
         ensures bound { IfOk result (λ text. length text.items ≤ longest_text + 1) }
         ensures stays { known self.new ≡ known self.old }
-        ensures reading { readings self.new
-            ≡ with_more (readings self.old) (reading_of name.now result ∷ []) };
+        ensures reading { AddsReadings (readings self.old) (readings self.new)
+            (reading_of name.now result ∷ []) };
 }

@@ -2,8 +2,9 @@
 use Rattle.std.proofs.Common.{◌≡◌, ℕ, List, Result, Ok, Err, refl, ap}
 use Rattle.bench_text.specs.declared.fault.BenchFault.{BenchFault}
 use Rattle.bench_text.specs.declared.fault.BenchFault.TheVariants as bench
-use Rattle.bench_text.specs.Netlist.{NetlistView, netlist_of}
-use Rattle.bench_text.specs.Text.{◌>>=◌}
+use Rattle.netlist.specs.Netlist.{NetlistView}
+use Rattle.bench_text.specs.NetlistOf.{netlist_of}
+use Rattle.text_lines.specs.Text.{◌>>=◌}
 use Rattle.design.specs.declared.fault.OptionFault.{OptionFault}
 use Rattle.design.specs.declared.fault.DelayFault.TheVariants as delay
 use Rattle.design.specs.declared.fault.StimulusFault.TheVariants as stimulus

@@ -4,8 +4,9 @@ use Rattle.std.proofs.lemmas.Bool.{false≢true}
 use Rattle.bench_text.specs.declared.fault.BenchFault.{BenchFault}
 use Rattle.bench_text.specs.declared.fault.BenchFault.TheVariants as bench
 use Rattle.bench_text.specs.Canonical.{canonical, within_limit}
-use Rattle.bench_text.specs.Netlist.{NetlistView, netlist_of}
-use Rattle.bench_text.specs.Seen.{seen_names}
+use Rattle.netlist.specs.Netlist.{NetlistView}
+use Rattle.bench_text.specs.NetlistOf.{netlist_of}
+use Rattle.netlist.specs.Names.{seen_names}
 use Rattle.fanin_cone.specs.declared.fault.ConeFault.{ConeFault}
 use Rattle.fanin_cone.specs.declared.fault.ConeFault.TheVariants as cone
 use Rattle.fanin_cone.specs.Extract.{IsExtract, first_unknown}

@@ -1,7 +1,7 @@
 -- Two runs that agree on a net's fan-in cone show the same for it.
 use Rattle.std.proofs.Common.{◌≡◌, ℕ, ◌≤◌, List, [], ◌∷◌, Some, refl, sym, ap, subst, ◌∙◌, arith}
 use Rattle.logic3.specs.declared.value.Value.{Value}
-use Rattle.bench_text.specs.Netlist.{net_named}
+use Rattle.netlist.specs.Netlist.{net_named}
 use Rattle.design.specs.Design.{DesignView, IsDesign}
 use Rattle.design.specs.Equations.{value_of}
 use Rattle.design.proofs.CallerLemmas.{net_at-named}

@@ -9,7 +9,7 @@ use Rattle.logic3.specs.declared.value.Value.TheVariants.{Unknown}
 use Rattle.logic3.specs.declared.change.Change.{Change}
 use Rattle.logic3.specs.Wave.{Wave, wave_of}
 use Rattle.logic3.proofs.CallerLemmas.{Contains-wave_of_iff}
-use Rattle.bench_text.specs.Netlist.{NetlistView, IsNetlist}
+use Rattle.netlist.specs.Netlist.{NetlistView, IsNetlist}
 use Rattle.design.specs.Circuit.{Net, Circuit}
 use Rattle.design.specs.Design.{DesignView, IsDesign, untimed}
 use Rattle.design.specs.Equations.{value_of, waves_of}

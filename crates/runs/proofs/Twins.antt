@@ -3,7 +3,7 @@ use Rattle.std.proofs.Common.{◌≡◌, ℕ, ◌+◌, ◌<◌, ◌↔◌, Bool,
 use Rattle.std.specs.Option.{ok_or, unwrap_or}
 use Rattle.logic3.specs.Wave.{wave_of}
 use Rattle.logic3.proofs.CallerLemmas.{wave_of_iff}
-use Rattle.bench_text.specs.Netlist.{net_named}
+use Rattle.netlist.specs.Netlist.{net_named}
 use Rattle.design.specs.Design.{DesignView}
 use Rattle.design.specs.Equations.{value_of}
 use Rattle.design.proofs.CallerLemmas.{net_at-named}

@@ -13,10 +13,11 @@ use Rattle.std.proofs.lemmas.Map.Views.{Contains-from_any}
 use Rattle.std.proofs.lemmas.Option.{slice_get-get_or, slice_get-map}
 use Rattle.logic3.specs.declared.value.Value.{Value}
 use Rattle.bench_text.specs.declared.fault.BenchFault.{BenchFault}
-use Rattle.bench_text.specs.declared.part.Part.TheVariants.{Input}
-use Rattle.bench_text.specs.Name.{IsName}
-use Rattle.bench_text.specs.Netlist.{NetView, NetlistView, netlist_of}
-use Rattle.bench_text.specs.Text.{◌>>=◌}
+use Rattle.netlist.specs.declared.part.Part.TheVariants.{Input}
+use Rattle.netlist.specs.Name.{IsName}
+use Rattle.netlist.specs.Netlist.{NetView, NetlistView}
+use Rattle.bench_text.specs.NetlistOf.{netlist_of}
+use Rattle.text_lines.specs.Text.{◌>>=◌}
 use Rattle.bench_text.proofs.CallerLemmas.{IsNetlist-netlist_of}
 use Rattle.design.specs.declared.fault.BuildFault.{BuildFault}
 use Rattle.design.specs.declared.fault.OptionFault.{OptionFault}

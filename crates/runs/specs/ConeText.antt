@@ -3,7 +3,8 @@ use Rattle.std.specs.Prelude.{◌≡◌, ℕ, List, [], Option, Some, None, Resu
 use Rattle.bench_text.specs.declared.fault.BenchFault.{BenchFault}
 use Rattle.bench_text.specs.declared.fault.BenchFault.TheVariants.{NoNets}
 use Rattle.bench_text.specs.Canonical.{canonical, within_limit}
-use Rattle.bench_text.specs.Netlist.{NetlistView, netlist_of}
+use Rattle.netlist.specs.Netlist.{NetlistView}
+use Rattle.bench_text.specs.NetlistOf.{netlist_of}
 use Rattle.fanin_cone.specs.Extract.{IsExtract, first_unknown}
 use Rattle.runs.specs.declared.fault.SimFault.{SimFault}
 use Rattle.runs.specs.declared.fault.SimFault.TheVariants.{Bench, UnknownNet}

@@ -1,7 +1,7 @@
 -- What runs show for one net, whatever else they hold.
 use Rattle.std.specs.Prelude.{◌≡◌, ℕ, ◌+◌, ◌≤◌, List, [], ◌∷◌, Contains, Some, Ok, IsOkAnd}
 use Rattle.logic3.specs.declared.value.Value.{Value}
-use Rattle.bench_text.specs.Netlist.{net_named}
+use Rattle.netlist.specs.Netlist.{net_named}
 use Rattle.cmb_kernel.specs.State.{most_rounds}
 use Rattle.fanin_cone.specs.Agreement.{AgreesOn}
 use Rattle.fanin_cone.specs.Cone.{InCone}

@@ -1,7 +1,7 @@
 -- A run by the kernel: what it is made of, what it reports, and its answer.
 use Rattle.std.specs.Prelude.{◌≡◌, ℕ, ◌+◌, ◌<◌, List, length, Result, Ok}
 use Rattle.std.specs.Result.{result_map_both}
-use Rattle.bench_text.specs.Text.{◌>>=◌}
+use Rattle.text_lines.specs.Text.{◌>>=◌}
 use Rattle.design.specs.Circuit.{Circuit}
 use Rattle.design.specs.Design.{DesignView}
 use Rattle.cmb_kernel.specs.declared.event.Event.{Event}

@@ -3,8 +3,9 @@ use Rattle.std.specs.Prelude.{ℕ, List, map, length, Result, Ok}
 use Rattle.std.specs.List.{range_with_len}
 use Rattle.std.specs.Result.{result_map_both}
 use Rattle.logic3.specs.declared.value.Value.{Value}
-use Rattle.bench_text.specs.Text.{◌>>=◌}
-use Rattle.bench_text.specs.Netlist.{NetlistView, netlist_of}
+use Rattle.text_lines.specs.Text.{◌>>=◌}
+use Rattle.netlist.specs.Netlist.{NetlistView}
+use Rattle.bench_text.specs.NetlistOf.{netlist_of}
 use Rattle.design.specs.Options.{options_of, horizon_of}
 use Rattle.design.specs.Circuit.{Circuit}
 use Rattle.design.specs.Design.{DesignView}

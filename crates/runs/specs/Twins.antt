@@ -2,8 +2,8 @@
 use Rattle.std.specs.Prelude.{◌≡◌, ℕ, ◌+◌, ◌↔◌, IsTrue, List, [], ◌∷◌, Result, Ok, Err}
 use Rattle.std.specs.Option.{ok_or}
 use Rattle.logic3.specs.Wave.{wave_of}
-use Rattle.bench_text.specs.Text.{◌>>=◌}
-use Rattle.bench_text.specs.Netlist.{net_named}
+use Rattle.text_lines.specs.Text.{◌>>=◌}
+use Rattle.netlist.specs.Netlist.{net_named}
 use Rattle.design.specs.Design.{DesignView}
 use Rattle.design.specs.Equations.{value_of}
 use Rattle.fanin_cone.specs.Agreement.{AgreesOn}

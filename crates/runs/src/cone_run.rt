@@ -1,7 +1,7 @@
 //! The nets in fan-in cones, as a text of their own.
 ghost use Rattle.std.specs.Prelude.{◌≡◌, ◌≢◌};
 ghost use Rattle.std.specs.Result.{result_map_both};
-ghost use Rattle.bench_text.specs.Seen.{seen_names};
+ghost use Rattle.netlist.specs.Names.{seen_names};
 ghost use Rattle.runs.specs.ConeText.{IsConeAnswer};
 
 use crate::fault::SimFault;

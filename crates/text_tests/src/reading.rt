@@ -1,6 +1,7 @@
 //! Reading and writing .bench texts.
 use crate::texts::longest;
-use bench_text::{BenchFault, Netlist, Part, read, write};
+use bench_text::{BenchFault, read, write};
+use netlist::{Netlist, Part};
 use logic3::GateKind;
 use std::alloc::{AllocError, Global};
 use std::process::Abort;

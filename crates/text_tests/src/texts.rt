@@ -1,5 +1,5 @@
 //! Lines, words and numbers of texts.
-use bench_text::text::{code_lines, is_plain, number, words_of};
+use text_lines::{code_lines, is_plain, number, words_of};
 use std::alloc::{AllocError, Global};
 
 /// The most bytes that a text may have. The proofs of the tests don't look at the number.

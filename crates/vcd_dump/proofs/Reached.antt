@@ -13,7 +13,7 @@ use Rattle.logic3.specs.declared.change.Change.{Change}
 use Rattle.logic3.specs.Value.{is_same}
 use Rattle.logic3.specs.Wave.{Wave, value_at, IsWave}
 use Rattle.logic3.proofs.CallerLemmas.{is_same-true}
-use Rattle.bench_text.specs.Text.{is_empty}
+use Rattle.text_lines.specs.Text.{is_empty}
 use Rattle.vcd_dump.specs.declared.pending.Pending.{Pending}
 use Rattle.vcd_dump.specs.Bytes.{AppendsPrefix}
 use Rattle.vcd_dump.specs.Codes.{code_at}

@@ -2,7 +2,7 @@
 use Rattle.std.proofs.Common.{◌≡◌, ℕ, ◌+◌, ◌<◌, ◌≤◌, ◌==◌, ◌&&◌, not, nat_lt, true, false, cond, List, [], ◌++◌, refl, ap, sym, ◌∙◌, arith, append_assoc, append-nil, ◌⊎◌, inl, inr}
 use Rattle.std.proofs.lemmas.Bool.{cases_lt, le-ltb}
 use Rattle.std.proofs.lemmas.Bool.Decides.{nat_tests}
-use Rattle.bench_text.specs.Text.{is_empty}
+use Rattle.text_lines.specs.Text.{is_empty}
 use Rattle.vcd_dump.specs.Pending.{IsFrom}
 use Rattle.vcd_dump.proofs.Between.{between, between-none, between-first, between-quiet}
 

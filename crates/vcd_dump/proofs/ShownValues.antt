@@ -7,7 +7,7 @@ use Rattle.std.proofs.Math.Seq.{get_or-append_seam}
 use Rattle.std.proofs.lemmas.Bool.Decides.{nat_tests}
 use Rattle.std.proofs.lemmas.List.Elements.{recursion_from_All}
 use Rattle.logic3.specs.declared.value.Value.{Value}
-use Rattle.bench_text.specs.Name.{IsName, is_name_byte}
+use Rattle.netlist.specs.Name.{IsName, is_name_byte}
 use Rattle.vcd_dump.specs.declared.unit.TimeUnit.{TimeUnit}
 use Rattle.vcd_dump.specs.Codes.{code_at}
 use Rattle.vcd_dump.specs.Dump.{Trace, Variable, variable_at, dump_of, dump_text}

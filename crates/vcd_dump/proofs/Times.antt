@@ -8,7 +8,7 @@ use Rattle.std.specs.Str.Parse.{AllDigits, digits_value}
 use Rattle.std.proofs.lemmas.Bool.Decides.{nat_tests}
 use Rattle.std.proofs.lemmas.Str.Parse.{digit_from_value}
 use Rattle.std.proofs.lemmas.Fmt.{decimal_is_IsNumeral}
-use Rattle.bench_text.specs.Text.{number_of}
+use Rattle.text_lines.specs.Text.{number_of}
 use Rattle.vcd_dump.specs.Shown.{is_time, is_time_above, time_of}
 use Rattle.vcd_dump.proofs.Tokens.{IsToken, IsToken-from_bytes, IsWordByte}
 

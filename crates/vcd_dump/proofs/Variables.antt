@@ -7,7 +7,7 @@ use Rattle.logic3.specs.declared.value.Value.TheVariants.{Unknown}
 use Rattle.logic3.specs.Value.{is_same}
 use Rattle.logic3.specs.Wave.{Wave, value_at}
 use Rattle.design.specs.Circuit.{Net, Circuit}
-use Rattle.bench_text.specs.Text.{is_empty}
+use Rattle.text_lines.specs.Text.{is_empty}
 use Rattle.vcd_dump.specs.declared.unit.TimeUnit.{TimeUnit}
 use Rattle.vcd_dump.specs.Codes.{code_at}
 use Rattle.vcd_dump.specs.Dump.{Variable, variable_at, variables_of, line, heading, declaration, declaration_text, declarations, change_text, change_line, time_line, first_values, changes_at, lines_at, dump_text}

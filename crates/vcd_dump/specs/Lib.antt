@@ -1,5 +1,5 @@
-pub use Rattle.bench_text.specs.Name
-pub use Rattle.bench_text.specs.Text
+pub use Rattle.netlist.specs.Name
+pub use Rattle.text_lines.specs.Text
 pub use Rattle.logic3.specs.Wave
 pub use Rattle.design.specs.Circuit
 pub mod Bytes

@@ -1,6 +1,6 @@
 //! Facts about the definitions alone.
 ghost use Rattle.std.specs.Prelude.{◌≡◌, ◌≢◌, ℕ, ◌<◌, ◌≤◌, ◌^◌, List, ◌∷◌, ◌++◌, length, flat_map, All, Contains};
-ghost use Rattle.bench_text.specs.Text.{lines_of, words_of};
+ghost use Rattle.text_lines.specs.Text.{lines_of, words_of};
 ghost use Rattle.vcd_dump.specs.declared.unit.TimeUnit.{TimeUnit};
 ghost use Rattle.vcd_dump.specs.Codes.{code_at};
 ghost use Rattle.vcd_dump.specs.Dump.{dump_keywords, Trace, dump_text};

@@ -1,5 +1,5 @@
 ghost use Rattle.std.specs.Prelude.{◌≡◌, ◌≢◌, IfOk};
-ghost use Rattle.bench_text.specs.Netlist.{IsNetlist};
+ghost use Rattle.netlist.specs.Netlist.{IsNetlist};
 ghost use Rattle.design.specs.Build.{design_of};
 ghost use Rattle.design.specs.Joined.{first_pins_of};
 
@@ -7,7 +7,7 @@ use crate::design::Design;
 use crate::fault::BuildFault;
 use crate::settings::options;
 use crate::{delays, stimuli};
-use bench_text::Netlist;
+use netlist::Netlist;
 use std::alloc::{AllocError, Global};
 
 impl Design {

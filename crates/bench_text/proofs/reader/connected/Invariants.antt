@@ -1,7 +1,8 @@
 use Rattle.std.proofs.Common.{◌≡◌, map, drop}
 use Rattle.std.specs.List.{flat_map}
-use Rattle.bench_text.specs.Netlist.{undefined_fault, unless, uses_in}
-use Rattle.bench_text.specs.Stages.{seen_lines, seen_net, wiring}
+use Rattle.bench_text.specs.NetlistOf.{undefined_fault, unless, uses_in}
+use Rattle.netlist.specs.Joined.{seen_net}
+use Rattle.bench_text.specs.Stages.{seen_lines, wiring}
 use Rattle.bench_text.proofs.Wired.{wired_from}
 use Rattle.bench_text.proofs.reader.connected.Given as goal
 

@@ -2,7 +2,7 @@ use Rattle.std.proofs.Common.{sym, ◌∙◌, ap, length, arith}
 use Rattle.std.specs.List.{filter_map}
 use Rattle.std.specs.Option.{is_some}
 use Rattle.std.proofs.lemmas.List.{length_push}
-use Rattle.bench_text.specs.Netlist.{definition_in}
+use Rattle.bench_text.specs.NetlistOf.{definition_in}
 use Rattle.bench_text.specs.Stages.{seen_lines}
 use Rattle.bench_text.proofs.Named.{named_from-all, named_from-fault, named_from-name, named_from-output}
 use Rattle.bench_text.proofs.reader.defined_names.Goals as goal

@@ -1,6 +1,6 @@
 use Rattle.std.proofs.Common.{◌≡◌, ◌≤◌, length, drop}
 use Rattle.std.specs.List.{filter_map}
-use Rattle.bench_text.specs.Netlist.{definition_in, repeated_fault, unless, defined_names}
+use Rattle.bench_text.specs.NetlistOf.{definition_in, repeated_fault, unless, defined_names}
 use Rattle.bench_text.specs.Stages.{seen_lines}
 use Rattle.bench_text.proofs.Named.{named_from}
 use Rattle.bench_text.proofs.reader.defined_names.Given as goal

@@ -1,6 +1,6 @@
 use Rattle.std.proofs.Common.{◌≡◌, ◌-◌, ◌^◌, min, length, take}
 use Rattle.std.specs.List.{sum_by}
-use Rattle.bench_text.specs.declared.netlist.Net.{Net}
+use Rattle.netlist.specs.declared.netlist.Net.{Net}
 use Rattle.bench_text.proofs.reader.is_over_limit.Given as goal
 
 abbrev pub invariant-loop-net : goal.invariant-loop-net

@@ -1,8 +1,8 @@
 use Rattle.std.proofs.Common.{◌≡◌, ◌<◌, ◌==◌, false, Vec, Global, vec_len, sym, ◌∙◌, ap, length, arith}
 use Rattle.std.specs.List.{sum_by}
 use Rattle.std.proofs.lemmas.Bool.Decides.{nat_tests}
-use Rattle.bench_text.specs.declared.netlist.Net.{Net}
-use Rattle.bench_text.specs.Netlist.{is_over_limit}
+use Rattle.netlist.specs.declared.netlist.Net.{Net}
+use Rattle.bench_text.specs.NetlistOf.{is_over_limit}
 use Rattle.bench_text.specs.Stages.{seen_lines}
 use Rattle.bench_text.proofs.Whole.{netlist-too_many, length-names, outputs-within, netlist-whole, IsNetlist-whole}
 use Rattle.bench_text.proofs.reader.netlist.Goals as goal

@@ -1,5 +1,5 @@
 use Rattle.std.proofs.Common.{◌≡◌, [], drop}
-use Rattle.bench_text.specs.Seen.{seen_names}
+use Rattle.netlist.specs.Names.{seen_names}
 use Rattle.bench_text.proofs.Wired.{numbers_from}
 use Rattle.bench_text.proofs.reader.numbers_of.Given as goal
 

@@ -1,5 +1,5 @@
 use Rattle.std.proofs.Common.{sym, ◌∷◌}
-use Rattle.bench_text.specs.Seen.{seen_names}
+use Rattle.netlist.specs.Names.{seen_names}
 use Rattle.bench_text.proofs.SeenNames.{with_names-ok}
 use Rattle.bench_text.proofs.statement.assignment.Goals as goal
 

@@ -1,6 +1,6 @@
 use Rattle.std.proofs.Common.{◌≡◌, ◌++◌, length, option_map}
 use Rattle.bench_text.specs.Line.{more_names}
-use Rattle.bench_text.specs.Seen.{seen_names}
+use Rattle.netlist.specs.Names.{seen_names}
 use Rattle.bench_text.proofs.statement.more_names.Given as goal
 
 abbrev pub invariant-loop-names : goal.invariant-loop-names

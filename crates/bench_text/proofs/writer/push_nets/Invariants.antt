@@ -1,6 +1,6 @@
 use Rattle.std.proofs.Common.{◌≡◌, List, ◌≤◌, ◌++◌, length, map, drop}
-use Rattle.bench_text.specs.Text.{longest_text}
-use Rattle.bench_text.specs.Netlist.{NetView}
+use Rattle.text_lines.specs.Text.{longest_text}
+use Rattle.netlist.specs.Netlist.{NetView}
 use Rattle.bench_text.specs.Canonical.{canonical_lines, net_statement}
 use Rattle.bench_text.proofs.writer.push_nets.Given as goal
 

@@ -1,6 +1,6 @@
 use Rattle.std.proofs.Common.{◌≡◌, ℕ, List, ◌++◌, map, drop, codes}
 use Rattle.std.specs.List.{flat_map}
-use Rattle.bench_text.specs.Canonical.{name_at}
+use Rattle.netlist.specs.Netlist.{name_at}
 use Rattle.bench_text.proofs.writer.push_pins.Given as goal
 
 -- the names so far and those left are all

@@ -1,4 +1,4 @@
-use Rattle.bench_text.specs.Text.{code_lines}
+use Rattle.text_lines.specs.Text.{code_lines}
 use Rattle.design.proofs.GivenDelays.{Given}
 use Rattle.design.proofs.delays.delays_given.Given as goal
 

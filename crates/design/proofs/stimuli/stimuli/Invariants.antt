@@ -1,5 +1,5 @@
 use Rattle.std.proofs.Common.{map}
-use Rattle.bench_text.specs.Text.{code_lines}
+use Rattle.text_lines.specs.Text.{code_lines}
 use Rattle.design.proofs.GivenStimuli.{Given}
 use Rattle.design.proofs.stimuli.stimuli.Given as goal
 

@@ -1,5 +1,5 @@
 use Rattle.std.proofs.Common.{take, All}
-use Rattle.bench_text.specs.Canonical.{name_at}
+use Rattle.netlist.specs.Netlist.{name_at}
 use Rattle.fanin_cone.specs.Agreement.{AgreesAt}
 use Rattle.fanin_cone.proofs.agreement.agree.Given as goal
 

@@ -1,6 +1,6 @@
 use Rattle.std.proofs.Common.{map, subst}
 use Rattle.std.proofs.lemmas.Result.{IfOk-weaker}
-use Rattle.bench_text.specs.Canonical.{name_at}
+use Rattle.netlist.specs.Netlist.{name_at}
 use Rattle.fanin_cone.specs.Cone.{IsConeOf}
 use Rattle.fanin_cone.specs.Walk.{NumbersMarked}
 use Rattle.fanin_cone.proofs.Walking.{IsConeOf-marked}

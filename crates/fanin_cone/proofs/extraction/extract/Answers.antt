@@ -1,10 +1,10 @@
 use Rattle.std.proofs.Common.{◌≡◌, ℕ, ◌<◌, length, sym, ap, ◌∙◌, subst, All, AllPairs, Contains, ◌≢◌}
 use Rattle.std.proofs.lemmas.List.{length-map}
 use Rattle.std.proofs.lemmas.Option.{none-some}
-use Rattle.bench_text.specs.Netlist.{distinct}
-use Rattle.bench_text.specs.Pick.{picked}
-use Rattle.bench_text.specs.Seen.{seen_names}
-use Rattle.bench_text.proofs.CallerLemmas.{All-distinct, AllPairs-distinct}
+use Rattle.netlist.specs.Repeats.{distinct}
+use Rattle.netlist.specs.Pick.{picked}
+use Rattle.netlist.specs.Names.{seen_names}
+use Rattle.netlist.proofs.CallerLemmas.{All-distinct, AllPairs-distinct}
 use Rattle.fanin_cone.specs.Cone.{IsConeOf}
 use Rattle.fanin_cone.proofs.KnownNames.{numbers_below, first_unknown-known, filter_map-known}
 use Rattle.fanin_cone.proofs.Extracting.{IsConeOf-names, numbers_kept, some_kept, kept_below, pins_kept}

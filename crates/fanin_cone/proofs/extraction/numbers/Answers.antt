@@ -1,7 +1,7 @@
 use Rattle.std.proofs.Common.{◌≡◌, ◌<◌, [], length, Some, sym, ap, ◌∙◌, subst}
 use Rattle.std.proofs.lemmas.List.{get_or-map, length-map}
-use Rattle.bench_text.specs.Netlist.{net_named}
-use Rattle.bench_text.specs.Seen.{seen_names}
+use Rattle.netlist.specs.Netlist.{net_named}
+use Rattle.netlist.specs.Names.{seen_names}
 use Rattle.fanin_cone.specs.Extract.{first_unknown}
 use Rattle.fanin_cone.proofs.KnownNames.{first_unknown-at, known_more}
 use Rattle.fanin_cone.proofs.extraction.numbers.Goals as goal

@@ -1,5 +1,5 @@
 use Rattle.std.proofs.Common.{take}
-use Rattle.bench_text.specs.Seen.{seen_names}
+use Rattle.netlist.specs.Names.{seen_names}
 use Rattle.fanin_cone.proofs.KnownNames.{HaveNumbers}
 use Rattle.fanin_cone.proofs.extraction.numbers.Given as goal
 

@@ -1,4 +1,4 @@
-use Rattle.bench_text.specs.Seen.{seen_names}
+use Rattle.netlist.specs.Names.{seen_names}
 use Rattle.std.proofs.Common.{Ok, Err}
 use Rattle.std.proofs.lemmas.Result.{err_from_is_err_and}
 use Rattle.orders.specs.declared.order.Order.TheVariants.{Cone}

@@ -1,5 +1,5 @@
 use Rattle.std.proofs.Common.{arith}
-use Rattle.bench_text.specs.Seen.{seen_names}
+use Rattle.netlist.specs.Names.{seen_names}
 use Rattle.vcd_dump.proofs.CallerLemmas.{OnErr-always}
 use Rattle.orders.proofs.Pieces.{Appends-next_text, AppendsPrefix-next_text, text_at}
 use Rattle.orders.proofs.output.write_pieces.Goals as goal

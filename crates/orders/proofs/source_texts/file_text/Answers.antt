@@ -1,6 +1,6 @@
 use Rattle.std.proofs.Common.{◌≡◌, ◌+◌, ◌≤◌, ℕ, List, length, take, Option, Some, None, IfSome, Bor, sym, subst}
 use Rattle.std.proofs.lemmas.List.{take_all}
-use Rattle.bench_text.specs.Text.{longest_text}
+use Rattle.text_lines.specs.Text.{longest_text}
 use Rattle.orders.specs.Options.{IsRead, KnownTexts, text_named}
 use Rattle.orders.proofs.source_texts.file_text.Goals as goal
 

@@ -1,5 +1,5 @@
 use Rattle.std.proofs.Common.{◌≡◌, [], Ok, arith, rules}
-use Rattle.bench_text.specs.Fold.{fold_text}
+use Rattle.text_lines.specs.Fold.{fold_text}
 use Rattle.cmb_kernel.specs.Schedule.{events_after}
 use Rattle.cmb_kernel.proofs.EventCount.{few-events_of}
 use Rattle.cmb_kernel.proofs.schedule.Schedule.read.Goals as goal

@@ -1,5 +1,5 @@
 use Rattle.std.proofs.Common.{◌≡◌, [], All}
-use Rattle.bench_text.specs.Fold.{fold_lines, fold_text}
+use Rattle.text_lines.specs.Fold.{fold_lines, fold_text}
 use Rattle.cmb_kernel.specs.Schedule.{events_after}
 use Rattle.cmb_kernel.specs.Sound.{Exists}
 use Rattle.cmb_kernel.proofs.schedule.Schedule.read.Given as goal

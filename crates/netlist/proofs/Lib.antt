@@ -1,0 +1,9 @@
+mod Among
+pub mod CallerLemmas
+mod Distinct
+mod Joined
+mod NewName
+mod Picked
+mod Places
+mod Rising
+mod Sums

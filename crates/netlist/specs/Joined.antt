@@ -1,0 +1,25 @@
+-- The netlist that its stored parts make.
+use Rattle.std.specs.Prelude.{◌≡◌, ℕ, List, length, map}
+use Rattle.std.specs.List.{zip}
+use Rattle.netlist.specs.declared.netlist.Net.{Net}
+use Rattle.netlist.specs.declared.part.Part.{Part}
+use Rattle.netlist.specs.Netlist.{NetView, NetlistView, IsNetlist}
+
+abbrev pub named_net : List ℕ × Net → NetView
+named_net named = record { name = named.0; part = named.1.part; pins = named.1.pins.items }
+
+-- each net with its name, in order
+abbrev pub named_nets : List (List ℕ) → List Net → List NetView
+named_nets names nets = map named_net (zip names nets)
+
+abbrev pub netlist_view : List (List ℕ) → List Net → List ℕ → NetlistView
+netlist_view names nets outputs = record { nets = named_nets names nets; outputs = outputs }
+
+-- parts that make a netlist, with a name for each net
+pub record IsJoined (names : List (List ℕ)) (nets : List Net) (outputs : List ℕ) : Type 0 where
+  pub same_length : length names ≡ length nets
+  pub well_formed : IsNetlist (netlist_view names nets outputs)
+
+-- what drives a net, and the numbers at its pins
+abbrev pub seen_net : Net → Part × List ℕ
+seen_net net = (net.part, net.pins.items)

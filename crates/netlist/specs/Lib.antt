@@ -1,0 +1,9 @@
+pub use Rattle.logic3.specs.Gate
+pub use Rattle.logic3.specs.Rising
+pub mod Part
+pub mod Name
+pub mod Netlist
+pub mod Names
+pub mod Joined
+pub mod Pick
+pub mod Repeats

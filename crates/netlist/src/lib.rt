@@ -1,0 +1,13 @@
+//! Netlists: what drives each net and what stands at its pins, by number, under names.
+#![tactic(auto)]
+
+mod names;
+mod netlist;
+mod part;
+mod pick;
+mod repeats;
+
+pub use names::Names;
+pub use netlist::{MOST_NETS, MOST_PINS, Net, Netlist};
+pub use part::Part;
+pub use repeats::without_repeats;

@@ -1,0 +1,124 @@
+ghost use Rattle.std.specs.Prelude.{◌≡◌, ◌<◌, length, map, All, IfOk};
+ghost use Rattle.logic3.specs.Rising.{Rises};
+ghost use Rattle.netlist.specs.Netlist.{IsNetlist, net_at, net_named};
+ghost use Rattle.netlist.specs.Joined.{netlist_view};
+ghost use Rattle.netlist.specs.Netlist.{name_at};
+
+use crate::names::Names;
+use crate::part::Part;
+use smallvec::SmallVec;
+use std::alloc::{AllocError, Global};
+use std::marker::Model;
+
+/// The most nets that a netlist may have.
+pub const MOST_NETS: usize = 100_000;
+
+/// The most pins that the nets may have in all.
+pub const MOST_PINS: usize = 1_000_000;
+
+/// What drives a net, and the numbers of the nets at its pins.
+#[derive(Debug, Drop)]
+pub struct Net {
+    pub part: Part,
+    pub pins: SmallVec<u32, 4>,
+}
+
+/// Nets in the order of their definitions, numbered from 0, and the nets that are outputs.
+///
+/// There is at least one net, names are distinct, each part has as many pins as it takes, each pin
+/// and each output is a net, and no output stands twice. A method that takes the number of a net
+/// asks for one below [`nets`](Self::nets).
+#[derive(Debug, Drop)]
+pub struct Netlist {
+    names: Names,
+    nets: Vec<Net>,
+    outputs: Vec<u32>,
+}
+
+impl Model for Netlist {
+    ghost use Rattle.netlist.specs.Netlist.{NetlistView};
+
+    ghost Value = { NetlistView };
+
+    ghost use Rattle.netlist.specs.Joined.{netlist_view, IsJoined};
+
+    ghost view = { λ n. netlist_view n.names n.nets.items n.outputs.items };
+
+    ghost invariant = { λ n. IsJoined n.names n.nets.items n.outputs.items };
+}
+
+impl Netlist {
+    /// The netlist of these names, each with its net, and these outputs.
+    pub fn new(names: Names, nets: Vec<Net>, outputs: Vec<u32>) -> Netlist
+        requires same_length { length names ≡ length nets.items }
+        requires well_formed { IsNetlist (netlist_view names nets.items outputs.items) }
+        ensures { result ≡ netlist_view names nets.items outputs.items }
+    {
+        Netlist {
+            names,
+            nets,
+            outputs,
+        }
+    }
+
+    /// How many nets there are: 1 to 100,000.
+    pub fn nets(&self) -> u32
+        ensures nets { result ≡ length self.now.nets }
+        ensures well_formed { IsNetlist self.now }
+    {
+        self.nets.len() as u32
+    }
+
+    /// The name of a net.
+    pub fn name(&self, net: u32) -> &[u8]
+        requires { net < length self.now.nets }
+        ensures { result.now ≡ (net_at self.now net).name }
+    {
+        self.names.name(net)
+    }
+
+    /// What drives a net.
+    pub fn part(&self, net: u32) -> Part
+        requires { net < length self.now.nets }
+        ensures { result ≡ (net_at self.now net).part }
+    {
+        self.nets[net as usize].part
+    }
+
+    /// The numbers of the nets at a net's pins, in order.
+    pub fn pins_of(&self, net: u32) -> &[u32]
+        requires { net < length self.now.nets }
+        ensures { result.now ≡ (net_at self.now net).pins }
+    {
+        self.nets[net as usize].pins.as_slice()
+    }
+
+    /// The numbers of the outputs, in order, each once.
+    pub fn outputs(&self) -> &[u32]
+        ensures outputs { result.now ≡ self.now.outputs }
+        ensures well_formed { IsNetlist self.now }
+    {
+        self.outputs.as_slice()
+    }
+
+    /// The number of the net that has this name.
+    pub fn find(&self, name: &[u8]) -> Option<u32>
+        ensures { result ≡ net_named self.now name.now }
+    {
+        self.names.find(name)
+    }
+
+    /// The names of nets whose numbers rise, in order.
+    pub(crate) fn names_of(&self, alloc: Global, nets: &[u32]) -> Result<Names, AllocError>
+        requires rising { Rises nets.now }
+        requires nets { All (λ net. net < length self.now.nets) nets.now }
+        ensures names { IfOk result (λ names. names ≡ map (name_at self.now) nets.now) }
+        ensures well_formed { IsNetlist self.now }
+    {
+        let mut names = Names::new(alloc);
+        for net in nets {
+            names.push(self.names.name(*net))?;
+        }
+        Ok(names)
+    }
+}

@@ -1,0 +1,111 @@
+//! Which files an order reads, in their order: texts that note what is asked of them.
+ghost use Rattle.std.specs.Prelude.{[], ◌∷◌};
+ghost use Rattle.orders.specs.Readings.{AddsReadings};
+ghost use Rattle.nullsim_tests.specs.Ledger.{seen_notes};
+ghost use Rattle.nullsim_tests.specs.Shelf.{text_under};
+
+use crate::commanding::{Shelf, words_of};
+use nullsim::{ReadFault, Texts, command};
+use std::alloc::Global;
+use std::process::Abort;
+use std::test::Fail;
+
+/// A text that was asked for, and why it could not be read, if it couldn't.
+type Note = (Vec<u8>, Option<ReadFault>);
+
+/// Texts on a shelf, and what was asked of it; without notes once memory for one was refused.
+#[derive(Drop)]
+struct Ledger {
+    alloc: Global,
+    shelf: Shelf,
+    notes: Option<Vec<Note>>,
+}
+
+impl Texts for Ledger {
+    ghost known = { λ ledger. text_under ledger.shelf.texts.now };
+
+    ghost readings = { λ ledger. seen_notes ledger.notes };
+
+    fn text(&mut self, name: &str) -> Result<Vec<u8>, ReadFault> {
+        let notes = self.notes.take();
+        match self.shelf.text(name) {
+            Ok(text) => {
+                self.notes = noted(self.alloc, notes, name, None);
+                Ok(text)
+            }
+            Err(fault) => {
+                self.notes = noted(self.alloc, notes, name, Some(fault));
+                Err(fault)
+            }
+        }
+    }
+}
+
+// The notes and one more.
+fn noted(
+    alloc: Global,
+    notes: Option<Vec<Note>>,
+    name: &str,
+    fault: Option<ReadFault>,
+) -> Option<Vec<Note>>
+    ensures { AddsReadings (seen_notes notes) (seen_notes result)
+        (record { name = name.now; fault = fault } ∷ []) }
+{
+    let mut notes = notes?;
+    let name = Vec::from_slice(alloc, name.as_bytes()).ok()?;
+    notes.push((name, fault)).ok()?;
+    Some(notes)
+}
+
+// The names that a command line asks for, each with a blank behind it, and with a mark before one
+// that could not be read.
+fn names_asked(alloc: Global, line: &str) -> Result<Vec<u8>, Fail> {
+    let words = words_of(alloc, line)?;
+    let mut ledger = Ledger {
+        alloc,
+        shelf: Shelf::new(alloc),
+        notes: Some(Vec::new(alloc)),
+    };
+    let (mut out, mut err) = (Vec::new(alloc), Vec::new(alloc));
+    let _ = command(alloc, words.as_slice(), &mut ledger, &mut out, &mut err);
+    let mut names = Vec::new(alloc);
+    if let Some(notes) = &ledger.notes {
+        for (name, fault) in notes {
+            if fault.is_some() {
+                names.push(b'!')?;
+            }
+            names.extend_from_slice(name.as_slice())?;
+            names.push(b' ')?;
+        }
+    }
+    Ok(names)
+}
+
+#[test]
+fn files_in_their_order(rt: HostRuntime) -> Result<(), Fail> {
+    for (line, names) in [
+        (
+            "run --schedule ahead.sched --stimuli inv.stim --delays slow.delays --bench inv.bench --horizon 5",
+            "inv.bench slow.delays inv.stim ahead.sched ",
+        ),
+        (
+            "run --bench inv.bench --stimuli inv.stim --horizon 5",
+            "inv.bench inv.stim ",
+        ),
+        // What a file holds is looked at when all are read.
+        (
+            "plain --bench bad.bench --delays none.delays --stimuli inv.stim --horizon 5",
+            "bad.bench !none.delays ",
+        ),
+        (
+            "plain --bench bad.bench --delays bad.delays --stimuli too-big --horizon 5",
+            "bad.bench bad.delays !too-big ",
+        ),
+        ("cone --bench inv.bench y", "inv.bench "),
+        ("plain --bench inv.bench", ""),
+    ] {
+        let asked = names_asked(rt.alloc(), line)?;
+        assert!(&rt; asked.as_slice() == names.as_bytes(), "at {line}");
+    }
+    Ok(())
+}

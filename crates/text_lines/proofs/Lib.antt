@@ -1,0 +1,5 @@
+mod Cuts
+mod Digits
+mod FirstWord
+mod FoldLemmas
+pub mod CallerLemmas
