@@ -12,9 +12,8 @@ use Rattle.bench_text.specs.declared.fault.BenchFault.{BenchFault}
 use Rattle.bench_text.specs.declared.fault.BenchFault.TheVariants.{BadByte}
 use Rattle.text_lines.specs.Text.{is_empty, words_of}
 use Rattle.netlist.specs.Part.{takes_pins}
-use Rattle.bench_text.specs.Line.{Form, port, assignment, Statement, defines, names_output, tokens_of, form_of, part_of, is_dollar_name, is_long_name, with_names, definition_of, statement_of_form, statement_of}
+use Rattle.bench_text.specs.Line.{Form, port, assignment, Statement, defines, names_output, tokens_of, form_of, part_of, is_dollar_name, is_long_name, with_names, definition_of, statement_of_form, statement_of, IsStatement}
 use Rattle.netlist.specs.Name.{IsName}
-use Rattle.bench_text.specs.Line.{IsStatement}
 use Rattle.bench_text.specs.Canonical.{keyword_of, port_line, assignment_line, listed, canonical_line}
 use Rattle.bench_text.proofs.LineBytes.{IsLine, is_plain-line, IsLine-port_line, IsLine-assignment_line, IsWord-name, IsWord-keyword, IsWord-keyword_of, has_words-name}
 use Rattle.bench_text.proofs.LineTokens.{port_line-grouped, assignment_line-grouped, form_of-port_line, form_of-assignment_line}

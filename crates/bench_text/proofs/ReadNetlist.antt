@@ -11,11 +11,10 @@ use Rattle.bench_text.specs.Line.{Statement}
 use Rattle.netlist.specs.Names.{IsNames}
 use Rattle.netlist.specs.Netlist.{NetlistView, IsNetlist}
 use Rattle.bench_text.specs.NetlistOf.{Definition, definition_in, uses_in, output_in, defined_names, is_among, repeated_fault, is_over_limit, size_fault, fault_of, unless, netlist_with, netlist_of, netlist_of_statements, statements_of}
-use Rattle.netlist.proofs.CallerLemmas.{is_some-position}
+use Rattle.netlist.proofs.CallerLemmas.{is_some-position, IsNames-push}
 use Rattle.text_lines.proofs.CallerLemmas.{bind-Ok, unless_too_long-Ok}
 use Rattle.bench_text.proofs.LinesLeft.{IsStatement-statements_of}
 use Rattle.bench_text.proofs.Named.{named_from, named_from-all}
-use Rattle.netlist.proofs.CallerLemmas.{IsNames-push}
 use Rattle.bench_text.proofs.WellFormed.{IsNetlist-with, both_None}
 
 none_from_is_some : {A : Type 0} (found : Option A) → is_some found ≡ false → found ≡ None

@@ -1,22 +1,19 @@
 -- Lines without a fault make a well-formed netlist.
-use Rattle.std.proofs.Common.{◌≡◌, [], ◌≢◌, ℕ, ◌+◌, ◌<◌, ◌≤◌, not, Bool, true, false, cond, ltb, IsTrue, List, ◌∷◌, map, length, All, AllPairs, Option, Some, None, option_map, bytes_eq, refl, sym, ◌∙◌, arith}
+use Rattle.std.proofs.Common.{◌≡◌, [], ◌≢◌, ℕ, ◌<◌, ◌≤◌, not, Bool, true, false, cond, ltb, IsTrue, List, ◌∷◌, map, length, All, AllPairs, Option, Some, None, option_map, bytes_eq, refl, sym, ◌∙◌, arith}
 use Rattle.std.specs.List.{filter_map, flat_map, sum_by}
 use Rattle.std.specs.Option.{option_or}
 use Rattle.std.proofs.lemmas.Bool.Decides.{nat_tests}
 use Rattle.std.proofs.lemmas.List.{get_or-map, length-map}
 use Rattle.std.proofs.lemmas.Simd.{map-map}
 use Rattle.std.proofs.lemmas.List.Elements.{All-nil, All-cons, All-head, All-tail, All-map, All-weaker}
-use Rattle.std.proofs.lemmas.List.Folds.{fold-map}
 use Rattle.bench_text.specs.declared.fault.BenchFault.TheVariants.{Undefined}
 use Rattle.netlist.specs.Part.{takes_pins}
-use Rattle.bench_text.specs.Line.{Statement, defines, names_output}
+use Rattle.bench_text.specs.Line.{Statement, defines, names_output, IsStatement}
 use Rattle.netlist.specs.Netlist.{NetView, IsNetlist}
 use Rattle.bench_text.specs.NetlistOf.{Definition, definition_in, uses_in, output_in, defined_names, undefined_fault, place_of, netlist_with}
 use Rattle.netlist.specs.Name.{IsName}
-use Rattle.bench_text.specs.Line.{IsStatement}
 use Rattle.netlist.specs.Names.{IsNames}
-use Rattle.netlist.proofs.CallerLemmas.{list_any-place, sum_by-map}
-use Rattle.netlist.proofs.CallerLemmas.{All-distinct, AllPairs-distinct}
+use Rattle.netlist.proofs.CallerLemmas.{list_any-place, sum_by-map, All-distinct, AllPairs-distinct}
 use Rattle.bench_text.proofs.Wired.{undefined_fault-append}
 
 pub both_None : {A : Type 0} (first second : Option A) → option_or first second ≡ None → (first ≡ None) × (second ≡ None)
@@ -84,7 +81,6 @@ AllPairs-from_map R f xs pairs i j d before within =
     let first : i < length xs = omega arith in
     let last : j < length (map f xs) = omega arith in
     rw (← get_or-map f xs i d (f d) first, ← get_or-map f xs j d (f d) within) (pairs i j (f d) before last)
-
 
 module _ (lines : List (ℕ × Statement)) where
   abbrev definitions : List Definition

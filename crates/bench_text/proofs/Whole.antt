@@ -8,19 +8,16 @@ use Rattle.netlist.specs.declared.netlist.Net.{Net}
 use Rattle.netlist.specs.declared.part.Part.{Part}
 use Rattle.bench_text.specs.declared.fault.BenchFault.TheVariants.{TooMany}
 use Rattle.text_lines.specs.Text.{is_empty}
-use Rattle.bench_text.specs.Line.{Statement}
+use Rattle.bench_text.specs.Line.{Statement, IsStatement}
 use Rattle.netlist.specs.Netlist.{NetView, IsNetlist}
 use Rattle.netlist.specs.Repeats.{distinct}
 use Rattle.bench_text.specs.NetlistOf.{Definition, definition_in, uses_in, output_in, defined_names, repeated_fault, undefined_fault, is_over_limit, size_fault, fault_of, unless, place_of, netlist_with, netlist_of_statements}
-use Rattle.bench_text.specs.Line.{IsStatement}
 use Rattle.netlist.specs.Names.{IsNames}
-use Rattle.netlist.specs.Joined.{named_nets, netlist_view}
-use Rattle.netlist.specs.Joined.{seen_net}
+use Rattle.netlist.specs.Joined.{named_nets, netlist_view, seen_net}
 use Rattle.bench_text.specs.Stages.{net_wiring, WiringView, wiring}
-use Rattle.netlist.proofs.CallerLemmas.{named_nets-wired}
+use Rattle.netlist.proofs.CallerLemmas.{named_nets-wired, sum_by-map}
 use Rattle.bench_text.proofs.Wired.{unless-Ok}
 use Rattle.bench_text.proofs.WellFormed.{HasPlace-outputs, IsNetlist-with}
-use Rattle.netlist.proofs.CallerLemmas.{sum_by-map}
 
 pub is_empty-some : {A : Type 0} (xs : List A) → 0 < length xs → is_empty xs ≡ false
 is_empty-some [] some = absurd (omega arith)

@@ -1,5 +1,5 @@
 -- What a line of a .bench text says.
-use Rattle.std.specs.Prelude.{ℕ, ◌==◌, ◌&&◌, nat_lt, Bool, IsTrue, All, if◌then◌else◌, List, [], ◌∷◌, length, map, flat_map, find, option_map, Option, None, Some, Result, Ok, Err, codes, bytes_eq, slice_index}
+use Rattle.std.specs.Prelude.{ℕ, ◌==◌, nat_lt, Bool, IsTrue, All, if◌then◌else◌, List, [], ◌∷◌, length, map, flat_map, find, option_map, Option, None, Some, Result, Ok, Err, codes, bytes_eq, slice_index}
 use Rattle.std.specs.List.{list_any}
 use Rattle.std.specs.Str.{str_eq_ignore_ascii_case}
 use Rattle.logic3.specs.declared.gates.GateKind.TheVariants.{And, Nand, Or, Nor, Xor, Xnor, Not, Buf}

@@ -1,5 +1,5 @@
 -- The code's tokens and statements, which borrow the bytes of a line, as those of the definitions.
-use Rattle.std.specs.Prelude.{ℕ, ◌&&◌, not, if◌then◌else◌, Bool, List, [], ◌∷◌, Option, Some, None}
+use Rattle.std.specs.Prelude.{ℕ, ◌&&◌, not, if◌then◌else◌, Bool, [], ◌∷◌, Option, Some, None}
 use Rattle.text_lines.specs.Text.{is_white}
 use Rattle.netlist.specs.Names.{seen_names}
 use Rattle.bench_text.specs.Line as line

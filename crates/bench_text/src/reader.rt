@@ -3,9 +3,8 @@ ghost use Rattle.std.specs.Prelude.{◌≡◌, ◌≢◌, ℕ, ◌≤◌, ◌^�
 ghost use Rattle.std.specs.Result.{result_map_both};
 ghost use Rattle.bench_text.specs.declared.fault.BenchFault.TheVariants.{Memory};
 ghost use Rattle.netlist.specs.declared.netlist.Net.{Net as TheNet};
-ghost use Rattle.bench_text.specs.Line.{Statement as TheStatement};
+ghost use Rattle.bench_text.specs.Line.{Statement as TheStatement, IsStatement};
 ghost use Rattle.bench_text.specs.NetlistOf.{statements_of, definition_in, uses_in, defined_names, repeated_fault, undefined_fault, is_over_limit, unless, place_of, netlist_of_statements, netlist_of};
-ghost use Rattle.bench_text.specs.Line.{IsStatement};
 ghost use Rattle.netlist.specs.Names.{seen_names};
 ghost use Rattle.bench_text.specs.Stages.{seen_lines, seen_wiring, wiring};
 

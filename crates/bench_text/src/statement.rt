@@ -10,11 +10,11 @@ ghost use Rattle.netlist.specs.Names.{seen_names};
 ghost use Rattle.bench_text.specs.Seen.{seen_form, seen_statement};
 
 use crate::fault::BenchFault;
-use netlist::Part;
-use text_lines::is_plain;
 use crate::token::{Token, Tokens, tokens_of};
 use logic3::GateKind;
+use netlist::Part;
 use std::alloc::{AllocError, Global};
+use text_lines::is_plain;
 
 /// What a line says.
 #[derive(Debug, Drop)]

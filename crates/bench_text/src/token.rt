@@ -6,8 +6,8 @@ ghost use Rattle.text_lines.specs.Text.{is_white};
 ghost use Rattle.bench_text.specs.Line.{is_mark, token_of, tokens_of};
 ghost use Rattle.bench_text.specs.Seen.{seen_token, is_word_byte, mark_of};
 
-use text_lines::{is_white, white_len};
 use std::marker::Model;
+use text_lines::{is_white, white_len};
 
 /// A word, or one of the four marks.
 #[derive(Clone, Copy, Debug)]

@@ -5,13 +5,13 @@ ghost use Rattle.cmb_kernel.specs.Sound.{Exists};
 
 use crate::event::{Event, MOST_EVENTS};
 use crate::schedule_fault::ScheduleFault;
-use text_lines::{LONGEST_TEXT, Words, code_lines, is_plain, number, words_of};
 use design::Design;
 use rand_core::SeedableRng;
 use rand_core::utils::NextWord;
 use rand_pcg::Lcg64Xsh32;
 use std::alloc::Global;
 use std::marker::Model;
+use text_lines::{LONGEST_TEXT, Words, code_lines, is_plain, number, words_of};
 
 /// A list of at most 10,000,000 events, each of a pin or a net that the design has.
 #[derive(Debug, Drop)]

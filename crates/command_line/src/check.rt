@@ -1,6 +1,7 @@
 //! The subcommand `check`: what it takes, and the order that it is.
+use crate::described::{Absent, Described, Takes};
 use crate::help::subcommand_named;
-use crate::options::{ALONE, horizon, number_given, source_given, source_options};
+use crate::options::{ALONE, HORIZON, SOURCE, number_given, source_given};
 use clap::{ArgMatches, Command};
 use orders::{Order, PickOptions};
 use std::alloc::{AllocError, Global};
@@ -11,10 +12,17 @@ const ABOUT: &str =
 
 const USAGE: &str = "nullsim check --bench <FILE> --horizon <N> [OPTIONS]";
 
+static OPTIONS: [Described; 1] = [Described("horizon", Takes::Number, Absent::Refused, HORIZON)];
+
 /// The subcommand with its options.
 pub(super) fn subcommand<'a>(alloc: Global) -> Result<Command<'a>, AllocError> {
-    let command = subcommand_named(alloc, "check", ABOUT, USAGE);
-    source_options(alloc, command, &ALONE)?.arg(horizon(alloc))
+    subcommand_named(
+        alloc,
+        "check",
+        ABOUT,
+        USAGE,
+        &[SOURCE.as_slice(), OPTIONS.as_slice()],
+    )
 }
 
 /// The order of its options.

@@ -1,6 +1,8 @@
 //! The program's words: its subcommands, and the help.
+use crate::described::{Described, with_tables};
 use crate::{check, cone, plain, run, twin};
-use clap::Command;
+use clap::error::ErrorKind;
+use clap::{Command, Error};
 use std::alloc::{AllocError, Global};
 
 const ABOUT: &str =
@@ -20,28 +22,54 @@ const ENDS: &str =
      Example: nullsim run --bench adder.bench --stimuli adder.stimuli --horizon 500 > adder.vcd";
 
 pub(super) fn program<'a>(alloc: Global) -> Result<Command<'a>, AllocError> {
+    let mut subcommands = Vec::new(alloc);
+    add_subcommands(alloc, &mut subcommands)?;
     Command::new(alloc, "nullsim")
         .no_binary_name(true)
         .subcommand_required(true)
         .about(ABOUT)
         .override_usage(USAGE)
         .after_help(ENDS)
-        .subcommand(run::subcommand(alloc)?)?
-        .subcommand(plain::subcommand(alloc)?)?
-        .subcommand(cone::subcommand(alloc)?)?
-        .subcommand(twin::subcommand(alloc)?)?
-        .subcommand(check::subcommand(alloc)?)
+        .subcommands(subcommands)
 }
 
-/// A subcommand without its options.
+/// Adds the subcommands, in the order of the help.
+fn add_subcommands<'a>(
+    alloc: Global,
+    subcommands: &mut Vec<Command<'a>>,
+) -> Result<(), AllocError> {
+    add(subcommands, run::subcommand(alloc))?;
+    add(subcommands, plain::subcommand(alloc))?;
+    add(subcommands, cone::subcommand(alloc))?;
+    add(subcommands, twin::subcommand(alloc))?;
+    add(subcommands, check::subcommand(alloc))
+}
+
+/// Adds a subcommand, if there was memory for it.
+fn add<'a>(
+    subcommands: &mut Vec<Command<'a>>,
+    subcommand: Result<Command<'a>, AllocError>,
+) -> Result<(), AllocError> {
+    subcommands.push(subcommand?)?;
+    Ok(())
+}
+
+/// The error of words that are wrong as the text says.
+pub(super) fn mistake(alloc: Global, kind: ErrorKind, text: &str) -> Result<Error, AllocError> {
+    program(alloc)?.error(kind, text)
+}
+
+/// A subcommand with the options of some tables.
 pub(super) fn subcommand_named<'a>(
     alloc: Global,
     name: &'static str,
     about: &'static str,
     usage: &'static str,
-) -> Command<'a> {
-    Command::new(alloc, name)
+    options: &[&'static [Described]],
+) -> Result<Command<'a>, AllocError> {
+    let command = Command::new(alloc, name)
         .about(about)
         .override_usage(usage)
-        .after_help(ENDS)
+        .after_help(ENDS);
+    with_tables(alloc, command, options)
 }

@@ -3,6 +3,7 @@
 
 mod check;
 mod cone;
+mod described;
 mod help;
 mod options;
 mod plain;

@@ -1,8 +1,8 @@
 //! The options that several subcommands take, and what is given by them.
-use clap::{Arg, ArgAction, ArgMatches, Command};
+use crate::described::{Absent, Described, Takes};
+use clap::ArgMatches;
 use orders::{PickOptions, SourceOptions};
 use runs::{Show, View};
-use std::alloc::{AllocError, Global};
 use vcd_dump::TimeUnit;
 
 /// What the options of a run are called.
@@ -43,96 +43,83 @@ pub(super) static SECOND: OptionNames = OptionNames {
     period: "second-period",
 };
 
-static SHOWS: [&str; 2] = ["all", "outputs"];
+// What the help says of each option.
 
-static UNITS: [&str; 6] = ["s", "ms", "us", "ns", "ps", "fs"];
+pub(super) const BENCH: &str =
+    "The circuit in the ISCAS-89 .bench notation: lines such as INPUT(a),\n\
+     OUTPUT(y), y = NAND(a, q), q = DFF(y)";
 
-pub(super) fn source_options<'a>(
-    alloc: Global,
-    command: Command<'a>,
-    names: &OptionNames,
-) -> Result<Command<'a>, AllocError> {
-    let delays = file(alloc, names.delays).help(
-        "The delays of single gates and flip-flops: lines NAME TICKS, such as\n\
-         y 3; without it there are none",
-    );
-    let stimuli = file(alloc, names.stimuli).help(
-        "What drives the inputs: lines TICK NAME VALUE, such as 40 a 1, the\n\
-         value being 0, 1 or x; an input is x before its first line",
-    );
-    let delay = number(alloc, names.delay).default_value("1").help(
-        "The delay of all other gates and flip-flops: 1 to 1000000 ticks",
-    );
-    let period = number(alloc, names.period).default_value("10").help(
-        "The period of all flip-flops, which sample their data at its\n\
-         multiples: 1 to 10000000 ticks",
-    );
-    command
-        .arg(bench(alloc, names.bench))?
-        .arg(delays)?
-        .arg(stimuli)?
-        .arg(delay)?
-        .arg(period)
-}
+const DELAYS: &str = "The delays of single gates and flip-flops: lines NAME TICKS, such as\n\
+     y 3; without it there are none";
 
-pub(super) fn view_options<'a>(
-    alloc: Global,
-    command: Command<'a>,
-) -> Result<Command<'a>, AllocError> {
-    let show = choice(alloc, "show", SHOWS.as_slice())
-        .value_name("NETS")
-        .default_value("all")
-        .hide_possible_values(true)
-        .help("The nets in the dump: all or outputs");
-    let unit = choice(alloc, "unit", UNITS.as_slice())
-        .value_name("UNIT")
-        .default_value("ns")
-        .hide_possible_values(true)
-        .help("What a tick of the dump stands for: s, ms, us, ns, ps or fs");
-    command.arg(show)?.arg(unit)
-}
+const STIMULI: &str = "What drives the inputs: lines TICK NAME VALUE, such as 40 a 1, the\n\
+     value being 0, 1 or x; an input is x before its first line";
 
-pub(super) fn bench<'a>(alloc: Global, id: &'static str) -> Arg<'a> {
-    file(alloc, id).required(true).help(
-        "The circuit in the ISCAS-89 .bench notation: lines such as INPUT(a),\n\
-         OUTPUT(y), y = NAND(a, q), q = DFF(y)",
-    )
-}
+const DELAY: &str = "The delay of all other gates and flip-flops: 1 to 1000000 ticks";
 
-pub(super) fn schedule<'a>(alloc: Global, names: &OptionNames) -> Arg<'a> {
-    file(alloc, names.schedule).help(
-        "Events to begin with: lines advance NAME and deliver NAME PLACE; what\n\
-         the nets show doesn't depend on them",
-    )
-}
+const PERIOD: &str = "The period of all flip-flops, which sample their data at its\n\
+     multiples: 1 to 10000000 ticks";
 
-pub(super) fn horizon<'a>(alloc: Global) -> Arg<'a> {
-    number(alloc, "horizon")
-        .required(true)
-        .help("The last tick of the run: 0 to 10000000")
-}
+pub(super) const SCHEDULE: &str =
+    "Events to begin with: lines advance NAME and deliver NAME PLACE; what\n\
+     the nets show doesn't depend on them";
 
-pub(super) fn number<'a>(alloc: Global, id: &'static str) -> Arg<'a> {
-    Arg::new(alloc, id)
-        .long(id)
-        .value_name("N")
-        .action(ArgAction::Set)
-        .value_parser(clap::value_parser!(u64))
-}
+pub(super) const HORIZON: &str = "The last tick of the run: 0 to 10000000";
 
-fn file<'a>(alloc: Global, id: &'static str) -> Arg<'a> {
-    Arg::new(alloc, id)
-        .long(id)
-        .value_name("FILE")
-        .action(ArgAction::Set)
-}
+const SHOW: &str = "The nets in the dump: all or outputs";
 
-fn choice<'a>(alloc: Global, id: &'a str, values: &'a [&'a str]) -> Arg<'a> {
-    Arg::new(alloc, id)
-        .long(id)
-        .action(ArgAction::Set)
-        .value_parser(values)
-}
+const UNIT: &str = "What a tick of the dump stands for: s, ms, us, ns, ps or fs";
+
+/// The options of a run apart from its horizon and its picks.
+pub(super) static SOURCE: [Described; 5] = [
+    Described("bench", Takes::File, Absent::Refused, BENCH),
+    Described("delays", Takes::File, Absent::Nothing, DELAYS),
+    Described("stimuli", Takes::File, Absent::Nothing, STIMULI),
+    Described("delay", Takes::Number, Absent::Default("1"), DELAY),
+    Described("period", Takes::Number, Absent::Default("10"), PERIOD),
+];
+
+/// The options of the first of two runs.
+pub(super) static FIRST_SIDE: [Described; 6] = [
+    Described("first", Takes::File, Absent::Refused, BENCH),
+    Described("first-delays", Takes::File, Absent::Nothing, DELAYS),
+    Described("first-stimuli", Takes::File, Absent::Nothing, STIMULI),
+    Described("first-delay", Takes::Number, Absent::Default("1"), DELAY),
+    Described("first-period", Takes::Number, Absent::Default("10"), PERIOD),
+    Described("first-schedule", Takes::File, Absent::Nothing, SCHEDULE),
+];
+
+/// The options of the second of two runs.
+pub(super) static SECOND_SIDE: [Described; 6] = [
+    Described("second", Takes::File, Absent::Refused, BENCH),
+    Described("second-delays", Takes::File, Absent::Nothing, DELAYS),
+    Described("second-stimuli", Takes::File, Absent::Nothing, STIMULI),
+    Described("second-delay", Takes::Number, Absent::Default("1"), DELAY),
+    Described(
+        "second-period",
+        Takes::Number,
+        Absent::Default("10"),
+        PERIOD,
+    ),
+    Described("second-schedule", Takes::File, Absent::Nothing, SCHEDULE),
+];
+
+/// The options of a dump.
+pub(super) static VIEW: [Described; 3] = [
+    Described("horizon", Takes::Number, Absent::Refused, HORIZON),
+    Described(
+        "show",
+        Takes::Word("NETS", &["all", "outputs"]),
+        Absent::Default("all"),
+        SHOW,
+    ),
+    Described(
+        "unit",
+        Takes::Word("UNIT", &["s", "ms", "us", "ns", "ps", "fs"]),
+        Absent::Default("ns"),
+        UNIT,
+    ),
+];
 
 pub(super) fn source_given<'a>(
     options: &ArgMatches<'a>,

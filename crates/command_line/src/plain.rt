@@ -1,6 +1,6 @@
 //! The subcommand `plain`: what it takes, and the order that it is.
 use crate::help::subcommand_named;
-use crate::options::{ALONE, horizon, source_given, source_options, view_given, view_options};
+use crate::options::{ALONE, SOURCE, VIEW, source_given, view_given};
 use clap::{ArgMatches, Command};
 use orders::{Order, PickOptions};
 use std::alloc::{AllocError, Global};
@@ -11,9 +11,13 @@ const USAGE: &str = "nullsim plain --bench <FILE> --horizon <N> [OPTIONS]";
 
 /// The subcommand with its options.
 pub(super) fn subcommand<'a>(alloc: Global) -> Result<Command<'a>, AllocError> {
-    let command = subcommand_named(alloc, "plain", ABOUT, USAGE);
-    let command = source_options(alloc, command, &ALONE)?.arg(horizon(alloc))?;
-    view_options(alloc, command)
+    subcommand_named(
+        alloc,
+        "plain",
+        ABOUT,
+        USAGE,
+        &[SOURCE.as_slice(), VIEW.as_slice()],
+    )
 }
 
 /// The order of its options.

@@ -1,9 +1,8 @@
 //! The subcommand `twin`: what it takes, and the order that it is.
+use crate::described::{Absent, Described, Takes};
 use crate::help::subcommand_named;
-use crate::options::{
-    FIRST, SECOND, horizon, number_given, schedule, source_given, source_options,
-};
-use clap::{Arg, ArgMatches, Command};
+use crate::options::{FIRST, FIRST_SIDE, HORIZON, SECOND, SECOND_SIDE, number_given, source_given};
+use clap::{ArgMatches, Command};
 use orders::{Order, PickOptions};
 use std::alloc::{AllocError, Global};
 
@@ -14,18 +13,26 @@ const ABOUT: &str =
 const USAGE: &str =
     "nullsim twin --first <FILE> --second <FILE> --net <NAME> --horizon <N> [OPTIONS]";
 
+const NET: &str = "The net to be compared, by its name in both circuits";
+
+static OPTIONS: [Described; 2] = [
+    Described("net", Takes::Net, Absent::Refused, NET),
+    Described("horizon", Takes::Number, Absent::Refused, HORIZON),
+];
+
 /// The subcommand with its options.
 pub(super) fn subcommand<'a>(alloc: Global) -> Result<Command<'a>, AllocError> {
-    let net = Arg::new(alloc, "net")
-        .long("net")
-        .required(true)
-        .value_name("NAME")
-        .help("The net to be compared, by its name in both circuits");
-    let command = subcommand_named(alloc, "twin", ABOUT, USAGE)
-        .arg(net)?
-        .arg(horizon(alloc))?;
-    let command = source_options(alloc, command, &FIRST)?.arg(schedule(alloc, &FIRST))?;
-    source_options(alloc, command, &SECOND)?.arg(schedule(alloc, &SECOND))
+    subcommand_named(
+        alloc,
+        "twin",
+        ABOUT,
+        USAGE,
+        &[
+            OPTIONS.as_slice(),
+            FIRST_SIDE.as_slice(),
+            SECOND_SIDE.as_slice(),
+        ],
+    )
 }
 
 /// The order of its options.

@@ -1,8 +1,8 @@
 //! Words as an order, or why they are none.
-use crate::help::program;
+use crate::help::{mistake, program};
 use crate::{check, cone, plain, run, twin};
-use clap::Error;
 use clap::error::ErrorKind;
+use clap::{ArgMatches, Error};
 use orders::Order;
 use std::alloc::Global;
 
@@ -42,12 +42,17 @@ fn no_order(alloc: Global, error: &Error) -> NoOrder {
 
 fn read_order<'a>(alloc: Global, words: &'a [String]) -> Result<Order<'a>, Error> {
     let matches = program(alloc)?.try_get_matches_from(words)?;
+    order_matched(alloc, &matches)
+}
+
+/// The order of the options of a subcommand.
+fn order_matched<'a>(alloc: Global, matches: &ArgMatches<'a>) -> Result<Order<'a>, Error> {
     match matches.subcommand() {
         Some(("run", options)) => run::order_given(alloc, options),
         Some(("plain", options)) => Ok(plain::order_given(options)),
-        Some(("cone", options)) => Ok(cone::order_given(alloc, options)?),
+        Some(("cone", options)) => cone::order_given(alloc, options),
         Some(("twin", options)) => Ok(twin::order_given(options)),
         Some(("check", options)) => Ok(check::order_given(options)),
-        _ => Err(program(alloc)?.error(ErrorKind::MissingSubcommand, "a command is missing")?),
+        _ => Err(mistake(alloc, ErrorKind::MissingSubcommand, "a command is missing")?),
     }
 }

@@ -6,9 +6,9 @@ ghost use Rattle.design.specs.Delays.{DelayLine, delay_in, delay_of_part, delay_
 
 use crate::fault::DelayFault;
 use crate::limits::MOST_DELAY;
-use text_lines::{LONGEST_TEXT, code_lines, is_plain, number, words_of};
 use netlist::{Netlist, Part};
 use std::alloc::Global;
+use text_lines::{LONGEST_TEXT, code_lines, is_plain, number, words_of};
 
 /// The delay that a line gives a net.
 #[derive(Clone, Copy)]

@@ -8,8 +8,8 @@ ghost use Rattle.design.specs.Samples.{timing_of};
 mod build;
 
 use crate::samples::Timing;
-use netlist::{Netlist, Part};
 use logic3::Change;
+use netlist::{Netlist, Part};
 use std::marker::Model;
 
 /// A netlist with its timing and stimuli.

@@ -13,8 +13,8 @@ ghost use Rattle.design.specs.Equations.{equation_at, signals_in, waves_of};
 
 use crate::design::Design;
 use crate::horizon::Horizon;
-use netlist::Part;
 use logic3::{Change, GateKind, Value, Waveform, gate, value_after};
+use netlist::Part;
 use std::alloc::{AllocError, Global};
 
 /// The waveforms of all nets, in their order, from tick 0 to the horizon.

@@ -9,10 +9,10 @@ ghost use Rattle.design.specs.Stimuli.{StimulusLine, net_stimuli, stimuli_of, st
 use crate::delays::is_input;
 use crate::fault::StimulusFault;
 use crate::limits::MOST_TICKS;
-use netlist::Netlist;
-use text_lines::{LONGEST_TEXT, code_lines, is_plain, number, words_of};
 use logic3::{Change, Value};
+use netlist::Netlist;
 use std::alloc::{AllocError, Global};
+use text_lines::{LONGEST_TEXT, code_lines, is_plain, number, words_of};
 
 /// The change that a line gives a net.
 #[derive(Clone, Copy)]

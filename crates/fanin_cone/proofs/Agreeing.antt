@@ -4,11 +4,10 @@ use Rattle.std.specs.List.{position}
 use Rattle.std.specs.Str.{bytes_eq}
 use Rattle.std.proofs.lemmas.Option.{none-some, same_Some}
 use Rattle.std.proofs.lemmas.List.Elements.{All-contains}
-use Rattle.netlist.specs.Netlist.{NetView, NetlistView, IsNetlist, net_named}
+use Rattle.netlist.specs.Netlist.{NetView, NetlistView, IsNetlist, net_named, name_at}
 use Rattle.design.specs.Circuit.{Net}
 use Rattle.design.specs.Design.{DesignView, IsDesign}
 use Rattle.design.proofs.CallerLemmas.{net_at-named}
-use Rattle.netlist.specs.Netlist.{name_at}
 use Rattle.fanin_cone.specs.Cone.{InCone, start, pin, IsConeOf}
 use Rattle.fanin_cone.specs.Agreement.{net_of, IsSameNet, AgreesAt, AgreesOn}
 use Rattle.fanin_cone.proofs.DesignNets.{net_there, net_with, name_at-circuit}

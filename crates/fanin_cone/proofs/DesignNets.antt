@@ -2,11 +2,10 @@
 use Rattle.std.proofs.Common.{◌≡◌, ℕ, zero, suc, ◌<◌, List, [], ◌∷◌, length, get_or, option_map, Option, None, Some, slice_get, refl, sym, ap, ◌∙◌, arith}
 use Rattle.std.proofs.lemmas.List.{get_or-map}
 use Rattle.std.proofs.lemmas.Option.{slice_get_within, get_or_from_slice_get, none-some, same_Some}
-use Rattle.netlist.specs.Netlist.{NetView, net_at}
+use Rattle.netlist.specs.Netlist.{NetView, net_at, name_at}
 use Rattle.design.specs.Circuit.{Net, Circuit}
 use Rattle.design.specs.Design.{DesignView, IsDesign, untimed}
 use Rattle.design.proofs.CallerLemmas.{no_net}
-use Rattle.netlist.specs.Netlist.{name_at}
 
 -- a number below the number of nets has a net
 pub net_there : (circuit : Circuit) (number : ℕ) → number < length circuit → (net : Net) × (slice_get circuit number ≡ Some net)

@@ -2,9 +2,8 @@
 use Rattle.std.proofs.Common.{◌≡◌, ℕ, ◌<◌, length, ◌∙◌, All, Contains, inl, inr}
 use Rattle.std.proofs.lemmas.Bool.{cases_eq}
 use Rattle.std.proofs.lemmas.List.{get_or_default}
-use Rattle.netlist.specs.Netlist.{NetView, NetlistView, IsNetlist, net_at}
+use Rattle.netlist.specs.Netlist.{NetView, NetlistView, IsNetlist, net_at, name_at}
 use Rattle.design.proofs.CallerLemmas.{no_net, names-differ}
-use Rattle.netlist.specs.Netlist.{name_at}
 
 -- a name has one number
 pub same_net : (netlist : NetlistView) → IsNetlist netlist → (net other : ℕ) → net < length netlist.nets → other < length netlist.nets →

@@ -1,8 +1,7 @@
 -- Closed sets of names, and the fan-in cone of names.
 use Rattle.std.specs.Prelude.{ℕ, ◌<◌, ◌↔◌, Bool, IsTrue, List, length, map, All, Contains}
 use Rattle.logic3.specs.Rising.{Rises}
-use Rattle.netlist.specs.Netlist.{NetView, NetlistView}
-use Rattle.netlist.specs.Netlist.{name_at}
+use Rattle.netlist.specs.Netlist.{NetView, NetlistView, name_at}
 
 -- the names of the nets at these pins
 abbrev pub pin_names : NetlistView → List ℕ → List (List ℕ)

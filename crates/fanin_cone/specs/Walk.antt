@@ -2,9 +2,8 @@
 use Rattle.std.specs.Prelude.{◌≡◌, ℕ, ◌+◌, ◌<◌, ◌==◌, ◌||◌, ◌↔◌, not, Bool, false, IsTrue, List, ◌++◌, length, filter, count_by, slice_index_or, Contains}
 use Rattle.std.specs.List.{list_any}
 use Rattle.logic3.specs.Rising.{Rises}
-use Rattle.netlist.specs.Netlist.{NetlistView}
+use Rattle.netlist.specs.Netlist.{NetlistView, name_at}
 use Rattle.netlist.specs.Repeats.{distinct}
-use Rattle.netlist.specs.Netlist.{name_at}
 use Rattle.fanin_cone.specs.Cone.{InCone}
 
 abbrev pub is_marked : List Bool → ℕ → Bool

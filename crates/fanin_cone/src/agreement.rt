@@ -8,9 +8,9 @@ ghost use Rattle.fanin_cone.specs.Cone.{pin_names, InCone};
 ghost use Rattle.fanin_cone.specs.Agreement.{net_of, stimuli_to, IsSameNet, AgreesAt, AgreesOn};
 
 use crate::cones::cone;
-use netlist::Part;
 use design::{Design, Horizon};
 use logic3::Change;
+use netlist::Part;
 use std::alloc::{AllocError, Global};
 
 /// Whether two designs agree, at ticks up to the horizon, on the fan-in cone that the net of this

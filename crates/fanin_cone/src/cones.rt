@@ -4,8 +4,8 @@ ghost use Rattle.netlist.specs.Netlist.{name_at};
 ghost use Rattle.fanin_cone.specs.Cone.{IsConeOf};
 ghost use Rattle.fanin_cone.specs.Walk.{Marks, MarksCone, NumbersMarked};
 
-use netlist::Netlist;
 use design::Design;
+use netlist::Netlist;
 use std::alloc::{AllocError, Global};
 
 /// The numbers of the nets in a net's fan-in cone, rising.

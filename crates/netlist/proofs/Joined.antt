@@ -8,10 +8,8 @@ use Rattle.std.proofs.lemmas.Option.{get_or_from_slice_get}
 use Rattle.std.proofs.lemmas.Slice.Zip.{length-zip, get_or-zip, firsts-zip}
 use Rattle.netlist.specs.declared.netlist.Net.{Net}
 use Rattle.netlist.specs.declared.part.Part.{Part}
-use Rattle.netlist.specs.Netlist.{NetView, NetlistView, net_at, net_named}
-use Rattle.netlist.specs.Netlist.{name_at}
-use Rattle.netlist.specs.Joined.{named_net, named_nets, netlist_view}
-use Rattle.netlist.specs.Joined.{seen_net}
+use Rattle.netlist.specs.Netlist.{NetView, NetlistView, net_at, net_named, name_at}
+use Rattle.netlist.specs.Joined.{named_net, named_nets, netlist_view, seen_net}
 use Rattle.netlist.proofs.Places.{position-map}
 
 -- named nets that are wired as these

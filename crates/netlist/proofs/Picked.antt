@@ -10,14 +10,11 @@ use Rattle.netlist.specs.declared.netlist.Net.{Net}
 use Rattle.netlist.specs.declared.part.Part.TheVariants.{Input}
 use Rattle.netlist.specs.Part.{takes_pins}
 use Rattle.netlist.specs.Name.{IsName}
-use Rattle.netlist.specs.Netlist.{NetView, NetlistView, IsNetlist, net_at, pin_count}
-use Rattle.netlist.specs.Netlist.{name_at}
+use Rattle.netlist.specs.Netlist.{NetView, NetlistView, IsNetlist, net_at, pin_count, name_at}
 use Rattle.netlist.specs.Pick.{place_in, picked, picked_net, picked_wiring}
-use Rattle.netlist.specs.Joined.{netlist_view}
-use Rattle.netlist.specs.Joined.{seen_net}
-use Rattle.netlist.proofs.Among.{list_any-place}
+use Rattle.netlist.specs.Joined.{netlist_view, seen_net}
+use Rattle.netlist.proofs.Among.{list_any-place, bytes_eq-other}
 use Rattle.netlist.proofs.Joined.{named_nets-wired}
-use Rattle.netlist.proofs.Among.{bytes_eq-other}
 use Rattle.netlist.proofs.Rising.{place_in-within, AllPairs-places, length-rising, sum_by-rising}
 use Rattle.netlist.proofs.Sums.{sum_by-map}
 

@@ -1,5 +1,5 @@
 -- Sums over a list.
-use Rattle.std.proofs.Common.{◌≡◌, ℕ, ◌+◌, List, map, refl}
+use Rattle.std.proofs.Common.{◌≡◌, ℕ, ◌+◌, List, map}
 use Rattle.std.specs.List.{sum_by}
 use Rattle.std.proofs.lemmas.List.Folds.{fold-map}
 

@@ -56,7 +56,8 @@ impl Names {
         Some(index as u32)
     }
 
-    /// Adds a new name, whose number is the length before.
+    /// Adds a name that isn't among the names, and whose number is the length before. There is room
+    /// for names with numbers of 32 bits.
     ///
     /// An `AllocError` leaves the names as they were.
     pub fn push(&mut self, name: &[u8]) -> Result<(), AllocError>

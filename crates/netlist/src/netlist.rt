@@ -1,8 +1,7 @@
 ghost use Rattle.std.specs.Prelude.{◌≡◌, ◌<◌, length, map, All, IfOk};
 ghost use Rattle.logic3.specs.Rising.{Rises};
-ghost use Rattle.netlist.specs.Netlist.{IsNetlist, net_at, net_named};
+ghost use Rattle.netlist.specs.Netlist.{IsNetlist, net_at, net_named, name_at};
 ghost use Rattle.netlist.specs.Joined.{netlist_view};
-ghost use Rattle.netlist.specs.Netlist.{name_at};
 
 use crate::names::Names;
 use crate::part::Part;
@@ -48,7 +47,8 @@ impl Model for Netlist {
 }
 
 impl Netlist {
-    /// The netlist of these names, each with its net, and these outputs.
+    /// The netlist of these names, each with its net, and these outputs, which together are as
+    /// [`Netlist`] says.
     pub fn new(names: Names, nets: Vec<Net>, outputs: Vec<u32>) -> Netlist
         requires same_length { length names ≡ length nets.items }
         requires well_formed { IsNetlist (netlist_view names nets.items outputs.items) }

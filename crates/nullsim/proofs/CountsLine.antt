@@ -1,8 +1,7 @@
 -- The line of counts, and what an order tells of them.
-use Rattle.std.proofs.Common.{◌≡◌, ℕ, List, [], ◌∷◌, ◌++◌, Option, Some, Bor, Result, OnOk, OnErr, refl, ap, sym, subst, ◌∙◌, inl, append_assoc}
+use Rattle.std.proofs.Common.{◌≡◌, ℕ, List, [], ◌∷◌, ◌++◌, Option, Some, refl, ap, sym, subst, ◌∙◌, inl, append_assoc}
 use Rattle.std.proofs.lemmas.List.{append-nil}
 use Rattle.std.specs.List.{concat}
-use Rattle.std.specs.Io.KnownBytes.{Appends}
 use Rattle.cmb_kernel.specs.declared.counts.Counts.{Counts}
 use Rattle.vcd_dump.specs.Bytes.{AppendsPrefix}
 use Rattle.orders.specs.declared.order.Order.{Order}

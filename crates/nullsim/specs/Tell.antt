@@ -3,12 +3,17 @@ use Rattle.std.specs.Prelude.{◌≡◌, ◌⊎◌, ℕ, List, Option, Result, I
 use denote.Ref.{Bor}
 use Rattle.std.specs.Io.KnownBytes.{Appends, Keeps}
 use Rattle.orders.specs.declared.input.ReadFault.{ReadFault}
+use Rattle.orders.specs.declared.program_fault.ProgramFault.{ProgramFault}
 use Rattle.orders.specs.declared.program_fault.ProgramFault.TheVariants.{Flush}
 use Rattle.orders.specs.Place.{section_names}
 use Rattle.orders.specs.ProgramFaults.{fault_of_read}
 use Rattle.orders.specs.Report.{Reports}
 use Rattle.nullsim.specs.declared.deck_run.DeckFault.{DeckFault}
 use Rattle.nullsim.specs.DeckRun.{DeckEndsBy, dump_of_deck, fault_of_deck}
+
+-- a failed read of standard input, as a fault of the program
+abbrev pub IsUnreadDeck : ReadFault → ProgramFault → Type 0
+IsUnreadDeck fault told = (name : Bor (List ℕ)) × (name.now ≡ codes "stdin") × (told ≡ fault_of_read name fault)
 
 module _ (out out_new err err_new : Option (List ℕ)) (status : ℕ) where
   -- ---- a deck that was read, whose answer this is
@@ -34,8 +39,7 @@ module _ (out out_new err err_new : Option (List ℕ)) (status : ℕ) where
   -- it could not be read: nothing went out
   abbrev pub DeckUnread : Type 0
   DeckUnread =
-      (name : Bor (List ℕ)) × ((fault : ReadFault) × (name.now ≡ codes "stdin") × Keeps out out_new
-      × Reports section_names (fault_of_read name fault) err err_new status)
+      (fault : ReadFault) × ((told : ProgramFault) × IsUnreadDeck fault told × Keeps out out_new × Reports section_names told err err_new status)
 
   -- or what was told is of the deck that the reader has: of all its bytes, where they are known
   abbrev pub TellEnds : Option (List ℕ) → Type 0

@@ -1,10 +1,10 @@
 //! The program without words.
 ghost use Rattle.nullsim.specs.DeckRun.{dump_of_deck};
-ghost use Rattle.nullsim.specs.Tell.{DeckTold, TellEnds};
+ghost use Rattle.nullsim.specs.Tell.{DeckTold, IsUnreadDeck, TellEnds};
 
 use crate::deck_run::deck;
 use orders::status::DONE;
-use orders::{ProgramFault, SECTIONS, flush, read_text, report};
+use orders::{ProgramFault, ReadFault, SECTIONS, flush, read_text, report};
 use std::alloc::Global;
 use std::io::{Read, Write};
 
@@ -23,8 +23,15 @@ pub fn tell<R: Read, W: Write, E: Write>(
 {
     match read_text(alloc, input) {
         Ok(text) => answer_deck(alloc, text.as_slice(), out, err),
-        Err(fault) => report(err, ProgramFault::of_read(fault, "stdin"), SECTIONS),
+        Err(fault) => report(err, unread_deck(fault), SECTIONS),
     }
+}
+
+/// The fault of a deck that could not be read.
+fn unread_deck(fault: ReadFault) -> ProgramFault<'static>
+    ensures { IsUnreadDeck fault result }
+{
+    ProgramFault::of_read(fault, "stdin")
 }
 
 /// Writes the dump of a deck's run and flushes once; answers the exit status.

@@ -6,6 +6,7 @@ use crate::files::{FILES, Named};
 use crate::writers::Narrow;
 use nullsim::{ReadFault, Texts, command};
 use std::alloc::{AllocError, Global};
+use std::io::Write;
 use std::process::Abort;
 use std::test::Fail;
 use worked_examples::dumps::{INVERTER_DUMP, OUTPUTS_DUMP, SAMPLER_DUMP, SLOW_DUMP};
@@ -68,17 +69,39 @@ pub(crate) struct Answer {
     pub(crate) asked: u32,
 }
 
-pub(crate) fn answer_to(alloc: Global, line: &str) -> Result<Answer, AllocError> {
+// What a line ends with that writes to these: the exit status, and how many texts were asked for.
+fn end_of<W: Write, E: Write>(
+    alloc: Global,
+    line: &str,
+    out: &mut W,
+    err: &mut E,
+) -> Result<(u8, u32), AllocError> {
     let words = words_of(alloc, line)?;
     let mut shelf = Shelf::new(alloc);
+    let status = command(alloc, words.as_slice(), &mut shelf, out, err);
+    Ok((status, shelf.asked))
+}
+
+pub(crate) fn answer_to(alloc: Global, line: &str) -> Result<Answer, AllocError> {
     let (mut out, mut err) = (Vec::new(alloc), Vec::new(alloc));
-    let status = command(alloc, words.as_slice(), &mut shelf, &mut out, &mut err);
+    let (status, asked) = end_of(alloc, line, &mut out, &mut err)?;
     Ok(Answer {
         status,
         out,
         err,
-        asked: shelf.asked,
+        asked,
     })
+}
+
+// The answer to the line has this status, and these bytes on the two streams.
+fn is_answer(rt: &impl Abort, answer: &Answer, line: &str, status: u8, out: &[u8], err: &str) {
+    assert_eq!(rt; answer.status, status, "at {line}");
+    assert!(rt; answer.out.as_slice() == out, "at {line}");
+    assert!(rt; answer.err.as_slice() == err.as_bytes(), "at {line}");
+}
+
+pub(crate) fn asked_for(rt: &impl Abort, answer: &Answer, line: &str, asked: u32) {
+    assert_eq!(rt; answer.asked, asked, "at {line}");
 }
 
 // The line is carried out: this goes out, and these lines to standard error.
@@ -90,9 +113,7 @@ pub(crate) fn tells(
     told: &str,
 ) -> Result<(), Fail> {
     let answer = answer_to(alloc, line)?;
-    assert_eq!(rt; answer.status, 0, "at {line}");
-    assert!(rt; answer.out.as_slice() == text, "at {line}");
-    assert!(rt; answer.err.as_slice() == told.as_bytes(), "at {line}");
+    is_answer(rt, &answer, line, 0, text, told);
     Ok(())
 }
 
@@ -106,21 +127,53 @@ pub(crate) fn refuses(
     asked: u32,
 ) -> Result<(), Fail> {
     let answer = answer_to(alloc, line)?;
-    assert_eq!(rt; answer.status, status, "at {line}");
-    assert!(rt; answer.err.as_slice() == fault.as_bytes(), "at {line}");
-    assert!(rt; answer.out.is_empty(), "at {line}");
-    assert_eq!(rt; answer.asked, asked, "at {line}");
+    is_answer(rt, &answer, line, status, b"", fault);
+    asked_for(rt, &answer, line, asked);
     Ok(())
+}
+
+// Nothing goes out, and standard error says why.
+fn is_misuse(rt: &impl Abort, answer: &Answer, line: &str) {
+    assert_eq!(rt; answer.status, 2, "at {line}");
+    assert!(rt; answer.out.is_empty(), "at {line}");
+    assert!(rt; !answer.err.is_empty(), "at {line}");
 }
 
 // The words are wrong: nothing goes out, standard error says why, and no text is asked for.
 pub(crate) fn misuses(rt: &impl Abort, alloc: Global, line: &str) -> Result<(), Fail> {
     let answer = answer_to(alloc, line)?;
-    assert_eq!(rt; answer.status, 2, "at {line}");
-    assert!(rt; answer.out.is_empty(), "at {line}");
-    assert!(rt; !answer.err.is_empty(), "at {line}");
-    assert_eq!(rt; answer.asked, 0, "at {line}");
+    is_misuse(rt, &answer, line);
+    asked_for(rt, &answer, line, 0);
     Ok(())
+}
+
+// The line ends with this status, on these writers.
+pub(crate) fn ends<W: Write>(
+    rt: &impl Abort,
+    alloc: Global,
+    line: &str,
+    out: &mut W,
+    err: &mut Narrow,
+    status: u8,
+) -> Result<(), Fail> {
+    let (got, _) = end_of(alloc, line, out, err)?;
+    assert_eq!(rt; got, status, "at {line}");
+    Ok(())
+}
+
+// The writer took this and no more.
+pub(crate) fn took(rt: &impl Abort, writer: &Narrow, text: &[u8], line: &str) {
+    assert!(rt; writer.taken.as_slice() == text, "at {line}");
+}
+
+// The writer took so many bytes of the text.
+fn took_part(rt: &impl Abort, writer: &Narrow, text: &[u8], room: usize) {
+    assert_eq!(rt; writer.taken.len(), room);
+    assert!(rt; text.starts_with(writer.taken.as_slice()), "at {room}");
+}
+
+fn flushed(rt: &impl Abort, writer: &Narrow, flushes: u32, line: &str) {
+    assert_eq!(rt; writer.flushes, flushes, "at {line}");
 }
 
 // The line is carried out on a writer that takes a few bytes a call, which is flushed once.
@@ -130,16 +183,15 @@ pub(crate) fn goes_out(
     line: &str,
     text: &[u8],
 ) -> Result<(), Fail> {
-    let words = words_of(alloc, line)?;
-    let mut shelf = Shelf::new(alloc);
     let mut out = Narrow::new(alloc, text.len(), 7);
     let mut err = Narrow::new(alloc, 0, 7);
-    let status = command(alloc, words.as_slice(), &mut shelf, &mut out, &mut err);
-    assert_eq!(rt; status, 0, "at {line}");
-    assert!(rt; out.taken.as_slice() == text, "at {line}");
-    assert_eq!(rt; out.flushes, 1, "at {line}");
+    ends(rt, alloc, line, &mut out, &mut err, 0)?;
+    took(rt, &out, text, line);
+    flushed(rt, &out, 1, line);
     Ok(())
 }
+
+const NOT_WRITTEN: &str = "stdout:0: Write\n";
 
 // The writer fails after so many bytes, and after the whole text at the flush: status 3.
 pub(crate) fn breaks_off(
@@ -149,23 +201,13 @@ pub(crate) fn breaks_off(
     text: &[u8],
     room: usize,
 ) -> Result<(), Fail> {
-    let words = words_of(alloc, line)?;
-    let mut shelf = Shelf::new(alloc);
     let mut out = Narrow::new(alloc, room, 7);
     out.flush_fails = true;
     let mut err = Narrow::new(alloc, 99, 1);
-    let status = command(alloc, words.as_slice(), &mut shelf, &mut out, &mut err);
-    assert_eq!(rt; status, 3, "at {room} of {line}");
-    assert!(rt;
-        err.taken.as_slice() == b"stdout:0: Write\n".as_slice(),
-        "at {room} of {line}"
-    );
-    assert_eq!(rt; out.taken.len(), room, "at {line}");
-    assert!(rt;
-        text.starts_with(out.taken.as_slice()),
-        "at {room} of {line}"
-    );
-    assert_eq!(rt; out.flushes, u32::from(room == text.len()), "at {line}");
+    ends(rt, alloc, line, &mut out, &mut err, 3)?;
+    took(rt, &err, NOT_WRITTEN.as_bytes(), line);
+    took_part(rt, &out, text, room);
+    flushed(rt, &out, u32::from(room == text.len()), line);
     Ok(())
 }
 
@@ -201,31 +243,51 @@ fn dumps(rt: HostRuntime) -> Result<(), Fail> {
             SAMPLER_DUMP,
         ),
     ] {
-        let answer = answer_to(rt.alloc(), line)?;
-        assert_eq!(rt; answer.status, 0, "at {line}");
-        assert!(rt; answer.out.as_slice() == dump, "at {line}");
-        assert!(rt; answer.err.is_empty());
+        tells(&rt, rt.alloc(), line, dump, "")?;
     }
     Ok(())
 }
 
+// What goes out in this unit.
+fn out_in(alloc: Global, unit: &str) -> Result<Vec<u8>, AllocError> {
+    let line = format!(in alloc;
+        "plain --bench inv.bench --stimuli inv.stim --horizon 5 --unit {unit}"
+    )?;
+    Ok(answer_to(alloc, line.as_str())?.out)
+}
+
+// The inverter's dump in this unit.
+fn dump_in(alloc: Global, unit: &str) -> Result<Vec<u8>, AllocError> {
+    [&INVERTER_DUMP[..37], unit.as_bytes(), &INVERTER_DUMP[39..]].concat(alloc)
+}
+
 #[test]
 fn units(rt: HostRuntime) -> Result<(), Fail> {
-    let line = "plain --bench inv.bench --stimuli inv.stim --horizon 5 --unit";
     for unit in ["s", "ms", "us", "ns", "ps", "fs"] {
-        let line = format!(in rt.alloc(); "{line} {unit}")?;
-        let mut dump = Vec::from_slice(rt.alloc(), &INVERTER_DUMP[..37])?;
-        dump.extend_from_slice(unit.as_bytes())?;
-        dump.extend_from_slice(&INVERTER_DUMP[39..])?;
-        let answer = answer_to(rt.alloc(), line.as_str())?;
-        assert!(rt; answer.out.as_slice() == dump.as_slice(), "in {unit}");
+        let dump = dump_in(rt.alloc(), unit)?;
+        let out = out_in(rt.alloc(), unit)?;
+        assert!(rt; out.as_slice() == dump.as_slice(), "in {unit}");
     }
+    Ok(())
+}
+
+// With these options `plain` is refused, with this status and this fault line.
+fn refuses_plain(
+    rt: &impl Abort,
+    alloc: Global,
+    options: &str,
+    status: u8,
+    fault: &str,
+) -> Result<(), Fail> {
+    let line = format!(in alloc; "plain {options}")?;
+    let answer = answer_to(alloc, line.as_str())?;
+    is_answer(rt, &answer, options, status, b"", fault);
     Ok(())
 }
 
 #[test]
 fn faults(rt: HostRuntime) -> Result<(), Fail> {
-    for (line, status, fault) in [
+    for (options, status, fault) in [
         (
             "--bench inv.bench --delay 0 --period 0 --horizon 10000001",
             1,
@@ -287,16 +349,28 @@ fn faults(rt: HostRuntime) -> Result<(), Fail> {
             "memory:0: Memory\n",
         ),
     ] {
-        let line = format!(in rt.alloc(); "plain {line}")?;
-        let answer = answer_to(rt.alloc(), line.as_str())?;
-        assert_eq!(rt; answer.status, status, "at {line}");
-        assert!(rt; answer.err.as_slice() == fault.as_bytes(), "at {line}");
-        assert!(rt; answer.out.is_empty(), "at {line}");
+        refuses_plain(&rt, rt.alloc(), options, status, fault)?;
     }
     Ok(())
 }
 
 const PLAIN: &str = "plain --bench inv.bench --stimuli inv.stim --horizon 5";
+
+// The line ends with this status, and standard error, which has so much room, took this.
+fn says(
+    rt: &impl Abort,
+    alloc: Global,
+    line: &str,
+    out: &mut Narrow,
+    err_room: usize,
+    status: u8,
+    fault: &str,
+) -> Result<(), Fail> {
+    let mut err = Narrow::new(alloc, err_room, 7);
+    ends(rt, alloc, line, out, &mut err, status)?;
+    took(rt, &err, fault.as_bytes(), line);
+    Ok(())
+}
 
 // A writer of the dump and one of the faults, which fail at some byte or at the flush.
 #[test]
@@ -311,29 +385,13 @@ fn faulty_writers(rt: HostRuntime) -> Result<(), Fail> {
         ("--help", 9999, true, 99, 3, "stdout:0: Write\n"),
         ("--halp", 0, false, 6, 2, "error:"),
     ] {
-        let words = words_of(rt.alloc(), line)?;
-        let mut shelf = Shelf::new(rt.alloc());
         let mut out = Narrow::new(rt.alloc(), room, 7);
         out.flush_fails = flush_fails;
-        let mut err = Narrow::new(rt.alloc(), err_room, 7);
-        let got = command(rt.alloc(), words.as_slice(), &mut shelf, &mut out, &mut err);
-        assert_eq!(rt; got, status, "at {room}, {err_room}");
-        assert!(rt;
-            err.taken.as_slice() == fault.as_bytes(),
-            "at {room}, {err_room}"
-        );
+        says(&rt, rt.alloc(), line, &mut out, err_room, status, fault)?;
         if line == PLAIN {
-            assert_eq!(rt; out.taken.len(), room);
-            assert!(rt;
-                INVERTER_DUMP.starts_with(out.taken.as_slice()),
-                "at {room}"
-            );
+            took_part(&rt, &out, INVERTER_DUMP, room);
         }
-        assert_eq!(rt;
-            out.flushes,
-            u32::from(flush_fails || status == 0),
-            "at {room}, {err_room}"
-        );
+        flushed(&rt, &out, u32::from(flush_fails || status == 0), line);
     }
     Ok(())
 }

@@ -1,5 +1,5 @@
 //! Command lines through `command`: words that are wrong, and help.
-use crate::commanding::{answer_to, misuses};
+use crate::commanding::{Answer, answer_to, asked_for, misuses};
 use std::alloc::Global;
 use std::process::Abort;
 use std::test::Fail;
@@ -89,13 +89,21 @@ fn contains(text: &[u8], part: &str) -> bool {
 // Help goes out, with each of these parts, and no text is asked for.
 fn helps(rt: &impl Abort, alloc: Global, line: &str, parts: &[&str]) -> Result<(), Fail> {
     let answer = answer_to(alloc, line)?;
-    assert_eq!(rt; answer.status, 0, "at {line}");
+    goes_out_alone(rt, &answer, line);
     for part in parts {
-        assert!(rt; contains(answer.out.as_slice(), part), "{part} at {line}");
+        has_part(rt, &answer, part, line);
     }
-    assert!(rt; answer.err.is_empty(), "at {line}");
-    assert_eq!(rt; answer.asked, 0, "at {line}");
+    asked_for(rt, &answer, line, 0);
     Ok(())
+}
+
+fn goes_out_alone(rt: &impl Abort, answer: &Answer, line: &str) {
+    assert_eq!(rt; answer.status, 0, "at {line}");
+    assert!(rt; answer.err.is_empty(), "at {line}");
+}
+
+fn has_part(rt: &impl Abort, answer: &Answer, part: &str, line: &str) {
+    assert!(rt; contains(answer.out.as_slice(), part), "{part} at {line}");
 }
 
 #[test]

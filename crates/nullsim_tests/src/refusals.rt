@@ -12,6 +12,10 @@ fn refuses(rt: &impl Abort, alloc: Global, deck: &str, fault: &str) {
     let mut err = Narrow::new(alloc, 99, 1);
     assert_eq!(rt; tell(alloc, &mut input, &mut out, &mut err), 1);
     assert!(rt; err.taken.as_slice() == fault.as_bytes(), "not {fault}");
+    is_untouched(rt, &out, fault);
+}
+
+fn is_untouched(rt: &impl Abort, out: &Narrow, fault: &str) {
     assert!(rt; out.taken.is_empty(), "at {fault}");
     assert_eq!(rt; out.flushes, 0, "at {fault}");
 }

@@ -1,7 +1,6 @@
 //! Command lines through `command`: `run`, with schedules and counts.
-use crate::commanding::{Shelf, breaks_off, goes_out, misuses, refuses, tells, words_of};
+use crate::commanding::{breaks_off, ends, goes_out, misuses, refuses, tells, took};
 use crate::writers::Narrow;
-use nullsim::command;
 use std::alloc::Global;
 use std::process::Abort;
 use std::test::Fail;
@@ -220,14 +219,11 @@ fn faulty_writers(rt: HostRuntime) -> Result<(), Fail> {
 #[test]
 fn counts_without_room(rt: HostRuntime) -> Result<(), Fail> {
     for (room, told) in [(0, ""), (10, "events 7 c"), (36, COUNTS)] {
-        let words = words_of(rt.alloc(), COUNTED)?;
-        let mut shelf = Shelf::new(rt.alloc());
         let mut out = Vec::new(rt.alloc());
         let mut err = Narrow::new(rt.alloc(), room, 3);
-        let status = command(rt.alloc(), words.as_slice(), &mut shelf, &mut out, &mut err);
-        assert_eq!(rt; status, 0, "at {room}");
+        ends(&rt, rt.alloc(), COUNTED, &mut out, &mut err, 0)?;
         assert!(rt; out.as_slice() == INVERTER_DUMP);
-        assert!(rt; err.taken.as_slice() == told.as_bytes(), "at {room}");
+        took(&rt, &err, told.as_bytes(), COUNTED);
     }
     Ok(())
 }

@@ -1,7 +1,8 @@
 //! Decks through `tell`: dumps byte for byte, faulty streams.
 use crate::writers::Narrow;
-use nullsim::{deck, tell};
-use std::alloc::Global;
+use cmb_kernel::Counts;
+use nullsim::{Report, deck, tell};
+use std::alloc::{AllocError, Global};
 use std::io::{self, ErrorKind, Read};
 use std::process::Abort;
 use std::test::Fail;
@@ -63,23 +64,33 @@ fn worked_decks(rt: HostRuntime) {
     }
 }
 
+// So many events come before the rounds, and then each net is known up to this tick.
+fn comes_before(rt: &impl Abort, report: &Report, events: u64, least: u64) {
+    assert_eq!(rt; report.after.events, events);
+    assert_eq!(rt; report.least, least);
+}
+
+fn total_is(rt: &impl Abort, total: Counts, wanted: [u64; 4]) {
+    let counts = [total.events, total.changes, total.nulls, total.rounds];
+    assert_eq!(rt; counts, wanted);
+}
+
 #[test]
 fn report_of_a_deck(rt: HostRuntime) -> Result<(), Fail> {
     let mut out = Vec::new(rt.alloc());
     let report = deck(rt.alloc(), INVERTER, &mut out)?;
     assert!(rt; out.as_slice() == INVERTER_DUMP);
-    assert_eq!(rt; report.after.events, 0);
-    assert_eq!(rt; report.least, 0);
-    let total = report.total;
-    let counts = [total.events, total.changes, total.nulls, total.rounds];
-    assert_eq!(rt; counts, [7, 4, 3, 2]);
+    comes_before(&rt, &report, 0, 0);
+    total_is(&rt, report.total, [7, 4, 3, 2]);
+    report_of_a_schedule(&rt, rt.alloc())
+}
 
+fn report_of_a_schedule(rt: &impl Abort, alloc: Global) -> Result<(), Fail> {
     let scheduled =
         b"%nullsim 5\n%bench\nINPUT(a)\ny = NOT(a)\n%schedule\nadvance a\ndeliver y 0\nadvance y\n";
-    let mut out = Vec::new(rt.alloc());
-    let report = deck(rt.alloc(), scheduled, &mut out)?;
-    assert_eq!(rt; report.after.events, 3);
-    assert_eq!(rt; report.least, 6);
+    let mut out = Vec::new(alloc);
+    let report = deck(alloc, scheduled, &mut out)?;
+    comes_before(rt, &report, 3, 6);
     assert_eq!(rt; report.total, report.after);
     Ok(())
 }
@@ -158,23 +169,39 @@ fn a_flush_that_fails(rt: HostRuntime) {
     assert_eq!(rt; out.flushes, 1);
 }
 
+// A deck of ninety-six inputs.
+fn deck_of_inputs(alloc: Global) -> Result<String, AllocError> {
+    let mut deck = String::from_str(alloc, "%nullsim 0\n%bench\n")?;
+    for number in 0..96u32 {
+        deck.push_str(format!(in alloc; "INPUT(n{number})\n")?.as_str())?;
+    }
+    Ok(deck)
+}
+
+// What goes out for the deck, which is carried out.
+fn out_of(rt: &impl Abort, alloc: Global, deck: &str) -> Vec<u8> {
+    let mut input = deck.as_bytes();
+    let mut out = Vec::new(alloc);
+    let mut err = Vec::new(alloc);
+    assert_eq!(rt; tell(alloc, &mut input, &mut out, &mut err), 0);
+    out
+}
+
+fn contains(out: &[u8], line: &[u8]) -> bool {
+    !line.is_empty() && out.windows(line.len()).any(|part| part == line)
+}
+
 #[test]
 fn many_codes(rt: HostRuntime) -> Result<(), Fail> {
-    let mut deck = String::from_str(rt.alloc(), "%nullsim 0\n%bench\n")?;
-    for number in 0..96u32 {
-        deck.push_str(format!(in rt.alloc(); "INPUT(n{number})\n")?.as_str())?;
-    }
-    let mut input = deck.as_bytes();
-    let mut out = Vec::new(rt.alloc());
-    let mut err = Vec::new(rt.alloc());
-    assert_eq!(rt; tell(rt.alloc(), &mut input, &mut out, &mut err), 0);
+    let deck = deck_of_inputs(rt.alloc())?;
+    let out = out_of(&rt, rt.alloc(), deck.as_str());
     for line in [
         b"\n$var wire 1 ! n0 $end\n".as_slice(),
         b"\n$var wire 1 ~ n93 $end\n".as_slice(),
         b"\n$var wire 1 !! n94 $end\n".as_slice(),
         b"\n$var wire 1 \"! n95 $end\n".as_slice(),
     ] {
-        assert!(rt; out.windows(line.len()).any(|part| part == line));
+        assert!(rt; contains(out.as_slice(), line));
     }
     Ok(())
 }

@@ -1,5 +1,5 @@
 -- Readings that come one behind the other.
-use Rattle.std.proofs.Common.{◌≡◌, ℕ, List, [], ◌∷◌, ◌++◌, map, option_map, Option, None, Some, Bor, refl, ap, sym, subst, ◌∙◌, inl, inr, append_assoc}
+use Rattle.std.proofs.Common.{◌≡◌, ℕ, List, [], ◌∷◌, ◌++◌, map, Option, None, Some, refl, ap, sym, subst, ◌∙◌, inl, inr, append_assoc}
 use Rattle.std.proofs.lemmas.List.{append-nil, map-append}
 use Rattle.runs.specs.declared.fault.SimFault.{SimFault}
 use Rattle.runs.specs.declared.fault.SimFault.TheVariants.{Dump, Memory}
@@ -8,7 +8,7 @@ use Rattle.orders.specs.declared.input.ReadFault.{ReadFault}
 use Rattle.orders.specs.declared.input.ReadFault.TheVariants as read
 use Rattle.orders.specs.declared.program_fault.ProgramFault.{ProgramFault}
 use Rattle.orders.specs.Ends.{WriteEndsBy}
-use Rattle.orders.specs.ProgramFaults.{fault_of_read, fault_of_run}
+use Rattle.orders.specs.ProgramFaults.{fault_of_run}
 use Rattle.orders.specs.Readings.{AddsReadings, KnownReadings, Reading, ReadsAll, ReadsUntil, StopsAt, StopsBy, well_read, with_more}
 
 with_more-twice : (known : KnownReadings) (first second : List Reading) → with_more (with_more known first) second ≡ with_more known (first ++ second)
@@ -48,8 +48,8 @@ StopsAt-after first second old mid new name fault one (before, (behind, are, end
         behind,
         ap (λ files. first ++ files) are ∙ sym (append_assoc first before (name ∷ behind)),
         subst (AddsReadings old new)
-        (sym (append_assoc (map well_read first) (map well_read before) last) ∙ ap (λ readings. readings ++ last) (sym (map-append well_read first before)))
-        (AddsReadings-more old mid new (map well_read first) (map well_read before ++ last) one ends),
+            (sym (append_assoc (map well_read first) (map well_read before) last) ∙ ap (λ readings. readings ++ last) (sym (map-append well_read first before)))
+            (AddsReadings-more old mid new (map well_read first) (map well_read before ++ last) one ends),
       ),
     )
 

@@ -5,9 +5,9 @@ ghost use Rattle.text_lines.specs.Text.{longest_text};
 ghost use Rattle.orders.specs.Reading.{ConsumesSome, ReadsMore};
 ghost use Rattle.orders.specs.declared.input.ReadFault.TheVariants.{Memory};
 
-use text_lines::LONGEST_TEXT;
 use std::alloc::{AllocError, Global};
 use std::io::Read;
+use text_lines::LONGEST_TEXT;
 use thiserror::Error;
 
 /// Why a text could not be read.

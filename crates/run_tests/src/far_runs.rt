@@ -1,8 +1,9 @@
 //! Many nets over ten million ticks: `simulate` and `twin` give what the kernel knows, since the engine
 //! that goes tick by tick would have to reckon 200,000,000,000 values here, and a test has a minute.
-use logic3::{Change, Value};
-use runs::{Picks, Show, Source, View, simulate, twin};
+use logic3::{Change, Value, Waveform};
+use runs::{Picks, Show, Source, TwinAnswer, TwinFault, View, simulate, twin};
 use std::alloc::{AllocError, Global};
+use std::process::Abort;
 use std::test::Fail;
 use vcd_dump::TimeUnit;
 
@@ -34,37 +35,60 @@ fn driven(bench: &[u8]) -> Source<'_> {
     }
 }
 
-#[test]
-fn a_run(rt: HostRuntime) -> Result<(), Fail> {
-    let bench = inverters(rt.alloc(), 20_000)?;
+// The last tick of the runs. The proofs of the tests don't look at the number.
+fn last_tick() -> u64 {
+    10_000_000
+}
+
+// What the run of a text writes of its output.
+fn dump_of(alloc: Global, bench: &[u8]) -> Result<Vec<u8>, Fail> {
     let view = View {
-        horizon: 10_000_000,
+        horizon: last_tick(),
         show: Show::Outputs,
         unit: TimeUnit::Ns,
     };
-    let mut out = Vec::new(rt.alloc());
-    simulate(rt.alloc(), &driven(bench.as_slice()), &view, &mut out)?;
-    let dump =
-        b"$version nullsim 1 $end\n$timescale 1 ns $end\n$scope module top $end\n$var wire 1 ! y0 $end\n$upscope $end\n$enddefinitions $end\n#0\n$dumpvars\nx!\n$end\n#1000000\n1!\n#6000000\n0!\n#10000000\n";
-    assert!(rt; out.as_slice() == dump.as_slice());
+    let mut out = Vec::new(alloc);
+    simulate(alloc, &driven(bench), &view, &mut out)?;
+    Ok(out)
+}
+
+const DUMP: &[u8] =
+    b"$version nullsim 1 $end\n$timescale 1 ns $end\n$scope module top $end\n$var wire 1 ! y0 $end\n$upscope $end\n$enddefinitions $end\n#0\n$dumpvars\nx!\n$end\n#1000000\n1!\n#6000000\n0!\n#10000000\n";
+
+#[test]
+fn a_run(rt: HostRuntime) -> Result<(), Fail> {
+    let bench = inverters(rt.alloc(), 20_000)?;
+    let out = dump_of(rt.alloc(), bench.as_slice())?;
+    assert!(rt; out.as_slice() == DUMP);
     Ok(())
+}
+
+// What two runs of a text show of its output.
+fn twins_of(alloc: Global, bench: &[u8]) -> Result<TwinAnswer, TwinFault> {
+    let source = driven(bench);
+    twin(alloc, &source, &source, b"y0", last_tick())
+}
+
+const RISE: Change = Change {
+    tick: 1_000_000,
+    value: Value::One,
+};
+
+const FALL: Change = Change {
+    tick: 6_000_000,
+    value: Value::Zero,
+};
+
+fn rises_and_falls(rt: &impl Abort, wave: &Waveform) {
+    assert_eq!(rt; wave.changes(), [RISE, FALL].as_slice());
 }
 
 #[test]
 fn two_runs(rt: HostRuntime) -> Result<(), Fail> {
     let bench = inverters(rt.alloc(), 20_000)?;
-    let source = driven(bench.as_slice());
-    let answer = twin(rt.alloc(), &source, &source, b"y0", 10_000_000)?;
+    let answer = twins_of(rt.alloc(), bench.as_slice())?;
     assert!(rt; answer.agree);
-    let rise = Change {
-        tick: 1_000_000,
-        value: Value::One,
-    };
-    let fall = Change {
-        tick: 6_000_000,
-        value: Value::Zero,
-    };
-    assert_eq!(rt; answer.first.changes(), [rise, fall].as_slice());
-    assert_eq!(rt; answer.second.changes(), [rise, fall].as_slice());
+    rises_and_falls(&rt, &answer.first);
+    rises_and_falls(&rt, &answer.second);
     Ok(())
 }

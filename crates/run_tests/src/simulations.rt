@@ -76,15 +76,20 @@ fn all_up_to(horizon: u64) -> View {
     }
 }
 
+// The plain engine has this dump.
+fn dumps_plainly(rt: &impl Abort, alloc: Global, source: &Source, view: &View, dump: &[u8]) {
+    let mut out = Vec::new(alloc);
+    assert_eq!(rt; plain(alloc, source, view, &mut out), Ok(()));
+    assert!(rt; out.as_slice() == dump);
+}
+
 // The run ends with this report and this dump, which is the plain engine's too.
 fn runs(rt: &impl Abort, alloc: Global, source: Source, horizon: u64, report: Report, dump: &[u8]) {
     let view = all_up_to(horizon);
     let mut out = Vec::new(alloc);
     assert_eq!(rt; simulate(alloc, &source, &view, &mut out), Ok(report));
     assert!(rt; out.as_slice() == dump);
-    let mut second = Vec::new(alloc);
-    assert_eq!(rt; plain(alloc, &source, &view, &mut second), Ok(()));
-    assert!(rt; second.as_slice() == dump);
+    dumps_plainly(rt, alloc, &source, &view, dump);
 }
 
 // The same of a run without any events before its rounds.
@@ -93,14 +98,14 @@ fn completes(
     alloc: Global,
     source: Source,
     horizon: u64,
-    total: Counts,
+    total: (u64, u64, u64, u64),
     dump: &[u8],
 ) {
-    let after = counts(0, 0, 0, 0);
+    let (events, changes, nulls, rounds) = total;
     let report = Report {
-        after,
+        after: counts(0, 0, 0, 0),
         least: 0,
-        total,
+        total: counts(events, changes, nulls, rounds),
     };
     runs(rt, alloc, source, horizon, report, dump);
 }
@@ -109,14 +114,22 @@ fn completes(
 fn worked_runs(rt: HostRuntime) {
     assert_eq!(rt; INVERTER_DUMP.len(), 190);
     for (source, horizon, total, dump) in [
-        (INVERTER, 5, counts(7, 4, 3, 2), INVERTER_DUMP),
-        (INVERTER, 0, counts(2, 1, 1, 1), &INVERTER_DUMP[..169]),
-        (SLOW_INVERTER, 5, counts(2, 2, 2, 1), SLOW_DUMP),
-        (SELF_INVERTER, 3, counts(7, 0, 4, 4), SELF_INVERTER_DUMP),
-        (OSCILLATOR, 12, counts(24, 6, 5, 7), OSCILLATOR_DUMP),
-        (SAMPLER, 9, counts(7, 4, 2, 2), SAMPLER_DUMP),
-        (RING_COUNTER, 10, counts(21, 0, 8, 7), RING_COUNTER_DUMP),
-        (EDGE, 8, counts(19, 7, 6, 3), EDGE_DUMP),
+        (INVERTER, 5, (7, 4, 3, 2), INVERTER_DUMP),
+        (INVERTER, 0, (2, 1, 1, 1), &INVERTER_DUMP[..169]),
+        (SLOW_INVERTER, 5, (2, 2, 2, 1), SLOW_DUMP),
+        (EDGE, 8, (19, 7, 6, 3), EDGE_DUMP),
+    ] {
+        completes(&rt, rt.alloc(), source, horizon, total, dump);
+    }
+}
+
+#[test]
+fn worked_runs_with_memory(rt: HostRuntime) {
+    for (source, horizon, total, dump) in [
+        (SELF_INVERTER, 3, (7, 0, 4, 4), SELF_INVERTER_DUMP),
+        (OSCILLATOR, 12, (24, 6, 5, 7), OSCILLATOR_DUMP),
+        (SAMPLER, 9, (7, 4, 2, 2), SAMPLER_DUMP),
+        (RING_COUNTER, 10, (21, 0, 8, 7), RING_COUNTER_DUMP),
     ] {
         completes(&rt, rt.alloc(), source, horizon, total, dump);
     }
@@ -231,9 +244,7 @@ fn dumps_outputs(rt: &impl Abort, alloc: Global, source: Source, dump: &[u8]) {
         show: Show::Outputs,
         unit: TimeUnit::Ps,
     };
-    let mut out = Vec::new(alloc);
-    assert_eq!(rt; plain(alloc, &source, &view, &mut out), Ok(()));
-    assert!(rt; out.as_slice() == dump);
+    dumps_plainly(rt, alloc, &source, &view, dump);
 }
 
 #[test]

@@ -47,16 +47,32 @@ fn says(rt: &impl Abort, answer: &TwinAnswer, agree: bool, first: &[Change], sec
     is_wave(rt, &answer.second, second);
 }
 
+// The same of the net of this name in two sources, up to tick 5.
+fn compares(
+    rt: &impl Abort,
+    alloc: Global,
+    sides: (&Source, &Source),
+    name: &[u8],
+    agree: bool,
+    first: &[Change],
+    second: &[Change],
+) -> Result<(), Fail> {
+    let answer = twin(alloc, sides.0, sides.1, name, 5)?;
+    says(rt, &answer, agree, first, second);
+    Ok(())
+}
+
 #[test]
 fn a_net_of_two_circuits(rt: HostRuntime) -> Result<(), Fail> {
     let inverted = [change(1, Value::One), change(4, Value::Zero)];
-    let answer = twin(rt.alloc(), &ONE, &OTHER, b"y", 5)?;
-    says(&rt, &answer, true, &inverted, &inverted);
-    let answer = twin(rt.alloc(), &OTHER, &ONE, b"y", 5)?;
-    says(&rt, &answer, true, &inverted, &inverted);
     let both = [change(1, Value::Zero), change(4, Value::One)];
-    let answer = twin(rt.alloc(), &ONE, &OTHER, b"z", 5)?;
-    says(&rt, &answer, false, &both, &inverted);
+    for (sides, name, agree, first) in [
+        ((&ONE, &OTHER), b"y", true, &inverted),
+        ((&OTHER, &ONE), b"y", true, &inverted),
+        ((&ONE, &OTHER), b"z", false, &both),
+    ] {
+        compares(&rt, rt.alloc(), sides, name, agree, first, &inverted)?;
+    }
     Ok(())
 }
 
@@ -101,8 +117,8 @@ fn what_plays_no_part(rt: HostRuntime) -> Result<(), Fail> {
             ..ONE
         },
     ] {
-        let answer = twin(rt.alloc(), &ONE, &second, b"y", 5)?;
-        says(&rt, &answer, true, &inverted, &inverted);
+        let sides = (&ONE, &second);
+        compares(&rt, rt.alloc(), sides, b"y", true, &inverted, &inverted)?;
     }
     Ok(())
 }
@@ -113,10 +129,10 @@ fn what_plays_a_part(rt: HostRuntime) -> Result<(), Fail> {
         delays: b"y 2\n",
         ..ONE
     };
-    let answer = twin(rt.alloc(), &slower, &ONE, b"y", 5)?;
     let late = [change(2, Value::One), change(5, Value::Zero)];
     let inverted = [change(1, Value::One), change(4, Value::Zero)];
-    says(&rt, &answer, false, &late, &inverted);
+    let sides = (&slower, &ONE);
+    compares(&rt, rt.alloc(), sides, b"y", false, &late, &inverted)?;
 
     let other_clock = Source { period: 10, ..FLOP };
     let answer = twin(rt.alloc(), &FLOP, &other_clock, b"q", 9)?;
@@ -151,6 +167,10 @@ fn refuses_on_each(rt: &impl Abort, alloc: Global, source: Source<'static>, faul
     );
 }
 
+fn refuses_check(rt: &impl Abort, alloc: Global, source: &Source, horizon: u64, fault: SimFault) {
+    assert_eq!(rt; check(alloc, source, horizon), Err(fault));
+}
+
 #[test]
 fn faults_of_settings(rt: HostRuntime) {
     for (default_delay, period, fault) in [
@@ -180,7 +200,7 @@ fn a_horizon_too_far(rt: HostRuntime) {
     for horizon in [10_000_001, u64::MAX] {
         let answer = twin(rt.alloc(), &faulty, &faulty, b"y", horizon);
         refuses(&rt, answer, Side::First, fault);
-        assert_eq!(rt; check(rt.alloc(), &faulty, horizon), Err(fault));
+        refuses_check(&rt, rt.alloc(), &faulty, horizon, fault);
     }
 }
 
@@ -231,7 +251,7 @@ fn faults_of_texts(rt: HostRuntime) {
         ),
     ] {
         refuses_on_each(&rt, rt.alloc(), source, fault);
-        assert_eq!(rt; check(rt.alloc(), &source, 5), Err(fault));
+        refuses_check(&rt, rt.alloc(), &source, 5, fault);
     }
 }
 
@@ -253,16 +273,28 @@ fn first_side_first(rt: HostRuntime) {
     refuses(&rt, answer, Side::Second, fault);
 }
 
+// No net of this side has the name.
+fn refuses_name(
+    rt: &impl Abort,
+    alloc: Global,
+    sides: (&Source, &Source),
+    name: &[u8],
+    side: Side,
+) {
+    let answer = twin(alloc, sides.0, sides.1, name, 5);
+    refuses(rt, answer, side, SimFault::UnknownNet);
+}
+
 #[test]
 fn names_that_are_not_there(rt: HostRuntime) {
-    let answer = twin(rt.alloc(), &ONE, &OTHER, b"m", 5);
-    refuses(&rt, answer, Side::First, SimFault::UnknownNet);
-    let answer = twin(rt.alloc(), &OTHER, &ONE, b"m", 5);
-    refuses(&rt, answer, Side::Second, SimFault::UnknownNet);
-    let answer = twin(rt.alloc(), &ONE, &OTHER, b"zz", 5);
-    refuses(&rt, answer, Side::First, SimFault::UnknownNet);
-    let answer = twin(rt.alloc(), &ONE, &OTHER, b"", 5);
-    refuses(&rt, answer, Side::First, SimFault::UnknownNet);
+    for (sides, name, side) in [
+        ((&ONE, &OTHER), b"m".as_slice(), Side::First),
+        ((&OTHER, &ONE), b"m".as_slice(), Side::Second),
+        ((&ONE, &OTHER), b"zz".as_slice(), Side::First),
+        ((&ONE, &OTHER), b"".as_slice(), Side::First),
+    ] {
+        refuses_name(&rt, rt.alloc(), sides, name, side);
+    }
 }
 
 // The engines give the same waveform for each of so many nets, with so many pins.

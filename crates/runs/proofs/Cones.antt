@@ -35,40 +35,29 @@ none-from_no_some : (found : Option ℕ) → ((at : ℕ) → found ≢ Some at) 
 none-from_no_some None never = refl
 none-from_no_some (Some at) never = absurd (never at refl)
 
-some-from_test : (names : List (Bor (List ℕ))) → false ≡ (length names == 0) → 0 < length (seen_names names)
+pub some-from_test : (names : List (Bor (List ℕ))) → false ≡ (length names == 0) → 0 < length (seen_names names)
 some-from_test [] some = absurd (false≢true some)
 some-from_test (name ∷ names) some = omega arith
-
--- ---- the answer to a netlist's text and names
 
 -- what an extraction answers to names tells which of them no net has
 abbrev TellsUnknown : NetlistView → List (List ℕ) → Result NetlistView ConeFault → Type 0
 TellsUnknown netlist names result =
     result ≢ Err cone.Memory → (at : ℕ) → (result ≡ Err (cone.UnknownNet at)) ↔ (first_unknown netlist names ≡ Some at)
 
-module _ (text : List ℕ) (netlist : NetlistView) (read : Ok netlist ≡ netlist_of text) (names : List (Bor (List ℕ))) (some : false ≡ (length names == 0)) where
-  some_seen : 0 < length (seen_names names)
-  some_seen = some-from_test names some
-
-  IsConeAnswer-read : (answer : Result (List ℕ) SimFault) → IsConeOfNetlist netlist (seen_names names) answer → IsConeAnswer text (seen_names names) answer
-  IsConeAnswer-read answer is = rw (← read) is
-
+module _ (netlist : NetlistView) (names : List (List ℕ)) (some : 0 < length names) where
   -- the extraction is refused
-  pub IsConeAnswer-refused : (fault : ConeFault) → TellsUnknown netlist (seen_names names) (Err fault) → fault ≢ cone.Memory →
-      IsConeAnswer text (seen_names names) (Err (sim_of_cone fault))
-  IsConeAnswer-refused (cone.UnknownNet at) tells other =
-      IsConeAnswer-read _ (IsConeOfNetlist-unknown netlist (seen_names names) _ at some_seen ((tells (λ same. (cc)) at).0 refl) refl)
-  IsConeAnswer-refused cone.Memory tells other = absurd (other refl)
+  pub IsConeOfNetlist-refused : (fault : ConeFault) → TellsUnknown netlist names (Err fault) → fault ≢ cone.Memory →
+      IsConeOfNetlist netlist names (Err (sim_of_cone fault))
+  IsConeOfNetlist-refused (cone.UnknownNet at) tells other = IsConeOfNetlist-unknown netlist names _ at some ((tells (λ same. (cc)) at).0 refl) refl
+  IsConeOfNetlist-refused cone.Memory tells other = absurd (other refl)
 
   -- the text of the extract is written, or is too long
-  pub IsConeAnswer-extracted : (extract : NetlistView) → TellsUnknown netlist (seen_names names) (Ok extract) → IsExtract netlist (seen_names names) extract →
+  pub IsConeOfNetlist-extracted : (extract : NetlistView) → TellsUnknown netlist names (Ok extract) → IsExtract netlist names extract →
       (written : Result (List ℕ) BenchFault) → written ≡ within_limit (canonical extract) →
-      IsConeAnswer text (seen_names names) (or_fault sim_of_bench written)
-  IsConeAnswer-extracted extract tells extracted written is =
-      let known : first_unknown netlist (seen_names names) ≡ None =
-      none-from_no_some _ (λ at found. let same = (tells (λ same. (cc)) at).1 found in cc) in
-      IsConeAnswer-read _
-      (IsConeOfNetlist-known netlist (seen_names names) _ some_seen known (record { extract = extract; extracted = extracted; text = ap (or_fault sim_of_bench) is }))
+      IsConeOfNetlist netlist names (or_fault sim_of_bench written)
+  IsConeOfNetlist-extracted extract tells extracted written is =
+      let known : first_unknown netlist names ≡ None = none-from_no_some _ (λ at found. let same = (tells (λ same. (cc)) at).1 found in cc) in
+      IsConeOfNetlist-known netlist names _ some known (record { extract = extract; extracted = extracted; text = ap (or_fault sim_of_bench) is })
 
 -- ---- no answer is a failed write
 

@@ -23,6 +23,10 @@ RunEndsBy-BreaksOff old new text (Dump fault) part = part
 RunEndsBy-BreaksOff old new text Memory part = part
 RunEndsBy-BreaksOff old new text _ part = absurd part
 
+-- memory was wanting before a byte was written
+pub BreaksOff-memory : (old : Option (List ℕ)) (text : List ℕ) → BreaksOff old old text Memory
+BreaksOff-memory old text = (0, Appends-kept old old old _ (Appends-nil old) (Keeps-refl old))
+
 -- the whole of a text is a first part of it
 pub AppendsPrefix-whole : (old new : Option (List ℕ)) (text : List ℕ) → Appends old new text → AppendsPrefix old new text
 AppendsPrefix-whole old new text done =

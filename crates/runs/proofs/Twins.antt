@@ -1,24 +1,27 @@
 -- Two runs, step by step, and what they show of one net.
-use Rattle.std.proofs.Common.{◌≡◌, ℕ, ◌+◌, ◌<◌, ◌↔◌, Bool, false, IsTrue, List, [], ◌∷◌, length, Option, None, Some, IsSome, IfSome, Result, Ok, Err, refl, sym, ap, subst, ◌∙◌, arith, true≢false}
+use Rattle.std.proofs.Common.{◌≡◌, ℕ, ◌+◌, ◌<◌, ◌≤◌, ◌↔◌, All, Bool, false, IsTrue, List, [], ◌∷◌, length, Option, None, Some, IsSome, IfSome, Result, Ok, Err, refl, sym, ap, ◌∙◌, arith, true≢false}
 use Rattle.std.specs.Option.{ok_or, unwrap_or}
 use Rattle.logic3.specs.Wave.{wave_of}
 use Rattle.logic3.proofs.CallerLemmas.{wave_of_iff}
 use Rattle.netlist.specs.Netlist.{net_named}
-use Rattle.design.specs.Design.{DesignView}
+use Rattle.design.specs.Design.{DesignView, IsDesign}
 use Rattle.design.specs.Equations.{value_of}
 use Rattle.design.proofs.CallerLemmas.{net_at-named}
+use Rattle.cmb_kernel.specs.Schedule.{most_events}
+use Rattle.cmb_kernel.specs.Sound.{Exists}
 use Rattle.fanin_cone.specs.Agreement.{AgreesOn, net_of}
 use Rattle.fanin_cone.specs.Cone.{InCone, start}
 use Rattle.runs.specs.declared.fault.SimFault.{SimFault}
 use Rattle.runs.specs.declared.fault.SimFault.TheVariants.{UnknownNet, Dump, Memory}
+use Rattle.runs.specs.declared.preparation.PreparedRun.{PreparedRun}
 use Rattle.runs.specs.declared.twin_run.Side.{Side}
 use Rattle.runs.specs.declared.twin_run.Side.TheVariants.{First, Second}
 use Rattle.runs.specs.declared.twin_run.TwinAnswer.{TwinAnswer}
 use Rattle.runs.specs.declared.twin_run.TwinFault.{TwinFault}
 use Rattle.runs.specs.Ends.{IsRefusal}
 use Rattle.runs.specs.Source.{SourceView}
-use Rattle.runs.specs.Simulated.{RunView, run_of_source}
-use Rattle.runs.specs.Twins.{IsComparison, IsTwinRefusal, Twins, net_or_unknown, on, twins_of}
+use Rattle.runs.specs.Simulated.{RunView, run_of_source, seen_run}
+use Rattle.runs.specs.Twins.{CanCompare, IsComparison, IsTwinRefusal, Twins, net_or_unknown, on, twins_in, twins_of}
 use Rattle.runs.proofs.Isolated.{same_values}
 use Rattle.runs.proofs.Nets.{length-circuit}
 use Rattle.runs.proofs.Runs.{ready_of_run}
@@ -57,21 +60,24 @@ module _ (first second : SourceView) (name : List ℕ) (horizon : ℕ) where
     unfolding twins_of
     twins_of-bad_second fault bad = rw (made_one, bad) refl
 
-    module _ (other : RunView) (made_other : run_of_source second horizon ≡ Ok other) where
-      pub twins_of-bad_net : (fault : SimFault) → net_or_unknown one.design name ≡ Err fault → twins_of first second name horizon ≡ Err (on First fault)
-      unfolding twins_of
-      twins_of-bad_net fault bad = rw (made_one, made_other, bad) refl
+    pub twins_of-in : (other : RunView) → run_of_source second horizon ≡ Ok other → twins_of first second name horizon ≡ twins_in one other name
+    unfolding twins_of
+    twins_of-in other made_other = rw (made_one, made_other) refl
 
-      module _ (net : ℕ) (found : net_or_unknown one.design name ≡ Ok net) where
-        pub twins_of-bad_other_net : (fault : SimFault) → net_or_unknown other.design name ≡ Err fault →
-            twins_of first second name horizon ≡ Err (on Second fault)
-        unfolding twins_of
-        twins_of-bad_other_net fault bad = rw (made_one, made_other, found, bad) refl
+module _ (one other : RunView) (name : List ℕ) where
+  pub twins_in-bad_net : (fault : SimFault) → net_or_unknown one.design name ≡ Err fault → twins_in one other name ≡ Err (on First fault)
+  unfolding twins_in
+  twins_in-bad_net fault bad = rw bad refl
 
-        pub twins_of-good : (other_net : ℕ) → net_or_unknown other.design name ≡ Ok other_net →
-            twins_of first second name horizon ≡ Ok (record { first = one; second = other; net = net; other_net = other_net })
-        unfolding twins_of
-        twins_of-good other_net other_found = rw (made_one, made_other, found, other_found) refl
+  module _ (net : ℕ) (found : net_or_unknown one.design name ≡ Ok net) where
+    pub twins_in-bad_other_net : (fault : SimFault) → net_or_unknown other.design name ≡ Err fault → twins_in one other name ≡ Err (on Second fault)
+    unfolding twins_in
+    twins_in-bad_other_net fault bad = rw (found, bad) refl
+
+    pub twins_in-good : (other_net : ℕ) → net_or_unknown other.design name ≡ Ok other_net →
+        twins_in one other name ≡ Ok (record { first = one; second = other; net = net; other_net = other_net })
+    unfolding twins_in
+    twins_in-good other_net other_found = rw (found, other_found) refl
 
 -- ---- the net
 
@@ -80,11 +86,10 @@ named (Some other) net is = cc
 named None net is = cc
 
 -- a net that was found is one of the circuit's
-pub below_circuit : (source : SourceView) (horizon : ℕ) (run : RunView) (name : List ℕ) (net : ℕ) → run_of_source source horizon ≡ Ok run →
-    net_or_unknown run.design name ≡ Ok net → net < length run.design.circuit
-below_circuit source horizon run name net accepted found =
-    let at = net_at-named run.design.netlist name net (named (net_named run.design.netlist name) net found) in
-    let same = length-circuit run.design (ready_of_run source horizon run accepted).design in
+pub below_circuit : (design : DesignView) (name : List ℕ) (net : ℕ) → IsDesign design → net_or_unknown design name ≡ Ok net → net < length design.circuit
+below_circuit design name net is found =
+    let at = net_at-named design.netlist name net (named (net_named design.netlist name) net found) in
+    let same = length-circuit design is in
     omega (arith, at.0, same)
 
 -- ---- agreement
@@ -104,32 +109,45 @@ agrees_iff a b name horizon None found told = (
 
 -- ---- the comparison
 
-module _ (first second : SourceView) (horizon : ℕ) (one other : RunView) (name : List ℕ) (net other_net : ℕ)
-    (made_one : run_of_source first horizon ≡ Ok one) (made_other : run_of_source second horizon ≡ Ok other) (answer : TwinAnswer) where
-  abbrev twins : Twins
-  twins = record { first = one; second = other; net = net; other_net = other_net }
+-- two prepared runs can be compared
+pub CanCompare-made : (first second : SourceView) (horizon : ℕ) (one other : PreparedRun) → run_of_source first horizon ≡ Ok (seen_run one) →
+    run_of_source second horizon ≡ Ok (seen_run other) → All (Exists one.design.circuit) one.schedule → length one.schedule ≤ most_events →
+    All (Exists other.design.circuit) other.schedule → length other.schedule ≤ most_events → CanCompare one other
+CanCompare-made first second horizon one other made_one made_other exist few other_exist other_few =
+    let ready = ready_of_run first horizon (seen_run one) made_one in
+    let other_ready = ready_of_run second horizon (seen_run other) made_other in
+    record {
+      first = ready.design;
+      second = other_ready.design;
+      first_exist = exist;
+      second_exist = other_exist;
+      first_few = few;
+      second_few = other_few;
+      horizon = other_ready.horizon ∙ sym ready.horizon;
+    }
 
-  -- both runs end at the horizon that was asked for
+module _ (one other : PreparedRun) (can : CanCompare one other) (name : List ℕ) (net other_net : ℕ) (answer : TwinAnswer) where
+  abbrev twins : Twins
+  twins = record { first = seen_run one; second = seen_run other; net = net; other_net = other_net }
+
+  -- both runs end at one horizon
   pub IsComparison-made : (IsTrue answer.agree ↔ AgreesOn one.design other.design (InCone one.design.netlist (name ∷ [])) one.horizon) →
       answer.first ≡ wave_of (value_of one.design.circuit net) 0 (one.horizon + 1) →
-      answer.second ≡ wave_of (value_of other.design.circuit other_net) 0 (other.horizon + 1) → IsComparison twins name horizon answer
-  IsComparison-made agree first_is second_is =
-      let at_one = (ready_of_run first horizon one made_one).horizon in
-      let at_other = (ready_of_run second horizon other made_other).horizon in
-      record {
-        agree = subst (λ ticks. IsTrue answer.agree ↔ AgreesOn one.design other.design (InCone one.design.netlist (name ∷ [])) ticks) at_one agree;
-        first = first_is ∙ ap (λ ticks. wave_of (value_of one.design.circuit net) 0 (ticks + 1)) at_one;
-        second = second_is ∙ ap (λ ticks. wave_of (value_of other.design.circuit other_net) 0 (ticks + 1)) at_other;
-      }
+      answer.second ≡ wave_of (value_of other.design.circuit other_net) 0 (other.horizon + 1) → IsComparison twins name one.horizon answer
+  IsComparison-made agree first_is second_is = record {
+    agree = agree;
+    first = first_is;
+    second = second_is ∙ ap (λ ticks. wave_of (value_of other.design.circuit other_net) 0 (ticks + 1)) can.horizon;
+  }
 
   -- runs that agree on a net's cone show the same for it
-  pub same_waves : net_or_unknown one.design name ≡ Ok net → net_or_unknown other.design name ≡ Ok other_net → IsComparison twins name horizon answer →
-      IsTrue answer.agree → answer.first ≡ answer.second
+  pub same_waves : net_or_unknown one.design name ≡ Ok net → net_or_unknown other.design name ≡ Ok other_net →
+      IsComparison twins name one.horizon answer → IsTrue answer.agree → answer.first ≡ answer.second
   same_waves found other_found compared agrees =
       let f = value_of one.design.circuit net in
       let g = value_of other.design.circuit other_net in
-      let same : (tick : ℕ) → tick < horizon + 1 → f tick ≡ g tick =
-      λ tick due. same_values one.design other.design (ready_of_run first horizon one made_one).design (ready_of_run second horizon other made_other).design
-      name net other_net horizon (compared.agree.0 agrees)
+      let same : (tick : ℕ) → tick < one.horizon + 1 → f tick ≡ g tick =
+      λ tick due. same_values one.design other.design can.first can.second
+      name net other_net one.horizon (compared.agree.0 agrees)
       (named (net_named one.design.netlist name) net found) (named (net_named other.design.netlist name) other_net other_found) tick (omega arith) in
-      compared.first ∙ (wave_of_iff f g (horizon + 1)).1 same ∙ sym compared.second
+      compared.first ∙ (wave_of_iff f g (one.horizon + 1)).1 same ∙ sym compared.second

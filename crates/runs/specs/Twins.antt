@@ -1,15 +1,18 @@
 -- Two runs to one horizon, and what they show of one net.
-use Rattle.std.specs.Prelude.{◌≡◌, ℕ, ◌+◌, ◌↔◌, IsTrue, List, [], ◌∷◌, Result, Ok, Err}
+use Rattle.std.specs.Prelude.{◌≡◌, ℕ, ◌+◌, ◌≤◌, ◌↔◌, IsTrue, List, [], ◌∷◌, length, Result, Ok, Err, All}
 use Rattle.std.specs.Option.{ok_or}
 use Rattle.logic3.specs.Wave.{wave_of}
 use Rattle.text_lines.specs.Text.{◌>>=◌}
 use Rattle.netlist.specs.Netlist.{net_named}
-use Rattle.design.specs.Design.{DesignView}
+use Rattle.design.specs.Design.{DesignView, IsDesign}
 use Rattle.design.specs.Equations.{value_of}
+use Rattle.cmb_kernel.specs.Schedule.{most_events}
+use Rattle.cmb_kernel.specs.Sound.{Exists}
 use Rattle.fanin_cone.specs.Agreement.{AgreesOn}
 use Rattle.fanin_cone.specs.Cone.{InCone}
 use Rattle.runs.specs.declared.fault.SimFault.{SimFault}
 use Rattle.runs.specs.declared.fault.SimFault.TheVariants.{UnknownNet, Dump, Memory}
+use Rattle.runs.specs.declared.preparation.PreparedRun.{PreparedRun}
 use Rattle.runs.specs.declared.twin_run.Side.{Side}
 use Rattle.runs.specs.declared.twin_run.Side.TheVariants.{First, Second}
 use Rattle.runs.specs.declared.twin_run.TwinAnswer.{TwinAnswer}
@@ -32,14 +35,19 @@ pub record Twins : Type 0 where
   pub net : ℕ
   pub other_net : ℕ
 
--- the runs of two sources and the numbers of a net, or the first fault: the first source comes before the second, and the sources before the name
+-- the numbers of a net in two runs, or the first of them that has no net of the name
+unfoldable pub twins_in : RunView → RunView → List ℕ → Result Twins TwinFault
+twins_in one other name = do
+  net ← or_fault (on First) (net_or_unknown one.design name)
+  other_net ← or_fault (on Second) (net_or_unknown other.design name)
+  Ok (record { first = one; second = other; net = net; other_net = other_net })
+
+-- that of the runs of two sources, or the first fault: the first source comes before the second, and the sources before the name
 unfoldable pub twins_of : SourceView → SourceView → List ℕ → ℕ → Result Twins TwinFault
 twins_of first second name horizon = do
   one ← or_fault (on First) (run_of_source first horizon)
   other ← or_fault (on Second) (run_of_source second horizon)
-  net ← or_fault (on First) (net_or_unknown one.design name)
-  other_net ← or_fault (on Second) (net_or_unknown other.design name)
-  Ok (record { first = one; second = other; net = net; other_net = other_net })
+  twins_in one other name
 
 -- whether the runs agree on the fan-in cone of the net, and what its equations give it in both, up to the horizon
 pub record IsComparison (twins : Twins) (name : List ℕ) (horizon : ℕ) (answer : TwinAnswer) : Type 0 where
@@ -56,3 +64,13 @@ IsTwinRefusal answer fault = refused fault.side fault.fault
     refused side (Dump fault) = ⊥
     refused side Memory = Unit {0}
     refused side fault = answer ≡ Err (on side fault)
+
+-- two prepared runs that can be compared: both can run, to one horizon
+pub record CanCompare (one other : PreparedRun) : Type 0 where
+  pub first : IsDesign one.design
+  pub second : IsDesign other.design
+  pub first_exist : All (Exists one.design.circuit) one.schedule
+  pub second_exist : All (Exists other.design.circuit) other.schedule
+  pub first_few : length one.schedule ≤ most_events
+  pub second_few : length other.schedule ≤ most_events
+  pub horizon : other.horizon ≡ one.horizon

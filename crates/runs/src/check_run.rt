@@ -1,15 +1,17 @@
 //! The kernel and the plain engine, compared.
-ghost use Rattle.std.specs.Prelude.{◌≡◌, ◌<◌, ◌^◌, length, map, IfErr, IfOk, IsOkAnd, false};
+ghost use Rattle.std.specs.Prelude.{◌≡◌, ◌<◌, ◌≤◌, ◌^◌, length, map, All, IfErr, IfOk, IsOkAnd, false};
 ghost use Rattle.std.specs.List.{range_with_len};
 ghost use Rattle.logic3.specs.Wave.{wave_of};
 ghost use Rattle.design.specs.Equations.{value_of};
+ghost use Rattle.cmb_kernel.specs.Schedule.{most_events};
+ghost use Rattle.cmb_kernel.specs.Sound.{Exists};
 ghost use Rattle.runs.specs.Checked.{checked};
 ghost use Rattle.runs.specs.Ends.{IsRefusal};
 ghost use Rattle.runs.specs.Source.{seen_source};
-ghost use Rattle.runs.specs.Simulated.{IsKnown, run_of_source};
+ghost use Rattle.runs.specs.Simulated.{IsKnown, run_of_source, seen_run};
 
 use crate::fault::SimFault;
-use crate::preparation::prepare_run;
+use crate::preparation::{PreparedRun, prepare_run};
 use crate::simulation::complete;
 use crate::source::Source;
 use cmb_channels::Queues;
@@ -40,7 +42,17 @@ pub fn check(alloc: Global, source: &Source<'_>, horizon: u64) -> Result<CheckAn
     ensures err { IfErr result (IsRefusal (run_of_source (seen_source source.now) horizon)) }
 {
     let run = prepare_run(alloc, source, horizon)?;
-    let (kernel, _report) = complete(alloc, &run)?;
+    check_prepared(alloc, &run)
+}
+
+/// The same for a prepared run.
+fn check_prepared(alloc: Global, run: &PreparedRun) -> Result<CheckAnswer, SimFault>
+    requires exist { All (Exists run.now.design.circuit) run.now.schedule }
+    requires few { length run.now.schedule ≤ most_events }
+    ensures ok { IfOk result (λ answer. answer ≡ checked (seen_run run.now)) }
+    ensures err { IfErr result (λ fault. fault ≡ SimFault.Memory) }
+{
+    let (kernel, _report) = complete(alloc, run)?;
     let waves = plain_waves(alloc, &run.design, run.horizon)?;
     Ok(CheckAnswer {
         nets: run.design.nets(),

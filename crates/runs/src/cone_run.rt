@@ -1,12 +1,13 @@
 //! The nets in fan-in cones, as a text of their own.
-ghost use Rattle.std.specs.Prelude.{◌≡◌, ◌≢◌};
+ghost use Rattle.std.specs.Prelude.{◌≡◌, ◌≢◌, ◌<◌, length};
 ghost use Rattle.std.specs.Result.{result_map_both};
 ghost use Rattle.netlist.specs.Names.{seen_names};
-ghost use Rattle.runs.specs.ConeText.{IsConeAnswer};
+ghost use Rattle.runs.specs.ConeText.{IsConeAnswer, IsConeOfNetlist};
 
 use crate::fault::SimFault;
 use bench_text::{BenchFault, read, write};
 use fanin_cone::extract;
+use netlist::Netlist;
 use std::alloc::Global;
 
 /// The canonical .bench text of the nets in the fan-in cones of the nets of these names, in their
@@ -23,6 +24,15 @@ pub fn cone_text(alloc: Global, bench: &[u8], names: &[&[u8]]) -> Result<Vec<u8>
     if names.is_empty() {
         return Err(SimFault::Bench(BenchFault::NoNets));
     }
-    let cones = extract(alloc, &netlist, names)?;
+    extract_text(alloc, &netlist, names)
+}
+
+/// The text of the nets in the cones of at least one name.
+fn extract_text(alloc: Global, netlist: &Netlist, names: &[&[u8]]) -> Result<Vec<u8>, SimFault>
+    requires { 0 < length (seen_names names.now) }
+    ensures { result ≢ Err SimFault.Memory → IsConeOfNetlist netlist.now (seen_names names.now)
+        (result_map_both (λ text. text.items) (λ fault. fault) result) }
+{
+    let cones = extract(alloc, netlist, names)?;
     Ok(write(alloc, &cones)?)
 }

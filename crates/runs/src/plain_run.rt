@@ -2,8 +2,8 @@
 ghost use Rattle.std.specs.Prelude.{◌≡◌, ◌<◌, [], map, length, All, Some, IfOk, IfErr, IfSome, OnOk, IsOkAnd};
 ghost use Rattle.std.specs.Io.KnownBytes.{Appends};
 ghost use Rattle.design.specs.Design.{IsDesign};
-ghost use Rattle.runs.specs.Source.{design_of_source, dump_of_source, seen_source, shown_nets};
-ghost use Rattle.runs.specs.Ends.{RunEndsBy};
+ghost use Rattle.runs.specs.Source.{design_of_source, dump_of_design, dump_of_source, seen_source, shown_nets};
+ghost use Rattle.runs.specs.Ends.{BreaksOff, RunEndsBy};
 ghost use Rattle.runs.specs.Shown.{wave_at, waves_up_to};
 ghost use Rattle.runs.specs.Viewed.{ShowsValues};
 
@@ -39,10 +39,26 @@ pub fn plain<W: Write>(
         (W.contents out.old) (W.contents out.new)) }
 {
     let (design, horizon) = prepare(alloc, source, view.horizon)?;
-    let nets = shown_nets(alloc, &design, view.show)?;
-    let waves = shown_waves(alloc, &design, horizon, view.show, nets.as_slice())?;
+    dump_by_plain_engine(alloc, &design, horizon, view, out)
+}
+
+/// Runs a design by the plain engine, and writes the dump.
+fn dump_by_plain_engine<W: Write>(
+    alloc: Global,
+    design: &Design,
+    horizon: Horizon,
+    view: &View,
+    out: &mut W,
+) -> Result<(), SimFault>
+    ensures ok { OnOk result (Appends (W.contents out.old) (W.contents out.new)
+        (dump_of_design view.now horizon design.now)) }
+    ensures err { IfErr result (BreaksOff (W.contents out.old) (W.contents out.new)
+        (dump_of_design view.now horizon design.now)) }
+{
+    let nets = shown_nets(alloc, design, view.show)?;
+    let waves = shown_waves(alloc, design, horizon, view.show, nets.as_slice())?;
     let (nets, waves) = (nets.as_slice(), waves.as_slice());
-    write_dump(alloc, &design, horizon, view, nets, waves, out)
+    write_dump(alloc, design, horizon, view, nets, waves, out)
 }
 
 /// The waveforms of the nets that are shown.

@@ -7,8 +7,8 @@ ghost use Rattle.cmb_kernel.specs.State.{most_rounds};
 ghost use Rattle.cmb_kernel.specs.Step.{completed_within, steps};
 ghost use Rattle.cmb_kernel.specs.Schedule.{most_events};
 ghost use Rattle.cmb_kernel.specs.Sound.{Exists};
-ghost use Rattle.runs.specs.Source.{seen_source};
-ghost use Rattle.runs.specs.Ends.{RunEndsBy};
+ghost use Rattle.runs.specs.Source.{dump_of_design, seen_source};
+ghost use Rattle.runs.specs.Ends.{BreaksOff, RunEndsBy};
 ghost use Rattle.runs.specs.Simulated.{IsKnown, dump_in, report_of, reported, run_of_source, seen_run, simulated};
 ghost use Rattle.runs.specs.Viewed.{ShowsValues};
 
@@ -61,12 +61,49 @@ pub fn simulate<W: Write>(
         (W.contents out.old) (W.contents out.new)) }
 {
     let run = prepare_run(alloc, source, view.horizon)?;
-    let (kernel, report) = complete(alloc, &run)?;
-    let nets = shown_nets(alloc, &run.design, view.show)?;
-    let waves = known_waves(alloc, &kernel, nets.as_slice())?;
-    let (nets, waves) = (nets.as_slice(), waves.as_slice());
-    write_dump(alloc, &run.design, run.horizon, view, nets, waves, out)?;
+    dump_by_kernel(alloc, &run, view, out)
+}
+
+/// Runs to the end by the kernel, and writes the dump.
+fn dump_by_kernel<W: Write>(
+    alloc: Global,
+    run: &PreparedRun,
+    view: &View,
+    out: &mut W,
+) -> Result<Report, SimFault>
+    requires exist { All (Exists run.now.design.circuit) run.now.schedule }
+    requires few { length run.now.schedule ≤ most_events }
+    ensures ok { IfOk result (λ report. Appends (W.contents out.old) (W.contents out.new)
+        (dump_of_design view.now run.now.horizon run.now.design) × (report ≡ report_of (seen_run run.now))) }
+    ensures err { IfErr result (BreaksOff (W.contents out.old) (W.contents out.new)
+        (dump_of_design view.now run.now.horizon run.now.design)) }
+{
+    let (kernel, report) = complete(alloc, run)?;
+    write_known(alloc, &kernel, run, view, out)?;
     Ok(report)
+}
+
+/// Writes the dump of what a kernel knows at the end of a run.
+fn write_known<W: Write>(
+    alloc: Global,
+    kernel: &Kernel<'_, Queues>,
+    run: &PreparedRun,
+    view: &View,
+    out: &mut W,
+) -> Result<(), SimFault>
+    requires running { kernel.now.failed ≡ false }
+    requires known { IsKnown kernel.now }
+    requires circuit { kernel.now.circuit ≡ run.now.design.circuit }
+    requires end { kernel.now.end ≡ run.now.horizon + 1 }
+    ensures ok { OnOk result (Appends (W.contents out.old) (W.contents out.new)
+        (dump_of_design view.now run.now.horizon run.now.design)) }
+    ensures err { IfErr result (BreaksOff (W.contents out.old) (W.contents out.new)
+        (dump_of_design view.now run.now.horizon run.now.design)) }
+{
+    let nets = shown_nets(alloc, &run.design, view.show)?;
+    let waves = known_waves(alloc, kernel, nets.as_slice())?;
+    let (nets, waves) = (nets.as_slice(), waves.as_slice());
+    write_dump(alloc, &run.design, run.horizon, view, nets, waves, out)
 }
 
 /// A run's kernel at the end, where it knows each net up to the horizon, and the run's report.

@@ -7,7 +7,8 @@ ghost use Rattle.cmb_kernel.specs.Sound.{Exists};
 ghost use Rattle.fanin_cone.specs.Agreement.{AgreesOn};
 ghost use Rattle.fanin_cone.specs.Cone.{InCone};
 ghost use Rattle.runs.specs.Source.{seen_source};
-ghost use Rattle.runs.specs.Twins.{IsComparison, IsTwinRefusal, net_or_unknown, twins_of};
+ghost use Rattle.runs.specs.Simulated.{seen_run};
+ghost use Rattle.runs.specs.Twins.{CanCompare, IsComparison, IsTwinRefusal, net_or_unknown, twins_in, twins_of};
 
 use crate::fault::SimFault;
 use crate::preparation::{PreparedRun, prepare_run};
@@ -86,11 +87,27 @@ pub fn twin(
 {
     let one = Side::First.blame(prepare_run(alloc, first, horizon))?;
     let other = Side::Second.blame(prepare_run(alloc, second, horizon))?;
+    compare(alloc, &one, &other, name)
+}
+
+/// Runs two prepared runs to the end, and compares what the net of a name shows in both.
+fn compare(
+    alloc: Global,
+    one: &PreparedRun,
+    other: &PreparedRun,
+    name: &[u8],
+) -> Result<TwinAnswer, TwinFault>
+    requires { CanCompare one.now other.now }
+    ensures ok { IfOk result (λ answer. IsOkAnd (twins_in (seen_run one.now) (seen_run other.now) name.now)
+        (λ twins. IsComparison twins name.now one.now.horizon answer)) }
+    ensures isolated { IfOk result (λ answer. IsTrue answer.agree → answer.first ≡ answer.second) }
+    ensures err { IfErr result (IsTwinRefusal (twins_in (seen_run one.now) (seen_run other.now) name.now)) }
+{
     let net = Side::First.blame(net_named(&one.design, name))?;
     let other_net = Side::Second.blame(net_named(&other.design, name))?;
-    let agree = Side::First.blame(is_agreed(alloc, &one, &other, name))?;
-    let first = Side::First.blame(wave_at_end(alloc, &one, net))?;
-    let second = Side::Second.blame(wave_at_end(alloc, &other, other_net))?;
+    let agree = Side::First.blame(is_agreed(alloc, one, other, name))?;
+    let first = Side::First.blame(wave_at_end(alloc, one, net))?;
+    let second = Side::Second.blame(wave_at_end(alloc, other, other_net))?;
     Ok(TwinAnswer {
         agree,
         first,

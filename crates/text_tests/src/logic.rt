@@ -3,7 +3,22 @@ use GateKind::{And, Buf, Nand, Nor, Not, Or, Xnor, Xor};
 use Value::{One, Unknown, Zero};
 use logic3::{Change, GateKind, Value, Waveform, gate};
 use std::alloc::{AllocError, Global};
+use std::process::Abort;
 use std::test::Fail;
+
+// The gates of these pins.
+fn gates_are(rt: &impl Abort, pins: [Value; 2], and: Value, or: Value, xor: Value) {
+    assert_eq!(rt; gate(And, &pins), and);
+    assert_eq!(rt; gate(Or, &pins), or);
+    assert_eq!(rt; gate(Xor, &pins), xor);
+}
+
+// The negated gates of these pins show the opposites of these values.
+fn negated_gates_are(rt: &impl Abort, pins: [Value; 2], and: Value, or: Value, xor: Value) {
+    assert_eq!(rt; gate(Nand, &pins), gate(Not, &[and]));
+    assert_eq!(rt; gate(Nor, &pins), gate(Not, &[or]));
+    assert_eq!(rt; gate(Xnor, &pins), gate(Not, &[xor]));
+}
 
 // Entries of Kleene's strong tables, and of XOR, which is X as soon as one pin is.
 #[test]
@@ -17,28 +32,32 @@ fn gates_are_the_table(rt: HostRuntime) {
         (Unknown, Unknown, Unknown, Unknown, Unknown),
     ] {
         for pins in [[first, second], [second, first]] {
-            assert_eq!(rt; gate(And, &pins), and);
-            assert_eq!(rt; gate(Or, &pins), or);
-            assert_eq!(rt; gate(Xor, &pins), xor);
-            assert_eq!(rt; gate(Nand, &pins), gate(Not, &[and]));
-            assert_eq!(rt; gate(Nor, &pins), gate(Not, &[or]));
-            assert_eq!(rt; gate(Xnor, &pins), gate(Not, &[xor]));
+            gates_are(&rt, pins, and, or, xor);
+            negated_gates_are(&rt, pins, and, or, xor);
         }
     }
+}
+
+fn gates_of_one_pin(rt: &impl Abort, pin: Value, opposite: Value) {
+    assert_eq!(rt; gate(Buf, &[pin]), pin);
+    assert_eq!(rt; gate(Not, &[pin]), opposite);
+    assert_eq!(rt; gate(And, &[pin]), pin);
+    assert_eq!(rt; gate(Nor, &[pin]), opposite);
+}
+
+fn gates_of_three_pins(rt: &impl Abort) {
+    assert_eq!(rt; gate(Xor, &[One, One, One]), One);
+    assert_eq!(rt; gate(Xnor, &[One, One, One]), Zero);
+    assert_eq!(rt; gate(And, &[One, Unknown, Zero]), Zero);
+    assert_eq!(rt; gate(Nand, &[One, One, One]), Zero);
 }
 
 #[test]
 fn gates_of_one_and_of_three_pins(rt: HostRuntime) {
     for (pin, opposite) in [(Zero, One), (One, Zero), (Unknown, Unknown)] {
-        assert_eq!(rt; gate(Buf, &[pin]), pin);
-        assert_eq!(rt; gate(Not, &[pin]), opposite);
-        assert_eq!(rt; gate(And, &[pin]), pin);
-        assert_eq!(rt; gate(Nor, &[pin]), opposite);
+        gates_of_one_pin(&rt, pin, opposite);
     }
-    assert_eq!(rt; gate(Xor, &[One, One, One]), One);
-    assert_eq!(rt; gate(Xnor, &[One, One, One]), Zero);
-    assert_eq!(rt; gate(And, &[One, Unknown, Zero]), Zero);
-    assert_eq!(rt; gate(Nand, &[One, One, One]), Zero);
+    gates_of_three_pins(&rt);
 }
 
 const RISE: Change = Change {
@@ -61,12 +80,20 @@ fn grown(alloc: Global) -> Result<(Waveform, Waveform), AllocError> {
     Ok((wave, empty))
 }
 
+fn shows(rt: &impl Abort, wave: &Waveform, tick: u64, value: Value) {
+    assert_eq!(rt; wave.value_at(tick), value, "at {tick}");
+}
+
+fn rises_and_falls(rt: &impl Abort, wave: &Waveform) {
+    assert_eq!(rt; wave.before(), Unknown);
+    assert_eq!(rt; wave.changes(), [RISE, FALL].as_slice());
+}
+
 #[test]
 fn waveforms_grow_and_are_read(rt: HostRuntime) -> Result<(), Fail> {
     let (wave, empty) = grown(rt.alloc())?;
-    assert_eq!(rt; empty.value_at(7), Unknown);
-    assert_eq!(rt; wave.before(), Unknown);
-    assert_eq!(rt; wave.changes(), [RISE, FALL].as_slice());
+    shows(&rt, &empty, 7, Unknown);
+    rises_and_falls(&rt, &wave);
     for (tick, value) in [
         (0, Unknown),
         (1, One),
@@ -74,7 +101,7 @@ fn waveforms_grow_and_are_read(rt: HostRuntime) -> Result<(), Fail> {
         (4, Zero),
         (u64::MAX, Zero),
     ] {
-        assert_eq!(rt; wave.value_at(tick), value, "at {tick}");
+        shows(&rt, &wave, tick, value);
     }
     Ok(())
 }

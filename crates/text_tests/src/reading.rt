@@ -1,8 +1,8 @@
 //! Reading and writing .bench texts.
 use crate::texts::longest;
 use bench_text::{BenchFault, read, write};
-use netlist::{Netlist, Part};
 use logic3::GateKind;
+use netlist::{Netlist, Part};
 use std::alloc::{AllocError, Global};
 use std::process::Abort;
 use std::test::Fail;
@@ -15,15 +15,23 @@ fn net_is(rt: &impl Abort, netlist: &Netlist, net: u32, name: &[u8], part: Part,
     assert_eq!(rt; netlist.pins_of(net), pins);
 }
 
+fn finds(rt: &impl Abort, netlist: &Netlist, name: &[u8], net: Option<u32>) {
+    assert_eq!(rt; netlist.find(name), net);
+}
+
+fn is_inverter(rt: &impl Abort, netlist: &Netlist) {
+    assert_eq!(rt; netlist.nets(), 2);
+    net_is(rt, netlist, 0, b"a", Part::Input, &[]);
+    net_is(rt, netlist, 1, b"y", Part::Gate(GateKind::Not), &[0]);
+    assert_eq!(rt; netlist.outputs(), [1].as_slice());
+}
+
 #[test]
 fn the_inverter(rt: HostRuntime) -> Result<(), Fail> {
     let netlist = read(rt.alloc(), b"INPUT(a)\nOUTPUT(y)\ny = NOT(a)\n")?;
-    assert_eq!(rt; netlist.nets(), 2);
-    net_is(&rt, &netlist, 0, b"a", Part::Input, &[]);
-    net_is(&rt, &netlist, 1, b"y", Part::Gate(GateKind::Not), &[0]);
-    assert_eq!(rt; netlist.outputs(), [1].as_slice());
-    assert_eq!(rt; netlist.find(b"y"), Some(1));
-    assert_eq!(rt; netlist.find(b"z"), None);
+    is_inverter(&rt, &netlist);
+    finds(&rt, &netlist, b"y", Some(1));
+    finds(&rt, &netlist, b"z", None);
     Ok(())
 }
 
@@ -31,7 +39,7 @@ fn the_inverter(rt: HostRuntime) -> Result<(), Fail> {
 fn names_in_order_of_definition(rt: HostRuntime) -> Result<(), Fail> {
     let netlist = read(rt.alloc(), b"OUTPUT(y)\ny = NOT(n)\nn = NOT(a)\nINPUT(a)")?;
     for (net, name) in [(0, b"y"), (1, b"n"), (2, b"a")] {
-        assert_eq!(rt; netlist.find(name), Some(net));
+        finds(&rt, &netlist, name, Some(net));
     }
     Ok(())
 }
@@ -96,6 +104,13 @@ fn refused_texts(rt: HostRuntime) {
     }
 }
 
+// The netlist of the text has this canonical text.
+fn is_written(rt: &impl Abort, alloc: Global, text: &[u8], canonical: &[u8]) -> Result<(), Fail> {
+    let written = write(alloc, &read(alloc, text)?)?;
+    assert_eq!(rt; written.as_slice(), canonical);
+    Ok(())
+}
+
 #[test]
 fn canonical_texts(rt: HostRuntime) -> Result<(), Fail> {
     for (text, canonical) in [
@@ -120,21 +135,27 @@ fn canonical_texts(rt: HostRuntime) -> Result<(), Fail> {
             b"INPUT(a)\ng = NOT(a)\nh = BUF(a)\ni = DFF(h)\n".as_slice(),
         ),
     ] {
-        let written = write(rt.alloc(), &read(rt.alloc(), text)?)?;
-        assert_eq!(rt; written.as_slice(), canonical);
+        is_written(&rt, rt.alloc(), text, canonical)?;
     }
     Ok(())
+}
+
+// What `read` says of an input of this name.
+fn read_input(alloc: Global, name: &[u8]) -> Result<Result<Netlist, BenchFault>, AllocError> {
+    let text = [b"INPUT(".as_slice(), name, b")"].concat(alloc)?;
+    Ok(read(alloc, text.as_slice()))
+}
+
+fn first_name_is(rt: &impl Abort, netlist: &Netlist, name: &[u8]) {
+    assert!(rt; 0 < netlist.nets());
+    assert_eq!(rt; netlist.name(0), name);
 }
 
 #[test]
 fn limit_of_a_name(rt: HostRuntime) -> Result<(), Fail> {
     let name = [b'n'; 256];
-    let longest = [b"INPUT(".as_slice(), &name[..255], b")"].concat(rt.alloc())?;
-    let netlist = read(rt.alloc(), longest.as_slice())?;
-    assert_eq!(rt; netlist.name(0), &name[..255]);
-
-    let longer = [b"INPUT(".as_slice(), &name, b")"].concat(rt.alloc())?;
-    let answer = read(rt.alloc(), longer.as_slice());
+    first_name_is(&rt, &read_input(rt.alloc(), &name[..255])??, &name[..255]);
+    let answer = read_input(rt.alloc(), &name)?;
     assert_eq!(rt; answer.err(), Some(BenchFault::NameTooLong { line: 1 }));
     Ok(())
 }
@@ -156,13 +177,21 @@ fn wide_gate(alloc: Global, pins: usize) -> Result<Vec<u8>, AllocError> {
     Ok(text)
 }
 
+// What `read` says of that text.
+fn read_wide(alloc: Global, pins: usize) -> Result<Result<Netlist, BenchFault>, AllocError> {
+    let text = wide_gate(alloc, pins)?;
+    Ok(read(alloc, text.as_slice()))
+}
+
+fn gate_is_wide(rt: &impl Abort, netlist: &Netlist, pins: usize) {
+    assert_eq!(rt; netlist.nets(), 2);
+    assert_eq!(rt; netlist.pins_of(1).len(), pins);
+}
+
 #[test]
 fn limit_of_a_gate(rt: HostRuntime) -> Result<(), Fail> {
-    let netlist = read(rt.alloc(), wide_gate(rt.alloc(), 1024)?.as_slice())?;
-    assert_eq!(rt; netlist.nets(), 2);
-    assert_eq!(rt; netlist.pins_of(1).len(), 1024);
-
-    let answer = read(rt.alloc(), wide_gate(rt.alloc(), 1025)?.as_slice());
+    gate_is_wide(&rt, &read_wide(rt.alloc(), 1024)??, 1024);
+    let answer = read_wide(rt.alloc(), 1025)?;
     assert_eq!(rt; answer.err(), Some(BenchFault::BadArity { line: 2 }));
     Ok(())
 }
@@ -183,15 +212,26 @@ fn push_number(text: &mut Vec<u8>, number: u32) -> Result<(), AllocError> {
     text.extend_from_slice(digits.as_bytes())
 }
 
+// What `read` says of a hundred thousand inputs and this line.
+fn read_inputs(alloc: Global, more: &[u8]) -> Result<Result<Netlist, BenchFault>, AllocError> {
+    let mut text = numbered_inputs(alloc, 100_000)?;
+    text.extend_from_slice(more)?;
+    Ok(read(alloc, text.as_slice()))
+}
+
+fn are_inputs(rt: &impl Abort, netlist: &Netlist) {
+    nets_are(rt, netlist, 100_000);
+    finds(rt, netlist, b"n99999", Some(99_999));
+}
+
+fn nets_are(rt: &impl Abort, netlist: &Netlist, count: u32) {
+    assert_eq!(rt; netlist.nets(), count);
+}
+
 #[test]
 fn limit_of_nets(rt: HostRuntime) -> Result<(), Fail> {
-    let mut text = numbered_inputs(rt.alloc(), 100_000)?;
-    let netlist = read(rt.alloc(), text.as_slice())?;
-    assert_eq!(rt; netlist.nets(), 100_000);
-    assert_eq!(rt; netlist.find(b"n99999"), Some(99_999));
-
-    text.extend_from_slice(b"INPUT(more)")?;
-    let answer = read(rt.alloc(), text.as_slice());
+    are_inputs(&rt, &read_inputs(rt.alloc(), b"")??);
+    let answer = read_inputs(rt.alloc(), b"INPUT(more)")?;
     assert_eq!(rt; answer.err(), Some(BenchFault::TooMany));
     Ok(())
 }
@@ -253,7 +293,7 @@ fn limit_of_a_written_text(rt: HostRuntime) -> Result<(), Fail> {
 #[test]
 fn limit_of_a_text(rt: HostRuntime) -> Result<(), Fail> {
     let mut text = longest(rt.alloc(), b"INPUT(a)\n#")?;
-    assert_eq!(rt; read(rt.alloc(), text.as_slice())?.nets(), 1);
+    nets_are(&rt, &read(rt.alloc(), text.as_slice())?, 1);
     text.push(b'x')?;
     let answer = read(rt.alloc(), text.as_slice());
     assert_eq!(rt; answer.err(), Some(BenchFault::TooLong));

@@ -1,6 +1,6 @@
 //! Lines, words and numbers of texts.
-use text_lines::{code_lines, is_plain, number, words_of};
 use std::alloc::{AllocError, Global};
+use text_lines::{code_lines, is_plain, number, words_of};
 
 /// The most bytes that a text may have. The proofs of the tests don't look at the number.
 fn most_bytes() -> usize {

@@ -2,6 +2,7 @@
 use bench_text::read;
 use design::{BuildFault, DelayFault, Design, Horizon, OptionFault, StimulusFault, options};
 use std::alloc::Global;
+use std::process::Abort;
 use std::test::Fail;
 
 fn build(
@@ -13,6 +14,10 @@ fn build(
 ) -> Result<Result<Design, BuildFault>, Fail> {
     let netlist = read(alloc, b"INPUT(a)\nOUTPUT(y)\ny = NOT(a)\n")?;
     Ok(Design::build(alloc, netlist, delays, stimuli, default_delay, period))
+}
+
+fn is_refused(rt: &impl Abort, answer: Result<Design, BuildFault>, fault: BuildFault) {
+    assert_eq!(rt; answer.err(), Some(fault));
 }
 
 #[test]
@@ -37,11 +42,25 @@ fn faulty_stimuli(rt: HostRuntime) -> Result<(), Fail> {
         (b"0 a 1 \x0B".as_slice(), StimulusFault::BadLine { line: 1 }),
     ] {
         let answer = build(rt.alloc(), b"", text, 1, 10)?;
-        assert_eq!(rt; answer.err(), Some(BuildFault::Stimulus(fault)));
+        is_refused(&rt, answer, BuildFault::Stimulus(fault));
     }
     let built = build(rt.alloc(), b"", b"10000000 a 1 # the last tick", 1, 10)?;
     assert!(rt; built.is_ok());
     Ok(())
+}
+
+// With this delay text the inverter's gate has this delay.
+fn delays_gate(rt: &impl Abort, alloc: Global, text: &[u8], delay: u64) -> Result<(), Fail> {
+    let built = build(alloc, text, b"", 1, 10)?.map_err(|_| "a fault")?;
+    gate_has_delay(rt, &built, delay);
+    Ok(())
+}
+
+fn gate_has_delay(rt: &impl Abort, built: &Design, delay: u64) {
+    assert_eq!(rt; built.nets(), 2);
+    assert_eq!(rt; built.delay(1), delay);
+    assert_eq!(rt; built.delay(0), 0);
+    assert_eq!(rt; built.period(1), 10);
 }
 
 #[test]
@@ -63,20 +82,20 @@ fn faulty_delays(rt: HostRuntime) -> Result<(), Fail> {
         ),
     ] {
         let answer = build(rt.alloc(), text, b"", 1, 10)?;
-        assert_eq!(rt; answer.err(), Some(BuildFault::Timing(fault)));
+        is_refused(&rt, answer, BuildFault::Timing(fault));
     }
     for (text, delay) in [
         (b"y 1000000".as_slice(), 1_000_000),
         (b"y 0000000000000000000000000000000002".as_slice(), 2),
         (b"# y 3".as_slice(), 1),
     ] {
-        let built = build(rt.alloc(), text, b"", 1, 10)?.map_err(|_| "a fault")?;
-        assert_eq!(rt; built.nets(), 2);
-        assert_eq!(rt; built.delay(1), delay);
-        assert_eq!(rt; built.delay(0), 0);
-        assert_eq!(rt; built.period(1), 10);
+        delays_gate(&rt, rt.alloc(), text, delay)?;
     }
     Ok(())
+}
+
+fn options_are(rt: &impl Abort, delay: u64, period: u64, answer: Result<(), OptionFault>) {
+    assert_eq!(rt; options(delay, period), answer);
 }
 
 #[test]
@@ -87,16 +106,14 @@ fn settings_first(rt: HostRuntime) -> Result<(), Fail> {
         (1, 0, OptionFault::BadPeriod),
         (1, 10_000_001, OptionFault::BadPeriod),
     ] {
-        assert_eq!(rt; options(delay, period), Err(fault));
+        options_are(&rt, delay, period, Err(fault));
         let answer = build(rt.alloc(), b"y", b"0 a", delay, period)?;
-        assert_eq!(rt; answer.err(), Some(BuildFault::Setting(fault)));
+        is_refused(&rt, answer, BuildFault::Setting(fault));
     }
-    assert_eq!(rt; options(1_000_000, 10_000_000), Ok(()));
+    options_are(&rt, 1_000_000, 10_000_000, Ok(()));
     let answer = build(rt.alloc(), b"y", b"0 a", 1, 10)?;
-    assert_eq!(rt;
-        answer.err(),
-        Some(BuildFault::Timing(DelayFault::BadLine { line: 1 }))
-    );
+    let fault = DelayFault::BadLine { line: 1 };
+    is_refused(&rt, answer, BuildFault::Timing(fault));
     Ok(())
 }
 

@@ -3,8 +3,7 @@ use Rattle.std.specs.Option.{is_some}
 use Rattle.std.proofs.lemmas.List.{take_all}
 use Rattle.std.proofs.lemmas.List.Elements.{All-more, Contains-get_or}
 use Rattle.design.proofs.CallerLemmas.{length-circuit}
-use Rattle.netlist.specs.Netlist.{NetlistView}
-use Rattle.netlist.specs.Netlist.{name_at}
+use Rattle.netlist.specs.Netlist.{NetlistView, name_at}
 use Rattle.fanin_cone.specs.Cone.{IsConeOf}
 use Rattle.fanin_cone.specs.Agreement.{AgreesAt}
 use Rattle.fanin_cone.proofs.Agreeing.{AgreesOn-all, AgreesAt-of}

@@ -1,9 +1,13 @@
-use Rattle.std.proofs.Common.{◌∙◌}
-use Rattle.runs.specs.Simulated.{seen_run}
-use Rattle.runs.proofs.Checks.{waves_of-to_end}
+use Rattle.std.proofs.lemmas.Result.{IfErr-weaker}
+use Rattle.runs.specs.Ends.{IsRefusal}
+use Rattle.runs.specs.Source.{seen_source}
+use Rattle.runs.specs.Simulated.{run_of_source}
 use Rattle.runs.proofs.check_run.check.Goals as goal
 
-pub same_waves-requires-clause-waves : goal.same_waves-requires-clause-waves
-same_waves-requires-clause-waves c =
-    c.as_slice.ensures.value ∙ c.in_ok-waves.ensures
-    ∙ waves_of-to_end (seen_run c.in_ok-run.run') c.in_ok-kernel.kernel c.in_ok-kernel.ensures.circuit c.in_ok-kernel.ensures.end
+pub returns-clause-ok : goal.returns-clause-ok
+returns-clause-ok c = rw c.in_ok-run.ensures.ok c.check_prepared.ensures.ok
+
+pub returns-clause-err : goal.returns-clause-err
+returns-clause-err c =
+    IfErr-weaker c.check_prepared.result _ (IsRefusal (run_of_source (seen_source c.args.source.now) c.args.horizon))
+    (λ fault memory. rw memory tt) c.check_prepared.ensures.err

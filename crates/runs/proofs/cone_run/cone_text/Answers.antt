@@ -1,27 +1,9 @@
-use Rattle.std.proofs.Common.{Ok, Err, ap}
-use Rattle.std.proofs.lemmas.Result.{err_from_is_err_and}
-use Rattle.runs.specs.Faults.{sim_of_bench, sim_of_cone}
-use Rattle.runs.specs.Source.{or_fault}
-use Rattle.runs.proofs.Cones.{IsConeAnswer-refused, IsConeAnswer-extracted}
+use Rattle.runs.proofs.Cones.{some-from_test}
 use Rattle.runs.proofs.cone_run.cone_text.Goals as goal
 
-pub returns-in_err-cones : goal.returns-in_err-cones
-returns-in_err-cones c =
-    let p = err_from_is_err_and c.from_residual-in_err-cones.result c.from_residual-in_err-cones.ensures.1 in
-    rw (p.1, p.2) (λ not_memory.
-    IsConeAnswer-refused c.args.bench.now c.in_ok-netlist.netlist (c.in_ok-netlist.ensures (λ same. (cc))) c.args.names.now c.if-is_empty.ensures
-    c.in_err-cones.field-0.0 c.in_err-cones.ensures.unknown (λ same. not_memory (ap (λ fault. Err (sim_of_cone fault)) same)))
-
-pub returns-in_err-write : goal.returns-in_err-write
-returns-in_err-write c =
-    let p = err_from_is_err_and c.from_residual-in_err-write.result c.from_residual-in_err-write.ensures.1 in
-    rw (p.1, p.2) (λ not_memory.
-    IsConeAnswer-extracted c.args.bench.now c.in_ok-netlist.netlist (c.in_ok-netlist.ensures (λ same. (cc))) c.args.names.now c.if-is_empty.ensures
-    c.in_ok-cones.cones c.in_ok-cones.ensures.unknown c.in_ok-cones.ensures.extracted (Err c.in_err-write.field-0.0)
-    (c.in_err-write.ensures.written (λ same. not_memory (ap (or_fault sim_of_bench) same))))
+pub extract_text-requires : goal.extract_text-requires
+extract_text-requires c = some-from_test c.args.names.now c.if-is_empty.ensures
 
 pub returns : goal.returns
 returns c = λ not_memory.
-    IsConeAnswer-extracted c.args.bench.now c.in_ok-netlist.netlist (c.in_ok-netlist.ensures (λ same. (cc))) c.args.names.now c.if-is_empty.ensures
-    c.in_ok-cones.cones c.in_ok-cones.ensures.unknown c.in_ok-cones.ensures.extracted (Ok c.in_ok-write.field-0.items)
-    (c.in_ok-write.ensures.written (λ same. (cc)))
+    rw (← c.in_ok-netlist.ensures (λ same. (cc))) (c.extract_text.ensures not_memory)
