@@ -1,10 +1,11 @@
 //! Channels from nets to pins: what is sent waits at each pin, in order.
 ghost use Rattle.std.specs.Prelude.{◌≡◌, length};
 
+use crate::circuits::built;
+use Message::Null;
+use Step::{Sends, Takes, Waits};
 use Value::{One, Zero};
-use bench_text::read;
 use cmb_channels::{Fabric, Message, Queues};
-use design::Design;
 use logic3::{Change, Value};
 use std::alloc::{AllocError, Global};
 use std::process::Abort;
@@ -20,11 +21,18 @@ struct Channels<F: Fabric> {
     ghost has_pins: { length (F.lists fabric) ≡ pins },
 }
 
+// A net sends a message, so many wait at a pin, or a pin takes this one, if one waits.
+#[derive(Clone, Copy)]
+enum Step {
+    Sends(u32, Message),
+    Waits(u32, u64),
+    Takes(u32, Option<Message>),
+}
+
 impl<F: Fabric> Channels<F> {
     // Channels of a .bench text, with nothing in them.
     fn new(alloc: Global, bench: &[u8]) -> Result<Channels<F>, Fail> {
-        let netlist = read(alloc, bench)?;
-        let design = Design::build(alloc, netlist, b"", b"", 1, 10)?;
+        let design = built(alloc, bench, b"", b"", 10)?;
         Ok(Channels {
             fabric: F::empty_for(alloc, &design)?,
             nets: design.nets(),
@@ -35,6 +43,21 @@ impl<F: Fabric> Channels<F> {
     fn send(&mut self, rt: &impl Abort, net: u32, message: Message) -> Result<(), AllocError> {
         assert!(rt; net < self.nets);
         self.fabric.send(net, message)
+    }
+
+    // They join so many nets and pins.
+    fn join(&self, rt: &impl Abort, nets: u32, pins: u32) {
+        assert_eq!(rt; self.nets, nets);
+        assert_eq!(rt; self.pins, pins);
+    }
+
+    fn step(&mut self, rt: &impl Abort, step: Step) -> Result<(), AllocError> {
+        match step {
+            Sends(net, message) => self.send(rt, net, message)?,
+            Waits(pin, wanted) => self.waits(rt, pin, wanted),
+            Takes(pin, wanted) => self.takes(rt, pin, wanted),
+        }
+        Ok(())
     }
 
     // So many messages wait at the pin.
@@ -50,25 +73,34 @@ impl<F: Fabric> Channels<F> {
     }
 }
 
-fn change(tick: u64, value: Value) -> Message {
-    Message::Change(Change { tick, value })
-}
+const RISE: Message = Message::Change(Change {
+    tick: 3,
+    value: One,
+});
+
+const FALL: Message = Message::Change(Change {
+    tick: 5,
+    value: Zero,
+});
 
 // One net at two pins of a gate sends to both.
 fn double_pin<F: Fabric>(rt: &impl Abort, alloc: Global) -> Result<(), Fail> {
     let mut channels: Channels<F> = Channels::new(alloc, b"INPUT(a)\ny = XOR(a, a)\n")?;
-    assert_eq!(rt; channels.nets, 2);
-    assert_eq!(rt; channels.pins, 2);
-    channels.waits(rt, 0, 0);
-    channels.waits(rt, 1, 0);
-    channels.send(rt, 0, change(3, One))?;
-    channels.waits(rt, 0, 1);
-    channels.waits(rt, 1, 1);
-    channels.takes(rt, 0, Some(change(3, One)));
-    channels.waits(rt, 0, 0);
-    channels.waits(rt, 1, 1);
-    channels.takes(rt, 0, None);
-    channels.takes(rt, 1, Some(change(3, One)));
+    channels.join(rt, 2, 2);
+    for step in [
+        Waits(0, 0),
+        Waits(1, 0),
+        Sends(0, RISE),
+        Waits(0, 1),
+        Waits(1, 1),
+        Takes(0, Some(RISE)),
+        Waits(0, 0),
+        Waits(1, 1),
+        Takes(0, None),
+        Takes(1, Some(RISE)),
+    ] {
+        channels.step(rt, step)?;
+    }
     Ok(())
 }
 
@@ -76,22 +108,25 @@ fn double_pin<F: Fabric>(rt: &impl Abort, alloc: Global) -> Result<(), Fail> {
 fn order<F: Fabric>(rt: &impl Abort, alloc: Global) -> Result<(), Fail> {
     let bench = b"INPUT(a)\nINPUT(b)\ny = AND(b, a)\nz = NOT(a)\n";
     let mut channels: Channels<F> = Channels::new(alloc, bench)?;
-    assert_eq!(rt; channels.nets, 4);
-    assert_eq!(rt; channels.pins, 3);
-    channels.send(rt, 0, Message::Null(2))?;
-    channels.send(rt, 0, change(3, One))?;
-    channels.send(rt, 0, change(5, Zero))?;
-    channels.send(rt, 1, Message::Null(9))?;
-    channels.send(rt, 2, Message::Null(4))?;
-    channels.waits(rt, 0, 1);
-    channels.waits(rt, 1, 3);
-    channels.takes(rt, 2, Some(Message::Null(2)));
-    channels.takes(rt, 2, Some(change(3, One)));
-    channels.takes(rt, 2, Some(change(5, Zero)));
-    channels.takes(rt, 2, None);
-    channels.waits(rt, 1, 3);
-    channels.takes(rt, 1, Some(Message::Null(2)));
-    channels.takes(rt, 0, Some(Message::Null(9)));
+    channels.join(rt, 4, 3);
+    for step in [
+        Sends(0, Null(2)),
+        Sends(0, RISE),
+        Sends(0, FALL),
+        Sends(1, Null(9)),
+        Sends(2, Null(4)),
+        Waits(0, 1),
+        Waits(1, 3),
+        Takes(2, Some(Null(2))),
+        Takes(2, Some(RISE)),
+        Takes(2, Some(FALL)),
+        Takes(2, None),
+        Waits(1, 3),
+        Takes(1, Some(Null(2))),
+        Takes(0, Some(Null(9))),
+    ] {
+        channels.step(rt, step)?;
+    }
     Ok(())
 }
 

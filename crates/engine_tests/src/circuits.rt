@@ -17,10 +17,20 @@ pub(crate) struct Circuit {
 
 impl Circuit {
     pub(crate) fn build(&self, alloc: Global) -> Result<Design, Fail> {
-        let netlist = read(alloc, self.bench)?;
-        let built = Design::build(alloc, netlist, self.delays, self.stimuli, 1, self.period)?;
-        Ok(built)
+        built(alloc, self.bench, self.delays, self.stimuli, self.period)
     }
+}
+
+/// The design of these texts, for proofs that don't look at them.
+pub(crate) fn built(
+    alloc: Global,
+    bench: &[u8],
+    delays: &[u8],
+    stimuli: &[u8],
+    period: u64,
+) -> Result<Design, Fail> {
+    let netlist = read(alloc, bench)?;
+    Ok(Design::build(alloc, netlist, delays, stimuli, 1, period)?)
 }
 
 /// Two nets and one pin.

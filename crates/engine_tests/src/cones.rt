@@ -3,7 +3,8 @@ use crate::circuits::{Circuit, S27};
 use bench_text::{read, write};
 use design::{Design, Horizon};
 use fanin_cone::{ConeFault, agree, cone, extract};
-use std::alloc::{AllocError, Global};
+use netlist::Netlist;
+use std::alloc::Global;
 use std::process::Abort;
 use std::test::Fail;
 
@@ -46,15 +47,16 @@ const FLOP: Circuit = Circuit {
 
 const OTHER_FLOP: Circuit = Circuit { period: 4, ..FLOP };
 
-// What `agree` says; the proofs of the tests don't look at it.
+// What `agree` says of a design and a circuit; the proofs of the tests don't look at it.
 fn agreed(
     alloc: Global,
     first: &Design,
-    second: &Design,
+    second: Circuit,
     name: &[u8],
     horizon: Horizon,
-) -> Result<Option<bool>, AllocError> {
-    agree(alloc, first, second, name, horizon)
+) -> Result<Option<bool>, Fail> {
+    let second = second.build(alloc)?;
+    Ok(agree(alloc, first, &second, name, horizon)?)
 }
 
 // What `agree` says of two circuits for a name.
@@ -66,33 +68,57 @@ fn agree_so(
     horizon: u64,
     answer: Option<bool>,
 ) -> Result<(), Fail> {
-    let first = sides.0.build(alloc)?;
-    let second = sides.1.build(alloc)?;
     let horizon = Horizon::new(horizon)?;
-    assert_eq!(rt; agreed(alloc, &first, &second, name, horizon)?, answer);
+    let first = sides.0.build(alloc)?;
+    let agreed = agreed(alloc, &first, sides.1, name, horizon)?;
+    assert_eq!(rt; agreed, answer);
     Ok(())
 }
 
 #[test]
 fn agreement(rt: HostRuntime) -> Result<(), Fail> {
-    for (sides, name, horizon, answer) in [
-        ((FIRST, SECOND), b"y", 5, Some(true)),
-        ((SECOND, FIRST), b"y", 5, Some(true)),
-        ((FIRST, SECOND), b"z", 5, Some(false)),
-        ((SECOND, FIRST), b"z", 5, Some(false)),
-        ((FIRST, SECOND), b"m", 5, None),
-        ((SECOND, FIRST), b"m", 5, None),
-        // A change past the horizon plays no part, and one at the horizon does.
-        ((FIRST, LATER), b"y", 5, Some(true)),
-        ((FIRST, LATER), b"y", 6, Some(false)),
-        ((FIRST, BESIDE), b"y", 5, Some(true)),
-        ((FIRST, SLOWER), b"y", 5, Some(false)),
-        ((FLOP, OTHER_FLOP), b"d", 5, Some(true)),
-        ((FLOP, OTHER_FLOP), b"q", 5, Some(false)),
-    ] {
-        agree_so(&rt, rt.alloc(), sides, name, horizon, answer)?;
+    for (name, answer) in [(b"y", Some(true)), (b"z", Some(false)), (b"m", None)] {
+        agree_so(&rt, rt.alloc(), (FIRST, SECOND), name, 5, answer)?;
+        agree_so(&rt, rt.alloc(), (SECOND, FIRST), name, 5, answer)?;
     }
     Ok(())
+}
+
+// A change past the horizon plays no part, and one at the horizon does.
+#[test]
+fn agreement_with_others(rt: HostRuntime) -> Result<(), Fail> {
+    for (second, horizon, answer) in [
+        (LATER, 5, true),
+        (LATER, 6, false),
+        (BESIDE, 5, true),
+        (SLOWER, 5, false),
+    ] {
+        let sides = (FIRST, second);
+        agree_so(&rt, rt.alloc(), sides, b"y", horizon, Some(answer))?;
+    }
+    Ok(())
+}
+
+#[test]
+fn agreement_of_flops(rt: HostRuntime) -> Result<(), Fail> {
+    for (name, answer) in [(b"d", true), (b"q", false)] {
+        let sides = (FLOP, OTHER_FLOP);
+        agree_so(&rt, rt.alloc(), sides, name, 5, Some(answer))?;
+    }
+    Ok(())
+}
+
+// The cone of the net of this name.
+fn cone_of(
+    rt: &impl Abort,
+    alloc: Global,
+    circuit: Circuit,
+    name: &[u8],
+) -> Result<Vec<u32>, Fail> {
+    let design = circuit.build(alloc)?;
+    let net = design.find(name).expect(rt, "a net of this name");
+    prove!(net < design.nets());
+    Ok(cone(alloc, &design, net)?)
 }
 
 // The cone of the net of this name has just these nets.
@@ -103,10 +129,8 @@ fn has_cone(
     name: &[u8],
     nets: &[u32],
 ) -> Result<(), Fail> {
-    let design = circuit.build(alloc)?;
-    let net = design.find(name).expect(rt, "a net of this name");
-    prove!(net < design.nets());
-    assert_eq!(rt; cone(alloc, &design, net)?.as_slice(), nets);
+    let cone = cone_of(rt, alloc, circuit, name)?;
+    assert_eq!(rt; cone.as_slice(), nets);
     Ok(())
 }
 
@@ -127,6 +151,13 @@ fn worked_cones(rt: HostRuntime) -> Result<(), Fail> {
     Ok(())
 }
 
+// The name at this place is no net's.
+fn misses(rt: &impl Abort, alloc: Global, netlist: &Netlist, names: &[&[u8]], at: u64) {
+    assert!(rt; !names.is_empty());
+    let answer = extract(alloc, netlist, names);
+    assert_eq!(rt; answer.err(), Some(ConeFault::UnknownNet { at }));
+}
+
 #[test]
 fn unknown_names(rt: HostRuntime) -> Result<(), Fail> {
     let netlist = read(rt.alloc(), S27.bench)?;
@@ -134,10 +165,21 @@ fn unknown_names(rt: HostRuntime) -> Result<(), Fail> {
         ([b"G0".as_slice(), b"zz".as_slice()], 1),
         ([b"g0".as_slice(), b"zz".as_slice()], 0),
     ] {
-        let answer = extract(rt.alloc(), &netlist, names.as_slice());
-        assert_eq!(rt; answer.err(), Some(ConeFault::UnknownNet { at }));
+        misses(&rt, rt.alloc(), &netlist, names.as_slice(), at);
     }
     Ok(())
+}
+
+// What is extracted for these names.
+fn cones_of(
+    rt: &impl Abort,
+    alloc: Global,
+    bench: &[u8],
+    names: &[&[u8]],
+) -> Result<Netlist, Fail> {
+    assert!(rt; !names.is_empty());
+    let netlist = read(alloc, bench)?;
+    Ok(extract(alloc, &netlist, names)?)
 }
 
 // What is extracted for these names has this canonical text.
@@ -148,25 +190,28 @@ fn extracts(
     names: &[&[u8]],
     text: &[u8],
 ) -> Result<(), Fail> {
-    assert!(rt; !names.is_empty());
-    let cones = extract(alloc, &read(alloc, bench)?, names)?;
-    assert_eq!(rt; write(alloc, &cones)?.as_slice(), text);
+    let cones = cones_of(rt, alloc, bench, names)?;
+    let written = write(alloc, &cones)?;
+    assert_eq!(rt; written.as_slice(), text);
     Ok(())
 }
 
+const CONE_OF_Y: &[u8] = b"INPUT(a)\ny = NOT(a)\nOUTPUT(y)\n";
+
+const CONES_IN_S27: &[u8] = b"INPUT(G0)\nINPUT(G1)\nINPUT(G2)\nG7 = DFF(G13)\nG14 = NOT(G0)\n\
+      G12 = NOR(G1, G7)\nG13 = NOR(G2, G12)\nOUTPUT(G12)\nOUTPUT(G14)\n";
+
 #[test]
 fn extracts_of_cones(rt: HostRuntime) -> Result<(), Fail> {
-    let cone_of_y = b"INPUT(a)\ny = NOT(a)\nOUTPUT(y)\n".as_slice();
+    let y = [b"y".as_slice()];
     // A name that is asked for twice is one output.
     let in_s27 = [b"G12".as_slice(), b"G14".as_slice(), b"G12".as_slice()];
-    let cones_in_s27 = b"INPUT(G0)\nINPUT(G1)\nINPUT(G2)\nG7 = DFF(G13)\nG14 = NOT(G0)\n\
-          G12 = NOR(G1, G7)\nG13 = NOR(G2, G12)\nOUTPUT(G12)\nOUTPUT(G14)\n";
-    for (circuit, names, text) in [
-        (FIRST, [b"y".as_slice()].as_slice(), cone_of_y),
-        (SECOND, [b"y".as_slice()].as_slice(), cone_of_y),
-        (S27, in_s27.as_slice(), cones_in_s27.as_slice()),
+    for (bench, names, text) in [
+        (FIRST.bench, y.as_slice(), CONE_OF_Y),
+        (SECOND.bench, y.as_slice(), CONE_OF_Y),
+        (S27.bench, in_s27.as_slice(), CONES_IN_S27),
     ] {
-        extracts(&rt, rt.alloc(), circuit.bench, names, text)?;
+        extracts(&rt, rt.alloc(), bench, names, text)?;
     }
     Ok(())
 }

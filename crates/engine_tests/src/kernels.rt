@@ -9,6 +9,7 @@ use Event::{Advance, Deliver};
 use cmb_channels::Queues;
 use cmb_kernel::{Counts, Event, Kernel, KernelFault};
 use design::{Design, Horizon, plain_waves};
+use logic3::Waveform;
 use std::alloc::{AllocError, Global};
 use std::process::Abort;
 use std::test::Fail;
@@ -27,6 +28,30 @@ fn counts_are(rt: &impl Abort, kernel: &Kernel<Queues>, wanted: Counts) {
     assert_eq!(rt; kernel.counts(), wanted);
 }
 
+// The net shows this up to a tick, and is known up to there.
+fn shows(
+    rt: &impl Abort,
+    design: &Design,
+    kernel: &Kernel<Queues>,
+    net: u32,
+    wanted: &Waveform,
+    end: u64,
+)
+    requires { kernel.now.circuit ≡ design.now.circuit }
+{
+    assert!(rt; !kernel.is_failed());
+    let nets = design.nets();
+    assert!(rt; net < nets);
+    assert!(rt; kernel.waveform(net) == wanted);
+    assert_eq!(rt; kernel.frontier(net), end);
+}
+
+fn is_complete(rt: &impl Abort, kernel: &Kernel<Queues>, end: u64) {
+    assert!(rt; !kernel.is_failed());
+    assert!(rt; kernel.is_complete());
+    assert_eq!(rt; kernel.least_frontier(), end);
+}
+
 // The kernel is complete, and each net shows what the plain engine says.
 fn shows_all(
     rt: &impl Abort,
@@ -37,14 +62,12 @@ fn shows_all(
 ) -> Result<(), Fail>
     requires { kernel.now.circuit ≡ design.now.circuit }
 {
-    assert!(rt; !kernel.is_failed());
-    assert!(rt; kernel.is_complete());
-    assert_eq!(rt; kernel.least_frontier(), horizon.ticks() + 1);
+    let end = horizon.ticks() + 1;
+    is_complete(rt, kernel, end);
     let waves = plain_waves(alloc, design, horizon)?;
     for net in 0..design.nets() {
         let wanted = waves.get(net as usize).expect(rt, "a waveform of this net");
-        assert!(rt; kernel.waveform(net) == wanted);
-        assert_eq!(rt; kernel.frontier(net), horizon.ticks() + 1);
+        shows(rt, design, kernel, net, wanted, end);
     }
     Ok(())
 }
@@ -71,6 +94,37 @@ fn least_frontier_is(rt: &impl Abort, kernel: &Kernel<Queues>, wanted: u64) {
     assert_eq!(rt; kernel.least_frontier(), wanted);
 }
 
+// Applies the events, with these counts and this least frontier after them.
+fn apply_first(
+    rt: &impl Abort,
+    kernel: &mut Kernel<Queues>,
+    events: &[Event],
+    after: (Counts, u64),
+) -> Result<(), Fail>
+    ensures { OnOk result (kernel.new.circuit ≡ kernel.old.circuit) }
+{
+    apply(kernel, events)?;
+    counts_are(rt, kernel, after.0);
+    least_frontier_is(rt, kernel, after.1);
+    Ok(())
+}
+
+// Completes, shows what the plain engine says, and stays as it is.
+fn complete_twice(
+    rt: &impl Abort,
+    alloc: Global,
+    design: &Design,
+    horizon: Horizon,
+    kernel: &mut Kernel<Queues>,
+    total: Counts,
+) -> Result<(), Fail>
+    requires { kernel.old.circuit ≡ design.now.circuit }
+{
+    complete(rt, kernel, total)?;
+    shows_all(rt, alloc, design, horizon, kernel)?;
+    complete(rt, kernel, total)
+}
+
 // Applies the events and completes, with these counts and least frontier in between and at the end.
 fn run(
     rt: &impl Abort,
@@ -81,15 +135,23 @@ fn run(
     after: (Counts, u64),
     total: Counts,
 ) -> Result<(), Fail> {
-    let design = circuit.build(alloc)?;
     let horizon = Horizon::new(horizon)?;
-    let mut kernel: Kernel<Queues> = Kernel::new(alloc, &design, horizon)?;
-    apply(&mut kernel, events)?;
-    counts_are(rt, &kernel, after.0);
-    least_frontier_is(rt, &kernel, after.1);
-    complete(rt, &mut kernel, total)?;
-    shows_all(rt, alloc, &design, horizon, &kernel)?;
-    complete(rt, &mut kernel, total)
+    let design = circuit.build(alloc)?;
+    run_design(rt, alloc, &design, horizon, events, after, total)
+}
+
+fn run_design(
+    rt: &impl Abort,
+    alloc: Global,
+    design: &Design,
+    horizon: Horizon,
+    events: &[Event],
+    after: (Counts, u64),
+    total: Counts,
+) -> Result<(), Fail> {
+    let mut kernel: Kernel<Queues> = Kernel::new(alloc, design, horizon)?;
+    apply_first(rt, &mut kernel, events, after)?;
+    complete_twice(rt, alloc, design, horizon, &mut kernel, total)
 }
 
 #[test]
@@ -194,27 +256,41 @@ fn limit_of_events(
     Ok(())
 }
 
+// The first events of a kernel of the inverter: one of them is useful.
+fn first_events(rt: &impl Abort, kernel: &mut Kernel<Queues>) -> Result<(), Fail>
+    ensures { OnOk result (kernel.new.circuit ≡ kernel.old.circuit) }
+{
+    applies(rt, kernel, Deliver(0), false)?;
+    applies(rt, kernel, Advance(1), true)?;
+    applies(rt, kernel, Advance(1), false)?;
+    counts_are(rt, kernel, counts(3, 0, 1, 0));
+    Ok(())
+}
+
+// Events of nets and pins that the inverter doesn't have.
+fn refused_events(rt: &impl Abort, kernel: &mut Kernel<Queues>)
+    ensures { kernel.new.circuit ≡ kernel.old.circuit }
+{
+    let no_such_pin = KernelFault::NoSuchPin { at: 0 };
+    refuses_one(rt, kernel, Deliver(1), no_such_pin);
+    let no_such_net = KernelFault::NoSuchNet { at: 1 };
+    refuses(rt, kernel, &[Advance(0), Advance(2)], no_such_net);
+}
+
+fn use_fresh(rt: &impl Abort, alloc: Global, design: &Design) -> Result<(), Fail> {
+    let mut kernel: Kernel<Queues> = Kernel::new(alloc, design, Horizon::new(5)?)?;
+    first_events(rt, &mut kernel)?;
+    refused_events(rt, &mut kernel);
+    knows_nothing(rt, design, &kernel);
+    limit_of_events(rt, alloc, &mut kernel)?;
+    counts_are(rt, &kernel, counts(3, 0, 1, 0));
+    Ok(())
+}
+
 #[test]
 fn fresh_kernel(rt: HostRuntime) -> Result<(), Fail> {
     let design = INVERTER.build(rt.alloc())?;
-    let mut kernel: Kernel<Queues> = Kernel::new(rt.alloc(), &design, Horizon::new(5)?)?;
-    applies(&rt, &mut kernel, Deliver(0), false)?;
-    applies(&rt, &mut kernel, Advance(1), true)?;
-    applies(&rt, &mut kernel, Advance(1), false)?;
-    counts_are(&rt, &kernel, counts(3, 0, 1, 0));
-
-    let no_such_net = KernelFault::NoSuchNet { at: 1 };
-    refuses_one(
-        &rt,
-        &mut kernel,
-        Deliver(1),
-        KernelFault::NoSuchPin { at: 0 },
-    );
-    refuses(&rt, &mut kernel, &[Advance(0), Advance(2)], no_such_net);
-    knows_nothing(&rt, &design, &kernel);
-    limit_of_events(&rt, rt.alloc(), &mut kernel)?;
-    counts_are(&rt, &kernel, counts(3, 0, 1, 0));
-    Ok(())
+    use_fresh(&rt, rt.alloc(), &design)
 }
 
 // Applies the event that the kernel calls useful.
@@ -231,28 +307,42 @@ fn nothing_is_useful(rt: &impl Abort, kernel: &Kernel<Queues>) {
     assert!(rt; kernel.is_complete());
 }
 
-#[test]
-fn driven_by_useful(rt: HostRuntime) -> Result<(), Fail> {
-    let design = SELF_INVERTER.build(rt.alloc())?;
-    let mut kernel: Kernel<Queues> = Kernel::new(rt.alloc(), &design, Horizon::new(3)?)?;
+// Seven events are useful, one after the other.
+fn drive(rt: &impl Abort, alloc: Global, design: &Design) -> Result<(), Fail> {
+    let mut kernel: Kernel<Queues> = Kernel::new(alloc, design, Horizon::new(3)?)?;
     for _event in 0..7 {
-        apply_useful(&rt, &mut kernel)?;
+        apply_useful(rt, &mut kernel)?;
     }
-    nothing_is_useful(&rt, &kernel);
-    counts_are(&rt, &kernel, counts(7, 0, 4, 0));
+    nothing_is_useful(rt, &kernel);
+    counts_are(rt, &kernel, counts(7, 0, 4, 0));
     Ok(())
 }
 
-// At each pin so many messages wait, and so many ticks of its source it knows.
-fn pins_have(rt: &impl Abort, design: &Design, kernel: &Kernel<Queues>, wanted: &[(u64, u64)])
+#[test]
+fn driven_by_useful(rt: HostRuntime) -> Result<(), Fail> {
+    let design = SELF_INVERTER.build(rt.alloc())?;
+    drive(&rt, rt.alloc(), &design)
+}
+
+// At the pin so many messages wait, and so many ticks of its source it knows.
+fn pin_has(rt: &impl Abort, design: &Design, kernel: &Kernel<Queues>, pin: u32, wanted: (u64, u64))
     requires { kernel.now.circuit ≡ design.now.circuit }
 {
     assert!(rt; !kernel.is_failed());
+    let pins = design.pins();
+    assert!(rt; pin < pins);
+    assert_eq!(rt; kernel.waiting(pin), wanted.0);
+    assert_eq!(rt; kernel.received(pin), wanted.1);
+}
+
+// The same of each pin.
+fn pins_have(rt: &impl Abort, design: &Design, kernel: &Kernel<Queues>, wanted: &[(u64, u64)])
+    requires { kernel.now.circuit ≡ design.now.circuit }
+{
     assert_eq!(rt; design.pins() as usize, wanted.len());
     for pin in 0..design.pins() {
         let has = wanted.get(pin as usize).expect(rt, "what this pin has");
-        assert_eq!(rt; kernel.waiting(pin), has.0);
-        assert_eq!(rt; kernel.received(pin), has.1);
+        pin_has(rt, design, kernel, pin, *has);
     }
 }
 
@@ -263,13 +353,18 @@ fn round(rt: &impl Abort, kernel: &mut Kernel<Queues>, wanted: Counts) -> Result
     Ok(())
 }
 
+// What the pins have after two events, and a round after them.
+fn wait_and_receive(rt: &impl Abort, alloc: Global, design: &Design) -> Result<(), Fail> {
+    let mut kernel: Kernel<Queues> = Kernel::new(alloc, design, Horizon::new(8)?)?;
+    apply(&mut kernel, &[Advance(0), Deliver(1)])?;
+    pins_have(rt, design, &kernel, &[(3, 0), (2, 1), (0, 0)]);
+    round(rt, &mut kernel, counts(10, 4, 3, 1))
+}
+
 #[test]
 fn waits_and_receives(rt: HostRuntime) -> Result<(), Fail> {
     let design = LATE_PIN.build(rt.alloc())?;
-    let mut kernel: Kernel<Queues> = Kernel::new(rt.alloc(), &design, Horizon::new(8)?)?;
-    apply(&mut kernel, &[Advance(0), Deliver(1)])?;
-    pins_have(&rt, &design, &kernel, &[(3, 0), (2, 1), (0, 0)]);
-    round(&rt, &mut kernel, counts(10, 4, 3, 1))
+    wait_and_receive(&rt, rt.alloc(), &design)
 }
 
 #[test]

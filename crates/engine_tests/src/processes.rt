@@ -3,9 +3,9 @@ ghost use Rattle.std.specs.Prelude.{◌≡◌, false, length, option_map, slice_
 ghost use Rattle.logic3.specs.Wave.{last_value};
 ghost use Rattle.gate_process.specs.Knowledge.{Knowledge};
 
+use crate::circuits::built;
 use Message::Null;
 use Value::{One, Unknown, Zero};
-use bench_text::read;
 use cmb_channels::Message;
 use design::{Design, Horizon};
 use gate_process::Process;
@@ -35,14 +35,23 @@ impl Probe {
         name: &[u8],
         horizon: u64,
     ) -> Result<Probe, Fail> {
-        let netlist = read(alloc, bench)?;
-        let design = Design::build(alloc, netlist, b"", stimuli, 1, period)?;
+        let design = built(alloc, bench, b"", stimuli, period)?;
+        let horizon = Horizon::new(horizon)?;
+        Probe::of(rt, alloc, &design, name, horizon)
+    }
+
+    fn of(
+        rt: &impl Abort,
+        alloc: Global,
+        design: &Design,
+        name: &[u8],
+        horizon: Horizon,
+    ) -> Result<Probe, Fail> {
         let net = design.find(name).expect(rt, "a net of this name");
         let nets = design.nets();
         assert!(rt; net < nets);
-        let horizon = Horizon::new(horizon)?;
         Ok(Probe {
-            process: Process::new(alloc, &design, net, horizon)?,
+            process: Process::new(alloc, design, net, horizon)?,
             pins: design.pins_of(net).len(),
             end: horizon.ticks() + 1,
         })
@@ -116,10 +125,39 @@ impl Probe {
         Ok(())
     }
 
-    // Its first pin is told this message, and then it tells just these.
-    fn answers(&mut self, rt: &impl Abort, told: Message, wanted: &[Message]) -> Result<(), Fail> {
-        self.hear(rt, 0, &[told])?;
+    // The pin at this place is told this message, and then it tells just these.
+    fn answers(
+        &mut self,
+        rt: &impl Abort,
+        place: u32,
+        told: Message,
+        wanted: &[Message],
+    ) -> Result<(), Fail> {
+        self.hear(rt, place, &[told])?;
         self.tells(rt, wanted)
+    }
+
+    // What its pins know suffices up to this tick.
+    fn is_safe_to(&self, rt: &impl Abort, wanted: u64) {
+        assert_eq!(rt; self.process(rt).safe(), wanted);
+    }
+
+    // It is known up to this tick.
+    fn is_known_to(&self, rt: &impl Abort, wanted: u64) {
+        assert_eq!(rt; self.process(rt).frontier(), wanted);
+    }
+
+    // The last value that the pin at this place was told.
+    fn has_last(&self, rt: &impl Abort, place: u32, wanted: Value) {
+        assert_eq!(rt; self.last(rt, place), wanted);
+    }
+
+    fn shows(&self, rt: &impl Abort, tick: u64, wanted: Value) {
+        assert_eq!(rt; self.process(rt).waveform().value_at(tick), wanted);
+    }
+
+    fn has_changes(&self, rt: &impl Abort, count: usize) {
+        assert_eq!(rt; self.process(rt).waveform().changes().len(), count);
     }
 }
 
@@ -143,56 +181,75 @@ fn told() -> [Message; 3] {
     [change(0, Zero), change(3, One), Null(6)]
 }
 
+fn input_tells(rt: &impl Abort, input: &mut Probe) -> Result<(), Fail> {
+    input.is_safe_to(rt, 6);
+    input.is_known_to(rt, 0);
+    input.tells(rt, &told())?;
+    input.tells(rt, &[])?;
+    input.is_known_to(rt, 6);
+    Ok(())
+}
+
 #[test]
 fn first_messages_of_an_input(rt: HostRuntime) -> Result<(), Fail> {
     let mut input = in_inverter(&rt, rt.alloc(), b"a")?;
-    assert_eq!(rt; input.process(&rt).safe(), 6);
-    assert_eq!(rt; input.process(&rt).frontier(), 0);
-    input.tells(&rt, &told())?;
-    input.tells(&rt, &[])?;
-    assert_eq!(rt; input.process(&rt).frontier(), 6);
-    Ok(())
+    input_tells(&rt, &mut input)
+}
+
+fn output_tells(rt: &impl Abort, output: &mut Probe) -> Result<(), Fail> {
+    output.tells(rt, &[Null(1)])?;
+    output.hear(rt, 0, &told())?;
+    output.tells(rt, &[change(1, One), change(4, Zero), Null(6)])
 }
 
 #[test]
 fn first_messages_of_a_gate(rt: HostRuntime) -> Result<(), Fail> {
     let mut output = in_inverter(&rt, rt.alloc(), b"y")?;
-    output.tells(&rt, &[Null(1)])?;
-    output.hear(&rt, 0, &told())?;
-    output.tells(&rt, &[change(1, One), change(4, Zero), Null(6)])?;
+    output_tells(&rt, &mut output)
+}
+
+// What the first pin of the AND gate is told.
+fn hear_first_pin(rt: &impl Abort, process: &mut Probe) -> Result<(), Fail> {
+    process.has_last(rt, 0, Unknown);
+    process.hear(rt, 0, &[change(0, One), change(4, Zero), Null(7)])?;
+    process.is_safe_to(rt, 0);
+    assert_eq!(rt; process.received(rt, 0), 7);
+    process.has_last(rt, 0, Zero);
     Ok(())
+}
+
+// What its second pin is told then, and what it tells itself.
+fn hear_second_pin(rt: &impl Abort, process: &mut Probe) -> Result<(), Fail> {
+    process.tells(rt, &[Null(1)])?;
+    process.answers(rt, 1, change(0, Zero), &[change(1, Zero)])?;
+    process.hear(rt, 1, &[change(4, One)])?;
+    process.is_safe_to(rt, 5);
+    process.tells(rt, &[Null(6)])?;
+    process.answers(rt, 1, Null(7), &[Null(7)])
 }
 
 #[test]
 fn and_process(rt: HostRuntime) -> Result<(), Fail> {
     let mut process = Probe::new(&rt, rt.alloc(), AND, b"", 10, b"y", 6)?;
-    assert_eq!(rt; process.last(&rt, 0), Unknown);
-    process.hear(&rt, 0, &[change(0, One), change(4, Zero), Null(7)])?;
-    assert_eq!(rt; process.process(&rt).safe(), 0);
-    assert_eq!(rt; process.received(&rt, 0), 7);
-    assert_eq!(rt; process.last(&rt, 0), Zero);
-
-    process.tells(&rt, &[Null(1)])?;
-    process.hear(&rt, 1, &[change(0, Zero)])?;
-    process.tells(&rt, &[change(1, Zero)])?;
-    process.hear(&rt, 1, &[change(4, One)])?;
-    assert_eq!(rt; process.process(&rt).safe(), 5);
-    process.tells(&rt, &[Null(6)])?;
-    process.hear(&rt, 1, &[Null(7)])?;
-    process.tells(&rt, &[Null(7)])?;
-    assert_eq!(rt; process.process(&rt).waveform().value_at(6), Zero);
-    assert_eq!(rt; process.process(&rt).waveform().changes().len(), 1);
+    hear_first_pin(&rt, &mut process)?;
+    hear_second_pin(&rt, &mut process)?;
+    process.shows(&rt, 6, Zero);
+    process.has_changes(&rt, 1);
     Ok(())
+}
+
+fn flop_tells(rt: &impl Abort, process: &mut Probe) -> Result<(), Fail> {
+    process.tells(rt, &[Null(5)])?;
+    process.answers(rt, 0, change(4, One), &[change(5, One), Null(9)])?;
+    process.answers(rt, 0, change(5, Zero), &[])?;
+    process.answers(rt, 0, Null(10), &[change(9, Zero)])
 }
 
 #[test]
 fn flop_process(rt: HostRuntime) -> Result<(), Fail> {
     let mut process = Probe::new(&rt, rt.alloc(), SAMPLER, b"", 4, b"q", 9)?;
-    process.tells(&rt, &[Null(5)])?;
-    process.answers(&rt, change(4, One), &[change(5, One), Null(9)])?;
-    process.answers(&rt, change(5, Zero), &[])?;
-    process.answers(&rt, Null(10), &[change(9, Zero)])?;
-    assert_eq!(rt; process.process(&rt).waveform().changes().len(), 2);
+    flop_tells(&rt, &mut process)?;
+    process.has_changes(&rt, 2);
     Ok(())
 }
 
@@ -212,6 +269,16 @@ fn are_between(rt: &impl Abort, messages: &[Message], count: usize, first: Messa
     assert_eq!(rt; messages.last(), Some(&last));
 }
 
+// It tells as much of that, and at first a bound and a change at tick 11.
+fn tell_far(rt: &impl Abort, process: &mut Probe, known: u64, first: Value) -> Result<(), Fail> {
+    process.tells(rt, &[Null(known)])?;
+    hear_far(rt, process)?;
+    let messages = process.advance(rt)?;
+    let last = Null(10_000_001);
+    are_between(rt, messages.as_slice(), 1_001, change(11, first), last);
+    Ok(())
+}
+
 // At first the net is known up to this tick, and its first change, at tick 11, is to this value.
 fn goes_far(
     rt: &impl Abort,
@@ -222,17 +289,7 @@ fn goes_far(
     first: Value,
 ) -> Result<(), Fail> {
     let mut process = Probe::new(rt, alloc, bench, b"", 1, name, 10_000_000)?;
-    process.tells(rt, &[Null(known)])?;
-    hear_far(rt, &mut process)?;
-    let messages = process.advance(rt)?;
-    are_between(
-        rt,
-        messages.as_slice(),
-        1_001,
-        change(11, first),
-        Null(10_000_001),
-    );
-    Ok(())
+    tell_far(rt, &mut process, known, first)
 }
 
 // A gate, and a flip-flop that samples at each tick.

@@ -57,8 +57,19 @@ fn runs<F: Fabric>(
     horizon: u64,
     completes: bool,
 ) -> Result<(), Fail> {
+    let horizon = Horizon::new(horizon)?;
     let design = circuit.build(alloc)?;
-    let mut kernel: Kernel<F> = Kernel::new(alloc, &design, Horizon::new(horizon)?)?;
+    ends::<F>(rt, alloc, &design, horizon, completes)
+}
+
+fn ends<F: Fabric>(
+    rt: &impl Abort,
+    alloc: Global,
+    design: &Design,
+    horizon: Horizon,
+    completes: bool,
+) -> Result<(), Fail> {
+    let mut kernel: Kernel<F> = Kernel::new(alloc, design, horizon)?;
     let answer = kernel.complete();
     assert_eq!(rt; answer == Err(KernelFault::Memory), !completes);
     assert_eq!(rt; answer == Ok(()), completes);

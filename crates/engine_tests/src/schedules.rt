@@ -1,7 +1,8 @@
 //! Schedules, from a text and from a seed.
-use crate::circuits::{INVERTER, LATE_PIN};
+use crate::circuits::{Circuit, INVERTER, LATE_PIN};
 use Event::{Advance, Deliver};
 use cmb_kernel::{Event, Schedule, ScheduleFault};
+use design::Design;
 use std::alloc::{AllocError, Global};
 use std::process::Abort;
 use std::test::Fail;
@@ -14,9 +15,22 @@ fn gives(rt: &impl Abort, answer: Result<Schedule, ScheduleFault>, events: &[Eve
     }
 }
 
+fn is_refused(rt: &impl Abort, answer: Result<Schedule, ScheduleFault>, fault: ScheduleFault) {
+    assert_eq!(rt; answer.err(), Some(fault));
+}
+
+// What is said of a schedule's text for a circuit.
+fn read_for(
+    alloc: Global,
+    circuit: Circuit,
+    text: &[u8],
+) -> Result<Result<Schedule, ScheduleFault>, Fail> {
+    let design = circuit.build(alloc)?;
+    Ok(Schedule::read(alloc, text, &design))
+}
+
 #[test]
 fn schedule_faults(rt: HostRuntime) -> Result<(), Fail> {
-    let inverter = INVERTER.build(rt.alloc())?;
     for (text, fault) in [
         (b"deliver y 1".as_slice(), ScheduleFault::BadPin { line: 1 }),
         (b"deliver a 0".as_slice(), ScheduleFault::BadPin { line: 1 }),
@@ -64,17 +78,15 @@ fn schedule_faults(rt: HostRuntime) -> Result<(), Fail> {
             ScheduleFault::UnknownNet { line: 4 },
         ),
     ] {
-        let answer = Schedule::read(rt.alloc(), text, &inverter);
-        assert_eq!(rt; answer.err(), Some(fault));
+        is_refused(&rt, read_for(rt.alloc(), INVERTER, text)?, fault);
     }
     Ok(())
 }
 
 #[test]
 fn schedules_of_texts(rt: HostRuntime) -> Result<(), Fail> {
-    let late_pin = LATE_PIN.build(rt.alloc())?;
     for text in [b"".as_slice(), b"# advance a\n\r\n \t\n".as_slice()] {
-        gives(&rt, Schedule::read(rt.alloc(), text, &late_pin), &[]);
+        gives(&rt, read_for(rt.alloc(), LATE_PIN, text)?, &[]);
     }
     let text =
         b"advance a # first\r\n\tdeliver  b 0\r\n\r\ndeliver y 00\n# \xFF\ndeliver y 0000000000000000000000000000000001\nadvance y\ndeliver y 1#1";
@@ -86,8 +98,11 @@ fn schedules_of_texts(rt: HostRuntime) -> Result<(), Fail> {
         Advance(2),
         Deliver(2),
     ];
-    let answer = Schedule::read(rt.alloc(), text, &late_pin);
-    gives(&rt, answer, events.as_slice());
+    gives(
+        &rt,
+        read_for(rt.alloc(), LATE_PIN, text)?,
+        events.as_slice(),
+    );
     Ok(())
 }
 
@@ -107,14 +122,24 @@ fn longest(alloc: Global, start: &[u8]) -> Result<Vec<u8>, AllocError> {
 
 #[test]
 fn limit_of_a_schedule_text(rt: HostRuntime) -> Result<(), Fail> {
-    let inverter = INVERTER.build(rt.alloc())?;
     let mut text = longest(rt.alloc(), b"advance a\n#")?;
-    let answer = Schedule::read(rt.alloc(), text.as_slice(), &inverter);
+    let answer = read_for(rt.alloc(), INVERTER, text.as_slice())?;
     gives(&rt, answer, &[Advance(0)]);
     text.push(b'x')?;
-    let answer = Schedule::read(rt.alloc(), text.as_slice(), &inverter);
-    assert_eq!(rt; answer.err(), Some(ScheduleFault::TooLong));
+    let answer = read_for(rt.alloc(), INVERTER, text.as_slice())?;
+    is_refused(&rt, answer, ScheduleFault::TooLong);
     Ok(())
+}
+
+// So many events that are picked for a circuit.
+fn seeded_for(
+    alloc: Global,
+    circuit: Circuit,
+    seed: u64,
+    picks: u64,
+) -> Result<Result<Schedule, ScheduleFault>, Fail> {
+    let design = circuit.build(alloc)?;
+    Ok(Schedule::seeded(alloc, seed, picks, &design))
 }
 
 // The picks were computed apart, by a few lines of Python after the published algorithms: the
@@ -122,8 +147,6 @@ fn limit_of_a_schedule_text(rt: HostRuntime) -> Result<(), Fail> {
 // and stream 54), seeded as `rand_core` expands a number to a seed.
 #[test]
 fn seeded_picks(rt: HostRuntime) -> Result<(), Fail> {
-    let inverter = INVERTER.build(rt.alloc())?;
-    let late_pin = LATE_PIN.build(rt.alloc())?;
     let of_inverter = [
         Deliver(0),
         Advance(1),
@@ -144,14 +167,28 @@ fn seeded_picks(rt: HostRuntime) -> Result<(), Fail> {
         Deliver(2),
         Advance(1),
     ];
-    for (design, seed, events) in [
-        (&inverter, 1, of_inverter.as_slice()),
-        (&inverter, 1, &of_inverter[..1]),
-        (&inverter, 1, &[]),
-        (&late_pin, 7, of_late_pin.as_slice()),
+    for (circuit, seed, events) in [
+        (INVERTER, 1, of_inverter.as_slice()),
+        (INVERTER, 1, &of_inverter[..1]),
+        (INVERTER, 1, &[]),
+        (LATE_PIN, 7, of_late_pin.as_slice()),
     ] {
-        let answer = Schedule::seeded(rt.alloc(), seed, events.len() as u64, design);
+        let answer = seeded_for(rt.alloc(), circuit, seed, events.len() as u64)?;
         gives(&rt, answer, events);
+    }
+    Ok(())
+}
+
+// A hundred thousand events are picked, each of them of a pin or a net of the design.
+fn all_exist(rt: &impl Abort, alloc: Global, design: &Design) -> Result<(), Fail> {
+    let schedule = Schedule::seeded(alloc, 2026, 100_000, design)?;
+    assert_eq!(rt; schedule.events().len(), 100_000);
+    for event in schedule.events() {
+        let exists = match *event {
+            Deliver(pin) => pin < design.pins(),
+            Advance(net) => net < design.nets(),
+        };
+        assert!(rt; exists, "{event:?}");
     }
     Ok(())
 }
@@ -159,18 +196,10 @@ fn seeded_picks(rt: HostRuntime) -> Result<(), Fail> {
 #[test]
 fn seeded_schedules(rt: HostRuntime) -> Result<(), Fail> {
     let late_pin = LATE_PIN.build(rt.alloc())?;
-    let schedule = Schedule::seeded(rt.alloc(), 2026, 100_000, &late_pin)?;
-    assert_eq!(rt; schedule.events().len(), 100_000);
-    for event in schedule.events() {
-        let exists = match *event {
-            Deliver(pin) => pin < late_pin.pins(),
-            Advance(net) => net < late_pin.nets(),
-        };
-        assert!(rt; exists, "{event:?}");
-    }
+    all_exist(&rt, rt.alloc(), &late_pin)?;
     for picks in [10_000_001, u64::MAX] {
         let answer = Schedule::seeded(rt.alloc(), 2026, picks, &late_pin);
-        assert_eq!(rt; answer.err(), Some(ScheduleFault::TooManyEvents));
+        is_refused(&rt, answer, ScheduleFault::TooManyEvents);
     }
     Ok(())
 }

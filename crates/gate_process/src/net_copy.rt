@@ -7,9 +7,9 @@ ghost use Rattle.gate_process.specs.Truth.{IsNet};
 use crate::changes::next_change;
 use crate::equation::{gate_value, next_pin_change, sampled_value};
 use crate::received::Received;
-use netlist::Part;
 use design::{Design, Timing};
 use logic3::{Change, Value, value_after};
+use netlist::Part;
 use std::alloc::{AllocError, Global};
 use std::marker::Model;
 
