@@ -23,9 +23,13 @@ RunEndsBy-BreaksOff old new text (Dump fault) part = part
 RunEndsBy-BreaksOff old new text Memory part = part
 RunEndsBy-BreaksOff old new text _ part = absurd part
 
+-- nothing is a first part of any text
+AppendsPrefix-kept : (old new : Option (List ℕ)) (text : List ℕ) → Keeps old new → AppendsPrefix old new text
+AppendsPrefix-kept old new text kept = (0, Appends-kept old old new _ (Appends-nil old) kept)
+
 -- memory was wanting before a byte was written
 pub BreaksOff-memory : (old : Option (List ℕ)) (text : List ℕ) → BreaksOff old old text Memory
-BreaksOff-memory old text = (0, Appends-kept old old old _ (Appends-nil old) (Keeps-refl old))
+BreaksOff-memory old text = AppendsPrefix-kept old old text (Keeps-refl old)
 
 -- the whole of a text is a first part of it
 pub AppendsPrefix-whole : (old new : Option (List ℕ)) (text : List ℕ) → Appends old new text → AppendsPrefix old new text
@@ -41,7 +45,7 @@ module _ {F : Type 0} where
 
   -- whatever the end, what went out is a first part of the answer
   pub WritesPart-kept : (answer : Result (List ℕ) F) (old new : Option (List ℕ)) → Keeps old new → WritesPart answer old new
-  WritesPart-kept (Ok text) old new kept = (0, Appends-kept old old new _ (Appends-nil old) kept)
+  WritesPart-kept (Ok text) old new kept = AppendsPrefix-kept old new text kept
   WritesPart-kept (Err fault) old new kept = kept
 
   pub WritesPart-done : (answer : Result (List ℕ) F) (old new : Option (List ℕ)) → IsOkAnd answer (Appends old new) → WritesPart answer old new

@@ -1,5 +1,5 @@
+pub mod CallerLemmas
 mod Cuts
 mod Digits
 mod FirstWord
 mod FoldLemmas
-pub mod CallerLemmas
