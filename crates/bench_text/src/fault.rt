@@ -3,6 +3,7 @@ ghost use Rattle.bench_text.specs.declared.fault.BenchFault.TheVariants.{Memory}
 ghost use Rattle.bench_text.specs.Faults.{line_of, name_of};
 
 use std::alloc::{AllocError, AllocFailed};
+use std::fmt;
 use thiserror::Error;
 
 /// Why a text is no netlist. Lines count from 1.
@@ -11,7 +12,6 @@ use thiserror::Error;
 /// [`BadByte`](Self::BadByte) to [`BadArity`](Self::BadArity). The faults of the whole text come
 /// after those of every line, but for [`TooLong`](Self::TooLong), which comes before all else.
 #[derive(Clone, Copy, Debug, PartialEq, Eq, Error)]
-#[error("{}", self.name())]
 pub enum BenchFault {
     /// The text has more than 16,777,216 bytes.
     TooLong,
@@ -72,6 +72,12 @@ impl BenchFault {
             BenchFault::TooMany => "TooMany",
             BenchFault::Memory => "Memory",
         }
+    }
+}
+
+impl fmt::Display for BenchFault {
+    fn fmt<W: fmt::Write>(&self, f: &mut fmt::Formatter<W>) -> Result<(), fmt::Error> {
+        f.write_str(self.name())
     }
 }
 

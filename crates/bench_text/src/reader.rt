@@ -1,11 +1,12 @@
 //! A .bench text as a netlist: its lines, the names that they define, and what is at each pin.
-ghost use Rattle.std.specs.Prelude.{◌≡◌, ◌≢◌, ℕ, ◌≤◌, ◌^◌, ◌∷◌, [], List, length, map, filter_map, flat_map, sum_by, All};
+ghost use Rattle.std.specs.Prelude.{◌≡◌, ◌≢◌, ℕ, ◌<◌, ◌≤◌, ◌^◌, ◌∷◌, [], List, length, map, filter_map, flat_map, sum_by, All};
 ghost use Rattle.std.specs.Result.{result_map_both};
-ghost use Rattle.bench_text.specs.declared.fault.BenchFault.TheVariants.{Memory};
+ghost use Rattle.bench_text.specs.declared.fault.BenchFault.TheVariants.{Memory, TooLong};
 ghost use Rattle.netlist.specs.declared.netlist.Net.{Net as TheNet};
 ghost use Rattle.bench_text.specs.Line.{Statement as TheStatement, IsStatement};
 ghost use Rattle.bench_text.specs.NetlistOf.{statements_of, definition_in, uses_in, defined_names, repeated_fault, undefined_fault, is_over_limit, unless, place_of, netlist_of_statements, netlist_of};
 ghost use Rattle.netlist.specs.Names.{seen_names};
+ghost use Rattle.text_lines.specs.Text.{longest_text};
 ghost use Rattle.bench_text.specs.Stages.{seen_lines, seen_wiring, wiring};
 
 use crate::fault::BenchFault;
@@ -15,9 +16,10 @@ use smallvec::SmallVec;
 use std::alloc::Global;
 use text_lines::{LONGEST_TEXT, code_lines};
 
-/// The netlist of a .bench text.
+/// The netlist of a .bench text. One that is too long is refused before any memory is taken.
 pub fn read(alloc: Global, text: &[u8]) -> Result<Netlist, BenchFault>
-    ensures { result ≢ Err Memory → result ≡ netlist_of text.now }
+    ensures netlist { result ≢ Err Memory → result ≡ netlist_of text.now }
+    ensures at_once { longest_text < length text.now → result ≡ Err TooLong }
 {
     if text.len() > LONGEST_TEXT {
         return Err(BenchFault::TooLong);

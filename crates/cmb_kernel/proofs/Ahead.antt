@@ -13,7 +13,7 @@ use Rattle.cmb_channels.proofs.CallerLemmas.{map-update, view_at, get_update_sam
 use Rattle.gate_process.specs.Knowledge.{Knowledge, Tells}
 use Rattle.gate_process.specs.Step.{ProcessState, least, frontier_of, advanced, heard}
 use Rattle.gate_process.proofs.CallerLemmas.{frontier-mono}
-use Rattle.cmb_kernel.specs.declared.event.Event.TheVariants.{Deliver, Advance}
+use Rattle.cmb_events.specs.declared.event.Event.TheVariants.{Deliver, Advance}
 use Rattle.cmb_kernel.specs.State.{State, started, nets_of, frontier_at, IsComplete}
 use Rattle.cmb_kernel.specs.Step.{step, steps, after_deliver, deliveries_from, round_of, rounds}
 use Rattle.cmb_kernel.specs.Sound.{IsSound}
@@ -23,7 +23,7 @@ use Rattle.cmb_kernel.proofs.Completion.{frontier_within, rounds_sound}
 
 -- ---- deliveries leave the nets' frontiers
 
-deliver_frontier : (state : State) (pin number : ℕ) → frontier_at (step state (Deliver pin)) number ≡ frontier_at state number
+pub deliver_frontier : (state : State) (pin number : ℕ) → frontier_at (step state (Deliver pin)) number ≡ frontier_at state number
 deliver_frontier state pin number = go (at_pin state pin)
   where
     go : (waiting : List Message) → frontier_at (after_deliver state pin waiting) number ≡ frontier_at state number

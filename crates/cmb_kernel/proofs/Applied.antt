@@ -1,5 +1,5 @@
 -- What an event makes of the parts of a running kernel.
-use Rattle.std.proofs.Common.{◌≡◌, ℕ, ◌+◌, ◌*◌, ◌<◌, ◌≤◌, ◌==◌, not, Bool, true, false, cond, List, [], ◌∷◌, map, length, drop, sum_by, count_by, All, Some, slice_get, slice_index_or, slice_set, refl, ap, sym, subst, ◌∙◌, arith}
+use Rattle.std.proofs.Common.{◌≡◌, ℕ, zero, suc, ◌+◌, ◌*◌, ◌<◌, ◌≤◌, ◌==◌, not, Bool, true, false, cond, List, [], ◌∷◌, map, length, drop, sum_by, count_by, All, Some, slice_get, slice_index_or, slice_set, refl, ap, sym, subst, ◌∙◌, arith}
 use Rattle.std.specs.Option.{option_map_or}
 use Rattle.std.proofs.lemmas.Bool.{eqb-true, eqb-false}
 use Rattle.std.proofs.lemmas.List.{map-set, set-get_or}
@@ -18,6 +18,7 @@ use Rattle.design.specs.Pins.{sources_of, net_of_pin, place_of_pin}
 use Rattle.design.proofs.CallerLemmas.{net_of_pin_below, net_limit, All-slice_get}
 use Rattle.cmb_channels.specs.declared.message.Message.{Message}
 use Rattle.cmb_channels.specs.declared.message.Message.TheVariants.{Change as Changes, Null}
+use Rattle.cmb_channels.specs.Kinds.{is_change, is_null}
 use Rattle.cmb_channels.specs.Lists.{update, sent, taken}
 use Rattle.cmb_channels.proofs.CallerLemmas.{update-set, taken_at}
 use Rattle.gate_process.specs.Knowledge.{news_of, Tells}
@@ -25,10 +26,10 @@ use Rattle.gate_process.specs.Step.{ProcessState, ProcessView, running, safe_of,
 use Rattle.gate_process.specs.Truth.{CanHear}
 use Rattle.gate_process.proofs.CallerLemmas.{frontier-end, news_true}
 use Rattle.cmb_kernel.specs.declared.counts.Counts.{Counts}
-use Rattle.cmb_kernel.specs.declared.event.Event.{Event}
-use Rattle.cmb_kernel.specs.declared.event.Event.TheVariants.{Deliver, Advance}
+use Rattle.cmb_events.specs.declared.event.Event.{Event}
+use Rattle.cmb_events.specs.declared.event.Event.TheVariants.{Deliver, Advance}
 use Rattle.cmb_kernel.specs.State.{State, nets_of}
-use Rattle.cmb_kernel.specs.Step.{is_change, is_null, counted, news_at, after_deliver, step}
+use Rattle.cmb_kernel.specs.Step.{counted, news_at, after_deliver, step}
 use Rattle.cmb_kernel.specs.Useful.{is_useful}
 use Rattle.cmb_kernel.specs.Sound.{IsSound}
 use Rattle.cmb_kernel.specs.Running.{state_of, IsRunning}
@@ -250,6 +251,12 @@ module _ {design : DesignView} {end : ℕ} {processes : List ProcessView} {sourc
             ∙ ap (λ n. update (heard (place_of_pin (nets_of (state_of processes lists counts)) pin) message) n (map (λ (p : ProcessView). p.state) processes)) net_there)
             ∙ ap (after_deliver (state_of processes lists counts) pin) (sym waiting)
 
+  -- an Advance that raises the net's frontier is useful
+  pub farther_useful : (net : ℕ) (process : ProcessView) → net < length design.circuit → process ≡ slice_index_or processes net process →
+      process.state.known.frontier < next_frontier process.state → is_useful (state_of processes lists counts) (Advance net) ≡ true
+  farther_useful net process below is farther =
+      advance_useful (state_of processes lists counts) net process.state (runs_at all net process below is).at farther
+
   -- a net advanced
   pub net_advanced : (net : ℕ) (process : ProcessView) → net < length design.circuit → process ≡ slice_index_or processes net process →
       IsApplied design end (slice_set processes net (running (advanced process.state))) sources nets
@@ -312,4 +319,13 @@ module _ {design : DesignView} {end : ℕ} {processes : List ProcessView} {sourc
           let apart : next_frontier process.state ≡ process.state.known.frontier → ⊥ = eqb-false _ _ e in
           let ahead = (all.sound.processes net process.state at).ahead in
           ap (λ b. not b) (some_news process.state e)
-          ∙ sym (advance_useful (state_of processes lists counts) net process.state at (omega (arith, apart, ahead)))
+          ∙ sym (farther_useful net process below is (omega (arith, apart, ahead)))
+
+  -- an Advance that has a message to tell is useful
+  pub telling_useful : (net : ℕ) (process : ProcessView) → net < length design.circuit → process ≡ slice_index_or processes net process →
+      0 < length (news process.state) → is_useful (state_of processes lists counts) (Advance net) ≡ true
+  telling_useful net process below is some = sym (net_advanced net process below is).useful ∙ ap not (some-eqb (length (news process.state)) some)
+    where
+      some-eqb : (count : ℕ) → 0 < count → (count == 0) ≡ false
+      some-eqb zero h = absurd (omega arith)
+      some-eqb (suc count) h = eqb-suc-zero count

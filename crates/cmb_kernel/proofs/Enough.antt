@@ -1,5 +1,5 @@
 -- How many rounds are enough.
-use Rattle.std.proofs.Common.{◌≡◌, ℕ, ◌+◌, ◌-◌, ◌*◌, ◌/◌, ◌%◌, ◌<◌, ◌≤◌, min, true, false, map, ap, sym, subst, ◌∙◌, arith, ◌⊎◌, inl, inr}
+use Rattle.std.proofs.Common.{◌≡◌, ℕ, ◌+◌, ◌-◌, ◌*◌, ◌/◌, ◌%◌, ◌<◌, ◌≤◌, min, Bool, true, false, map, refl, ap, sym, subst, ◌∙◌, arith, ◌⊎◌, inl, inr}
 use Rattle.std.proofs.lemmas.Bool.{cases_lt, eqb-false}
 use Rattle.std.proofs.Math.Nat.{mul_comm}
 use Rattle.design.specs.Circuit.{Circuit, IsCircuit}
@@ -52,6 +52,8 @@ pub record RoundsTo (start now : KernelView) : Type 0 where
   pub run : now ≡ record start { state = now.state }
   pub sound : IsSound now.circuit now.end now.state
   pub leads : LeadsTo start.state now.state
+  -- there is none where the one is complete
+  pub idle : is_complete start.state ≡ true → now.state ≡ start.state
 
 module _ (start now : KernelView) (ok : IsCircuit start.circuit) (so_far : RoundsTo start now) where
   now_ok : IsCircuit now.circuit
@@ -65,6 +67,7 @@ module _ (start now : KernelView) (ok : IsCircuit start.circuit) (so_far : Round
       sound = subst (λ (r : KernelView). IsSound r.circuit r.end r.state) (sym goes)
           (round_sound now.circuit now_ok now.end now.state so_far.sound);
       leads = subst (LeadsTo start.state) (sym (ap (λ (r : KernelView). r.state) goes)) (leads_on start.state now.state incomplete so_far.leads);
+      idle = λ complete. absurd (let same = so_far.idle complete in cc);
     }
 
     -- and less is left to the end
@@ -73,6 +76,14 @@ module _ (start now : KernelView) (ok : IsCircuit start.circuit) (so_far : Round
         subst (λ (r : KernelView). r.end - least_frontier r.end r.state < now.end - least_frontier now.end now.state) (sym goes)
         (falls now.circuit now_ok now.end now.state (least_frontier now.end (round_of now.state)) so_far.sound incomplete
         (round_raises now.circuit now_ok now.end now.state so_far.sound))
+
+  -- a round is due only where the run wasn't complete at the start
+  pub was_incomplete : is_complete now.state ≡ false → is_complete start.state ≡ false
+  was_incomplete incomplete = go (is_complete start.state) refl
+    where
+      go : (complete : Bool) → is_complete start.state ≡ complete → is_complete start.state ≡ false
+      go true e = absurd (let same = so_far.idle e in cc)
+      go false e = e
 
   pub completed : IsSound start.circuit start.end start.state → is_complete now.state ≡ true →
       now ≡ record start { state = completed_within (most_rounds start.end start.circuit) start.state }

@@ -5,13 +5,12 @@ mod Completion
 mod Consequences
 mod Drains
 mod Enough
-mod EventCount
 mod Fresh
 mod LeastFrontier
 mod Measure
 mod Moved
-mod Picks
 mod Refused
+mod Rises
 mod RoundExamples
 mod Running
 mod Soundness

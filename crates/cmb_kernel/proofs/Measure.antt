@@ -11,18 +11,20 @@ use Rattle.logic3.specs.Wave.{changes_between}
 use Rattle.design.proofs.CallerLemmas.{pins_at, pin_count-cons}
 use Rattle.design.specs.Circuit.{Circuit, IsCircuit, pin_count}
 use Rattle.design.specs.Equations.{value_of}
+use Rattle.cmb_channels.specs.Kinds.{is_null}
 use Rattle.cmb_channels.specs.declared.message.Message.{Message}
 use Rattle.cmb_channels.specs.declared.message.Message.TheVariants.{Change as Changes, Null}
 use Rattle.cmb_channels.proofs.CallerLemmas.{view_at}
 use Rattle.gate_process.specs.Knowledge.{Knowledge, news_of}
 use Rattle.gate_process.specs.Step.{ProcessState, next_frontier, reckoned, advanced, news}
 use Rattle.gate_process.proofs.CallerLemmas.{Tells-le}
-use Rattle.cmb_kernel.specs.declared.event.Event.{Event}
-use Rattle.cmb_kernel.specs.declared.event.Event.TheVariants.{Deliver, Advance}
+use Rattle.cmb_events.specs.declared.event.Event.{Event}
+use Rattle.cmb_events.specs.declared.event.Event.TheVariants.{Deliver, Advance}
 use Rattle.cmb_kernel.specs.State.{State, frontier_at}
 use Rattle.cmb_kernel.specs.Useful.{progress_of, progress, is_advance, is_useful, useful_count, useful_advances}
-use Rattle.cmb_kernel.specs.Step.{is_null, step, steps, after_deliver}
-use Rattle.cmb_kernel.specs.Sound.{Exists, IsSound}
+use Rattle.cmb_kernel.specs.Step.{step, steps, after_deliver}
+use Rattle.cmb_events.specs.Schedule.{Exists}
+use Rattle.cmb_kernel.specs.Sound.{IsSound}
 use Rattle.cmb_kernel.proofs.Soundness.{get_below, net_at, step_sound, steps_sound}
 use Rattle.cmb_kernel.proofs.LeastFrontier.{net_count}
 use Rattle.cmb_kernel.proofs.Completion.{frontier_within}

@@ -7,8 +7,8 @@ use Rattle.cmb_channels.specs.declared.message.Message.{Message}
 use Rattle.cmb_channels.proofs.CallerLemmas.{length-update, length-taken}
 use Rattle.design.specs.Pins.{net_of_pin, place_of_pin}
 use Rattle.gate_process.specs.Step.{advanced, heard}
-use Rattle.cmb_kernel.specs.declared.event.Event.{Event}
-use Rattle.cmb_kernel.specs.declared.event.Event.TheVariants.{Deliver, Advance}
+use Rattle.cmb_events.specs.declared.event.Event.{Event}
+use Rattle.cmb_events.specs.declared.event.Event.TheVariants.{Deliver, Advance}
 use Rattle.cmb_kernel.specs.State.{State, KernelView, nets_of}
 use Rattle.cmb_kernel.specs.Step.{after_deliver, step, steps, deliveries_from, round_events}
 use Rattle.cmb_kernel.proofs.LeastFrontier.{steps-append}

@@ -3,14 +3,14 @@ use Rattle.std.proofs.Common.{◌≡◌, ℕ, List, [], ◌∷◌, refl, map, Op
 use Rattle.std.specs.Option.{option_map, option_map_or}
 use Rattle.logic3.specs.declared.value.Value.{Value}
 use Rattle.logic3.specs.declared.value.Value.TheVariants.{Zero, One}
-use Rattle.logic3.specs.declared.gates.GateKind.TheVariants.{Not}
+use Rattle.logic3.specs.declared.gates.GateKind.TheVariants.{Nand, Not}
 use Rattle.logic3.specs.declared.change.Change.{Change}
 use Rattle.logic3.specs.Wave.{Wave}
 use Rattle.netlist.specs.declared.part.Part.{Part}
 use Rattle.netlist.specs.declared.part.Part.TheVariants.{Input, Gate, Flop}
 use Rattle.design.specs.Circuit.{Net, Circuit}
 use Rattle.gate_process.specs.Step.{ProcessState, drained_changes}
-use Rattle.cmb_kernel.specs.State.{State, started, least_frontier}
+use Rattle.cmb_kernel.specs.State.{State, started, least_frontier, most_rounds}
 use Rattle.cmb_kernel.specs.Step.{after_drain, round_of, rounds}
 
 -- a net without stimuli, with the period 3
@@ -29,6 +29,21 @@ ring_counter-least : map (λ count. least_frontier 11 (rounds count (started rin
     ≡ 1 ∷ 4 ∷ 5 ∷ 7 ∷ 8 ∷ 10 ∷ 11 ∷ []
 unfolding ring_counter
 ring_counter-least = refl
+
+-- ---- how many rounds are enough: for an oscillator of delay 2 up to tick 12, an inverter of itself up to tick 3, and an input up to tick 5
+
+oscillator : Circuit
+oscillator = net_of Input [] 0 ∷ net_of (Gate Nand) (0 ∷ 1 ∷ []) 2 ∷ []
+
+oscillator-rounds : most_rounds 13 oscillator ≡ 7
+unfolding oscillator
+oscillator-rounds = refl
+
+self_inverter-rounds : most_rounds 4 (net_of (Gate Not) (0 ∷ []) 1 ∷ []) ≡ 4
+self_inverter-rounds = refl
+
+input-rounds : most_rounds 6 (net_of Input [] 0 ∷ []) ≡ 1
+input-rounds = refl
 
 -- ---- an input and its inverter, whose changes are taken out after each of two rounds
 

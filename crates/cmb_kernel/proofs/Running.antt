@@ -1,5 +1,5 @@
 -- What the parts of a running kernel tell.
-use Rattle.std.proofs.Common.{◌≡◌, ℕ, suc, ◌+◌, ◌-◌, ◌<◌, ◌≤◌, Bool, false, List, [], ◌∷◌, map, length, Some, slice_get, slice_index_or, refl, ap, sym, subst, ◌∙◌, arith, zero-add, add-zero}
+use Rattle.std.proofs.Common.{◌≡◌, ℕ, suc, ◌+◌, ◌-◌, ◌<◌, ◌≤◌, Bool, false, List, [], ◌∷◌, map, length, Option, None, Some, slice_get, slice_index_or, refl, ap, sym, subst, ◌∙◌, arith, zero-add, add-zero}
 use Rattle.std.specs.List.{range_with_len}
 use Rattle.std.specs.Option.{option_map, option_map_or, ForSome}
 use Rattle.std.proofs.lemmas.List.{length-map}
@@ -20,6 +20,7 @@ use Rattle.cmb_kernel.specs.Running.{state_of, IsRunning}
 use Rattle.cmb_kernel.proofs.Soundness.{net_at}
 use Rattle.cmb_kernel.proofs.LeastFrontier.{net_count}
 use Rattle.cmb_kernel.proofs.Completion.{frontier_within}
+use Rattle.cmb_kernel.proofs.Measure.{received_within}
 use Rattle.cmb_kernel.proofs.Consequences.{knows_net}
 
 -- a process that the kernel keeps for a net runs, and is the one of the state
@@ -126,6 +127,19 @@ module _ {design : DesignView} {end : ℕ} {processes : List ProcessView} {sourc
       sym own ∙ ap (received_of process.state) place_there
       ∙ ap (λ at. option_map_or (λ (p : ProcessState). received_of p (place_of_pin (nets_of (state_of processes lists counts)) pin)) at 0)
       (sym here ∙ ap (slice_get (map (λ (p : ProcessView). p.state) processes)) net_there)
+
+  pub received_in_time : (net place frontier : ℕ) (process : ProcessView) → net < length design.circuit → process ≡ slice_index_or processes net process →
+      option_map (λ (known : Knowledge). known.frontier) (slice_get process.state.received place) ≡ Some frontier → frontier ≤ end
+  received_in_time net place frontier process below is told = go (slice_get process.state.received place) refl told
+    where
+      go : (found : Option Knowledge) → slice_get process.state.received place ≡ found →
+          option_map (λ (known : Knowledge). known.frontier) found ≡ Some frontier → frontier ≤ end
+      go None e told = cc
+      go (Some known) e told =
+          let same : known.frontier ≡ frontier = same_Some known.frontier frontier told in
+          let within = received_within design.circuit circuit_ok end (state_of processes lists counts) all.sound net place process.state known
+          (runs_at net process below is).at e in
+          omega (arith, same, within)
 
 -- a run that goes on from one that hasn't failed
 pub goes_on : {circuit same_circuit : Circuit} {end same_end : ℕ} {failed : Bool} {new next : State} → same_circuit ≡ circuit → same_end ≡ end →

@@ -17,11 +17,12 @@ use Rattle.gate_process.specs.Knowledge.{Knowledge, nothing_known, knowledge_of,
 use Rattle.gate_process.specs.Step.{ProcessState, started_process, next_frontier, advanced, news, heard, kept_from, kept, extended}
 use Rattle.gate_process.specs.Truth.{Meets, KnowsTruth}
 use Rattle.gate_process.proofs.CallerLemmas.{Tells-append, told_all_truth, HeardTruth, heard_truth, news_true, get_of_map, get_of_kept, advanced_knows, heard_knows}
-use Rattle.cmb_kernel.specs.declared.event.Event.{Event}
-use Rattle.cmb_kernel.specs.declared.event.Event.TheVariants.{Deliver, Advance}
+use Rattle.cmb_events.specs.declared.event.Event.{Event}
+use Rattle.cmb_events.specs.declared.event.Event.TheVariants.{Deliver, Advance}
 use Rattle.cmb_kernel.specs.State.{State, started, nets_of, frontier_at}
 use Rattle.cmb_kernel.specs.Step.{news_at, after_advance, after_deliver, step, steps}
-use Rattle.cmb_kernel.specs.Sound.{Exists, IsSound}
+use Rattle.cmb_events.specs.Schedule.{Exists}
+use Rattle.cmb_kernel.specs.Sound.{IsSound}
 
 pub meets_at : (circuit : Circuit) → IsCircuit circuit → (number : ℕ) (net : Net) → slice_get circuit number ≡ Some net → Meets (value_of circuit) number net
 meets_at circuit ok number net e = record {

@@ -16,12 +16,13 @@ use Rattle.cmb_channels.proofs.CallerLemmas.{view_at, view_of_update_same}
 use Rattle.gate_process.specs.Knowledge.{Knowledge, told}
 use Rattle.gate_process.specs.Step.{ProcessState, least, own_delay, next_frontier, kept, all_kept, extended, advanced, heard}
 use Rattle.gate_process.proofs.CallerLemmas.{HeardTruth, heard_truth, least_greatest, get_of_map}
-use Rattle.cmb_kernel.specs.declared.event.Event.{Event}
-use Rattle.cmb_kernel.specs.declared.event.Event.TheVariants.{Deliver, Advance}
+use Rattle.cmb_events.specs.declared.event.Event.{Event}
+use Rattle.cmb_events.specs.declared.event.Event.TheVariants.{Deliver, Advance}
 use Rattle.cmb_kernel.specs.State.{State, nets_of, frontier_at, least_frontier, least_delay, IsComplete}
 use Rattle.cmb_kernel.specs.Useful.{progress_of, progress, is_useful}
 use Rattle.cmb_kernel.specs.Step.{step, after_deliver}
-use Rattle.cmb_kernel.specs.Sound.{Exists, IsSound}
+use Rattle.cmb_events.specs.Schedule.{Exists}
+use Rattle.cmb_kernel.specs.Sound.{IsSound}
 use Rattle.cmb_kernel.proofs.Soundness.{get_below, pin_tells}
 use Rattle.cmb_kernel.proofs.LeastFrontier.{net_count, least_frontier-le, pins_know, advances_farther}
 use Rattle.cmb_kernel.proofs.Completion.{complete_from_least}
@@ -64,6 +65,30 @@ advance_useful state net process e h =
     let one = progress-advanced process in
     lt-ltb (progress state) (progress (step state (Advance net))) (omega arith)
 
+-- the first message that waits at a pin raises what the pin knows
+pub message_raises : (circuit : Circuit) → IsCircuit circuit → (last : ℕ) (state : State) → IsSound circuit last state →
+    (pin : ℕ) (message : Message) (messages : List Message) → slice_index_or state.lists pin [] ≡ message ∷ messages → pin < length state.lists →
+    (process : ProcessState) → slice_get state.processes (net_of_pin (nets_of state) pin) ≡ Some process →
+    (received : Knowledge) × (slice_get process.received (place_of_pin (nets_of state) pin) ≡ Some received)
+    × (received.frontier < (told received message).frontier)
+message_raises circuit ok last state sound pin message messages waiting exists process at =
+    let tells = pin_tells circuit ok last state sound pin message messages waiting exists process at in
+    let so_far = (sound.processes (net_of_pin (nets_of state) pin) process at).heard
+    (place_of_pin (nets_of state) pin) tells.0 tells.1 tells.2 tells.3 in
+    let truth : HeardTruth (value_of circuit tells.0) process (place_of_pin (nets_of state) pin) (frontier_at state tells.0) tells.1 (told tells.1 message) messages =
+    heard_truth (value_of circuit tells.0) process (place_of_pin (nets_of state) pin) (frontier_at state tells.0) tells.1 message messages so_far tells.4 in
+    (tells.1, tells.3, truth.raised)
+
+-- there is a process for the net of each pin
+pub process_of_pin : (circuit : Circuit) (last : ℕ) (state : State) → IsSound circuit last state → (pin : ℕ) → pin < length state.lists →
+    (process : ProcessState) × (slice_get state.processes (net_of_pin (nets_of state) pin) ≡ Some process)
+process_of_pin circuit last state sound pin exists =
+    let count : pin < pin_count (nets_of state) = (let l = sound.lists in let c = ap pin_count sound.nets in omega arith) in
+    let there = pin_is (nets_of state) pin count in
+    let within = slice_get_within (nets_of state) (net_of_pin (nets_of state) pin) there.net there.at in
+    let length = length-map state.processes (λ (p : ProcessState). p.net) in
+    get_below state.processes (net_of_pin (nets_of state) pin) (omega arith)
+
 -- a Deliver of a message that waits is useful
 pub deliver_useful : (circuit : Circuit) → IsCircuit circuit → (last : ℕ) (state : State) → IsSound circuit last state →
     (pin : ℕ) (message : Message) (messages : List Message) → slice_index_or state.lists pin [] ≡ message ∷ messages →
@@ -74,20 +99,11 @@ deliver_useful circuit ok last state sound pin message messages waiting exists =
   where
     raised : progress state < progress (after_deliver state pin (message ∷ messages))
     raised =
-        let nets : nets_of state ≡ circuit = sound.nets in
-        let count : pin < pin_count (nets_of state) = (let l = sound.lists in let c = ap pin_count sound.nets in omega arith) in
-        let there = pin_is (nets_of state) pin count in
-        let within = slice_get_within (nets_of state) (net_of_pin (nets_of state) pin) there.net there.at in
-        let length = length-map state.processes (λ (p : ProcessState). p.net) in
-        let process = get_below state.processes (net_of_pin (nets_of state) pin) (omega arith) in
-        let tells = pin_tells circuit ok last state sound pin message messages waiting exists process.0 process.1 in
-        let so_far = (sound.processes (net_of_pin (nets_of state) pin) process.0 process.1).heard
-        (place_of_pin (nets_of state) pin) tells.0 tells.1 tells.2 tells.3 in
-        let truth : HeardTruth (value_of circuit tells.0) process.0 (place_of_pin (nets_of state) pin) (frontier_at state tells.0) tells.1 (told tells.1 message) messages =
-        heard_truth (value_of circuit tells.0) process.0 (place_of_pin (nets_of state) pin) (frontier_at state tells.0) tells.1 message messages so_far tells.4 in
-        let up : (tells.1).frontier < (told tells.1 message).frontier = truth.raised in
+        let process = process_of_pin circuit last state sound pin exists in
+        let told_there = message_raises circuit ok last state sound pin message messages waiting exists process.0 process.1 in
+        let up : (told_there.0).frontier < (told told_there.0 message).frontier = told_there.2 in
         let inner = sum_by-update (λ (k : Knowledge). k.frontier) (λ (known : Knowledge). kept process.0 (place_of_pin (nets_of state) pin) (told known message))
-        (place_of_pin (nets_of state) pin) (process.0).received tells.1 tells.3 in
+        (place_of_pin (nets_of state) pin) (process.0).received told_there.0 told_there.1 in
         let all = sum_by-update progress_of (heard (place_of_pin (nets_of state) pin) message) (net_of_pin (nets_of state) pin) state.processes process.0 process.1 in
         omega arith
 

@@ -2,8 +2,6 @@ pub mod State
 pub mod Step
 pub mod Useful
 pub mod Sound
-pub mod Schedule
-pub mod ScheduleFaults
 pub mod Refusals
 pub mod Calls
 pub mod Running

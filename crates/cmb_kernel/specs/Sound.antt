@@ -8,14 +8,7 @@ use Rattle.design.specs.Pins.{first_pin}
 use Rattle.gate_process.specs.Knowledge.{Knowledge, told_all, Tells}
 use Rattle.gate_process.specs.Step.{ProcessState}
 use Rattle.gate_process.specs.Truth.{KnowsTruth}
-use Rattle.cmb_kernel.specs.declared.event.Event.{Event}
-use Rattle.cmb_kernel.specs.declared.event.Event.TheVariants.{Deliver, Advance}
 use Rattle.cmb_kernel.specs.State.{State, nets_of, frontier_at}
-
--- the event names a pin or a net of the circuit
-abbrev pub Exists : Circuit → Event → Type 0
-Exists circuit (Deliver pin) = pin < pin_count circuit
-Exists circuit (Advance net) = net < length circuit
 
 -- ---- the nets and pins of a state
 

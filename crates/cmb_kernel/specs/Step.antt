@@ -1,11 +1,11 @@
-use Rattle.std.specs.Prelude.{ℕ, zero, suc, ◌+◌, min, if◌then◌else◌, Bool, true, false, List, [], ◌∷◌, ◌++◌, length, map, replicate, count_by, slice_get, slice_index_or}
+use Rattle.std.specs.Prelude.{ℕ, zero, suc, ◌+◌, min, if◌then◌else◌, List, [], ◌∷◌, ◌++◌, length, map, replicate, count_by, slice_get, slice_index_or}
 use Rattle.std.specs.List.{range_with_len}
 use Rattle.std.specs.Option.{option_map_or}
 use Rattle.cmb_kernel.specs.declared.counts.Counts.{Counts}
-use Rattle.cmb_kernel.specs.declared.event.Event.{Event}
-use Rattle.cmb_kernel.specs.declared.event.Event.TheVariants.{Deliver, Advance}
+use Rattle.cmb_events.specs.declared.event.Event.{Event}
+use Rattle.cmb_events.specs.declared.event.Event.TheVariants.{Deliver, Advance}
 use Rattle.cmb_channels.specs.declared.message.Message.{Message}
-use Rattle.cmb_channels.specs.declared.message.Message.TheVariants.{Change as Changes, Null}
+use Rattle.cmb_channels.specs.Kinds.{is_change, is_null}
 use Rattle.cmb_channels.specs.Lists.{update, sent, taken}
 use Rattle.design.specs.Pins.{sources_of, net_of_pin, place_of_pin}
 use Rattle.gate_process.specs.Step.{advanced, news, heard, drained}
@@ -14,14 +14,6 @@ use Rattle.cmb_kernel.specs.State.{State, nets_of, is_complete}
 -- one more, but no more than a u64 holds
 abbrev pub one_more : ℕ → ℕ
 one_more count = min (count + 1) 18_446_744_073_709_551_615
-
-abbrev pub is_change : Message → Bool
-is_change (Changes change) = true
-is_change (Null bound) = false
-
-abbrev pub is_null : Message → Bool
-is_null (Changes change) = false
-is_null (Null bound) = true
 
 -- the counts after an event that answered these messages
 abbrev pub counted : Counts → List Message → Counts

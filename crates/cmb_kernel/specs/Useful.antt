@@ -1,10 +1,10 @@
 -- Events that are useful, and how many are.
-use Rattle.std.specs.Prelude.{ℕ, ◌+◌, nat_lt, if◌then◌else◌, Bool, true, false, List, [], ◌∷◌, sum_by}
+use Rattle.std.specs.Prelude.{ℕ, ◌+◌, ◌<◌, ◌≤◌, ◌⊎◌, nat_lt, if◌then◌else◌, Bool, true, false, List, [], ◌∷◌, sum_by}
 use Rattle.gate_process.specs.Knowledge.{Knowledge}
 use Rattle.gate_process.specs.Step.{ProcessState}
-use Rattle.cmb_kernel.specs.declared.event.Event.{Event}
-use Rattle.cmb_kernel.specs.declared.event.Event.TheVariants.{Deliver, Advance}
-use Rattle.cmb_kernel.specs.State.{State}
+use Rattle.cmb_events.specs.declared.event.Event.{Event}
+use Rattle.cmb_events.specs.declared.event.Event.TheVariants.{Deliver, Advance}
+use Rattle.cmb_kernel.specs.State.{State, frontier_at, received_at}
 use Rattle.cmb_kernel.specs.Step.{step}
 
 -- how far a process knows itself and its pins, in all
@@ -18,6 +18,15 @@ progress state = sum_by progress_of state.processes
 -- the event is useful: it raises a frontier
 abbrev pub is_useful : State → Event → Bool
 is_useful state event = nat_lt (progress state) (progress (step state event))
+
+-- no frontier of a net or pin falls from the one state to the other
+pub record NoneFalls (old new : State) : Type 0 where
+  pub nets : (net : ℕ) → frontier_at old net ≤ frontier_at new net
+  pub pins : (pin : ℕ) → received_at old pin ≤ received_at new pin
+
+-- some frontier of a net or pin rises
+abbrev pub SomeRises : State → State → Type 0
+SomeRises old new = ((net : ℕ) × (frontier_at old net < frontier_at new net)) ⊎ ((pin : ℕ) × (received_at old pin < received_at new pin))
 
 -- how many of some events are useful when they come
 abbrev pub useful_count : State → List Event → ℕ

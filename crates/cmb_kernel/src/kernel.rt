@@ -120,11 +120,12 @@ impl<'d, F: Fabric> Kernel<'d, F> {
         self.processes[net as usize].waveform()
     }
 
-    /// How many ticks of its source a pin knows.
+    /// How many ticks of its source a pin knows: at most the horizon and one more.
     pub fn received(&self, pin: u32) -> u64
         requires running { self.now.failed ≡ false }
         requires pin { pin < pin_count self.now.circuit }
-        ensures { result ≡ received_at self.now.state pin }
+        ensures received { result ≡ received_at self.now.state pin }
+        ensures within { result ≤ self.now.end }
     {
         let net = self.design.pin_net(pin);
         let place = pin - self.design.pin(net, 0);

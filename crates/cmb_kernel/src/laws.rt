@@ -1,12 +1,13 @@
 //! Facts about the steps of a run alone.
-ghost use Rattle.std.specs.Prelude.{◌≡◌, ℕ, ◌+◌, ◌*◌, ◌≤◌, min, List, length, All, true};
+ghost use Rattle.std.specs.Prelude.{◌≡◌, ℕ, ◌+◌, ◌*◌, ◌≤◌, ◌↔◌, min, List, length, All, true};
 ghost use Rattle.design.specs.Circuit.{Circuit, pin_count};
 ghost use Rattle.gate_process.specs.Step.{kept_from};
-ghost use Rattle.cmb_kernel.specs.declared.event.Event.{Event};
+ghost use Rattle.cmb_events.specs.declared.event.Event.{Event};
 ghost use Rattle.cmb_kernel.specs.State.{State, started, frontier_at, least_frontier, least_delay, IsComplete};
-ghost use Rattle.cmb_kernel.specs.Step.{steps, after_drain, round_of, rounds};
-ghost use Rattle.cmb_kernel.specs.Useful.{is_useful, useful_count, useful_advances};
-ghost use Rattle.cmb_kernel.specs.Sound.{Exists, EachNet, EachPin, coming_to, CanDrain, IsSound, ForSound, KnowsNet, HearsSource};
+ghost use Rattle.cmb_kernel.specs.Step.{step, steps, after_drain, round_of, rounds};
+ghost use Rattle.cmb_kernel.specs.Useful.{NoneFalls, SomeRises, is_useful, progress, useful_count, useful_advances};
+ghost use Rattle.cmb_events.specs.Schedule.{Exists};
+ghost use Rattle.cmb_kernel.specs.Sound.{EachNet, EachPin, coming_to, CanDrain, IsSound, ForSound, KnowsNet, HearsSource};
 
 /// Whatever happens in whatever order, nets and pins know the truth.
 pub fn truth()
@@ -27,6 +28,11 @@ pub fn truth()
 pub fn no_deadlock()
     ensures useful { ForSound (λ circuit last state.
         ¬ IsComplete state → (event : Event) × Exists circuit event × (is_useful state event ≡ true)) }
+    // Useful means that some frontier rises, of a net or of a pin; and none ever falls.
+    ensures falls { ForSound (λ circuit last state. (event : Event) → Exists circuit event → NoneFalls state (step state event)) }
+    ensures rises { ForSound (λ circuit last state. (event : Event) → Exists circuit event →
+        (is_useful state event ≡ true) ↔ SomeRises state (step state event)) }
+    ensures sum { ForSound (λ circuit last state. progress state ≤ last * (length circuit + pin_count circuit)) }
     ensures bound { ForSound (λ circuit last state. (events : List Event) → All (Exists circuit) events →
         useful_count state events ≤ length circuit * last + pin_count circuit * last) }
     ensures round { ForSound (λ circuit last state.

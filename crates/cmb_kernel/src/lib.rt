@@ -3,16 +3,10 @@
 #![tactic(auto)]
 
 mod counts;
-mod event;
 mod fault;
 mod kernel;
 pub mod laws;
-mod schedule;
-mod schedule_fault;
 
 pub use counts::Counts;
-pub use event::Event;
 pub use fault::KernelFault;
 pub use kernel::Kernel;
-pub use schedule::Schedule;
-pub use schedule_fault::ScheduleFault;

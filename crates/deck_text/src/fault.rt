@@ -1,11 +1,11 @@
 ghost use Rattle.std.specs.Prelude.{◌≡◌};
 ghost use Rattle.deck_text.specs.Faults.{line_of, name_of};
 
+use std::fmt;
 use thiserror::Error;
 
 /// Why a text is no deck. Lines count from 1.
 #[derive(Clone, Copy, Debug, PartialEq, Eq, Error)]
-#[error("{}", self.name())]
 pub enum DeckTextFault {
     /// The text has more than 16,777,216 bytes.
     TooLong,
@@ -32,5 +32,11 @@ impl DeckTextFault {
             DeckTextFault::TooLong => "TooLong",
             DeckTextFault::BadDeck { .. } => "BadDeck",
         }
+    }
+}
+
+impl fmt::Display for DeckTextFault {
+    fn fmt<W: fmt::Write>(&self, f: &mut fmt::Formatter<W>) -> Result<(), fmt::Error> {
+        f.write_str(self.name())
     }
 }

@@ -1,6 +1,7 @@
 //! The delay of each net, from a delay text.
 ghost use Rattle.std.specs.Prelude.{◌≡◌, ◌≢◌, ◌<◌, ◌-◌, ◌^◌, length, map, min, option_map, IfOk};
 ghost use Rattle.std.specs.Result.{result_map_both};
+ghost use Rattle.text_lines.specs.Text.{longest_text};
 ghost use Rattle.netlist.specs.Netlist.{net_at};
 ghost use Rattle.design.specs.Delays.{DelayLine, delay_in, delay_of_part, delay_or_fault, delays_of, is_input, net_delays, net_ticks};
 
@@ -24,9 +25,10 @@ pub(crate) fn delays(
     text: &[u8],
     default: u64,
 ) -> Result<Vec<u64>, DelayFault>
-    ensures { result ≢ Err DelayFault.Memory →
+    ensures delays { result ≢ Err DelayFault.Memory →
         result_map_both (λ delays. delays.items) (λ fault. fault) result
         ≡ result_map_both (net_delays netlist.now default) (λ fault. fault) (delays_of netlist.now text.now) }
+    ensures at_once { longest_text < length text.now → result ≡ Err DelayFault.TooLong }
 {
     let given = delays_given(alloc, netlist, text)?;
     let mut delays = Vec::new(alloc);
@@ -53,9 +55,10 @@ fn delays_given(
     netlist: &Netlist,
     text: &[u8],
 ) -> Result<Vec<Option<u64>>, DelayFault>
-    ensures { result ≢ Err DelayFault.Memory →
+    ensures given { result ≢ Err DelayFault.Memory →
         result_map_both (λ given. given.items) (λ fault. fault) result
         ≡ result_map_both (net_ticks netlist.now) (λ fault. fault) (delays_of netlist.now text.now) }
+    ensures at_once { longest_text < length text.now → result ≡ Err DelayFault.TooLong }
 {
     if text.len() > LONGEST_TEXT {
         return Err(DelayFault::TooLong);

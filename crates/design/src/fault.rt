@@ -5,11 +5,11 @@ ghost use Rattle.design.specs.declared.fault.BuildFault.TheVariants as build;
 ghost use Rattle.design.specs.Faults.{delay_line, delay_name, option_name, stimulus_fault, stimulus_line, stimulus_name, timing_fault};
 
 use std::alloc::{AllocError, AllocFailed};
+use std::fmt;
 use thiserror::Error;
 
 /// An option out of its range.
 #[derive(Clone, Copy, Debug, PartialEq, Eq, Error)]
-#[error("{}", self.name())]
 pub enum OptionFault {
     /// The default delay is 0 or above 1,000,000 ticks.
     BadDelay,
@@ -32,12 +32,17 @@ impl OptionFault {
     }
 }
 
+impl fmt::Display for OptionFault {
+    fn fmt<W: fmt::Write>(&self, f: &mut fmt::Formatter<W>) -> Result<(), fmt::Error> {
+        f.write_str(self.name())
+    }
+}
+
 /// Why a text gives no delays. Lines count from 1.
 ///
 /// The first faulty line decides, and within a line the order of these variants;
 /// [`TooLong`](Self::TooLong) comes before all else.
 #[derive(Clone, Copy, Debug, PartialEq, Eq, Error)]
-#[error("{}", self.name())]
 pub enum DelayFault {
     /// The text has more than 16,777,216 bytes.
     TooLong,
@@ -86,6 +91,12 @@ impl DelayFault {
     }
 }
 
+impl fmt::Display for DelayFault {
+    fn fmt<W: fmt::Write>(&self, f: &mut fmt::Formatter<W>) -> Result<(), fmt::Error> {
+        f.write_str(self.name())
+    }
+}
+
 impl From<AllocError> for DelayFault {
     ghost from_gives = { λ _ e. e ≡ delay.Memory };
 
@@ -107,7 +118,6 @@ impl<T: Drop> From<AllocFailed<T>> for DelayFault {
 /// The first faulty line decides, and within a line the order of these variants;
 /// [`TooLong`](Self::TooLong) comes before all else.
 #[derive(Clone, Copy, Debug, PartialEq, Eq, Error)]
-#[error("{}", self.name())]
 pub enum StimulusFault {
     /// The text has more than 16,777,216 bytes.
     TooLong,
@@ -157,6 +167,12 @@ impl StimulusFault {
             StimulusFault::NotRising { .. } => "NotRising",
             StimulusFault::Memory => "Memory",
         }
+    }
+}
+
+impl fmt::Display for StimulusFault {
+    fn fmt<W: fmt::Write>(&self, f: &mut fmt::Formatter<W>) -> Result<(), fmt::Error> {
+        f.write_str(self.name())
     }
 }
 

@@ -7,7 +7,8 @@ use crate::circuits::{
 };
 use Event::{Advance, Deliver};
 use cmb_channels::Queues;
-use cmb_kernel::{Counts, Event, Kernel, KernelFault};
+use cmb_events::Event;
+use cmb_kernel::{Counts, Kernel, KernelFault};
 use design::{Design, Horizon, plain_waves};
 use logic3::Waveform;
 use std::alloc::{AllocError, Global};

@@ -1,7 +1,7 @@
 //! Schedules, from a text and from a seed.
 use crate::circuits::{Circuit, INVERTER, LATE_PIN};
 use Event::{Advance, Deliver};
-use cmb_kernel::{Event, Schedule, ScheduleFault};
+use cmb_events::{Event, Schedule, ScheduleFault};
 use design::Design;
 use std::alloc::{AllocError, Global};
 use std::process::Abort;

@@ -11,6 +11,7 @@ mod Marking
 mod NetNames
 mod NetOf
 mod Numbered
+mod SameCones
 mod SameNames
 mod Stimuli
 mod Walking

@@ -45,7 +45,7 @@ past_from place bound e = go (nat_lt place bound) e
     go false e = refl
 
 module _ (design : DesignView) (name : List ℕ) where
-  abbrev has_name : Net → Bool
+  abbrev pub has_name : Net → Bool
   has_name net = bytes_eq net.name name
 
   pub net_of-found : (number : ℕ) → position has_name design.circuit ≡ Some number → net_of design name ≡ slice_get design.circuit number

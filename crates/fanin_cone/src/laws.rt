@@ -29,6 +29,14 @@ pub fn agreeing_designs_show_the_same()
         (name : List ℕ) → InCone a.netlist names name → ShowTheSame a b horizon name }
 {}
 
+/// Where two designs agree, up to some tick, on the cone that some names have in the first one, they
+/// have the same cone in the second.
+pub fn agreeing_designs_have_the_same_cone()
+    ensures { (a b : DesignView) (names : List (List ℕ)) (horizon : ℕ) →
+        DesignsAgree a b (InCone a.netlist names) horizon →
+        (name : List ℕ) → InCone a.netlist names name ↔ InCone b.netlist names name }
+{}
+
 /// Where the nets of an extracted netlist have, up to a tick, the timing and stimuli that they have
 /// in the whole, the two designs agree on them, and they show the same in both, at every tick up to
 /// that one.

@@ -6,4 +6,5 @@ pub use Rattle.logic3.specs.Wave
 pub use Rattle.netlist.specs.Part
 pub use Rattle.design.specs.Circuit
 pub use Rattle.design.specs.Equations
+pub use Rattle.cmb_channels.specs.Kinds
 pub use Rattle.cmb_channels.specs.Lists

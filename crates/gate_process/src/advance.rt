@@ -1,5 +1,5 @@
 //! The steps of an advance.
-ghost use Rattle.std.specs.Prelude.{◌≡◌, ℕ, ◌+◌, ◌<◌, ◌≤◌, ◌==◌, if◌then◌else◌, [], All, slice_get, Some, length, map, IfOk, OnOk};
+ghost use Rattle.std.specs.Prelude.{◌≡◌, ℕ, ◌+◌, ◌<◌, ◌≤◌, ◌==◌, if◌then◌else◌, [], All, slice_get, Some, length, map, IfOk, OnOk, OnErr};
 ghost use Rattle.logic3.specs.declared.value.Value.TheVariants.{Unknown};
 ghost use Rattle.logic3.specs.declared.change.Change.{Change};
 ghost use Rattle.logic3.specs.Wave.{value_at, value_before, last_value, joined, changes_between};
@@ -17,6 +17,7 @@ use std::alloc::{AllocError, Global};
 /// Carries a net's waveform on by its equation, and answers the messages that tell of it.
 ///
 /// It looks at a tick only where a pin's change or a stimulus may show, so ticks between cost nothing.
+/// Where there are no ticks it takes no memory.
 pub fn extend(
     alloc: Global,
     net: &NetCopy,
@@ -34,6 +35,7 @@ pub fn extend(
         (changes_between (continued wave.old from (equation net.now (signals_of received.now))) from to)) }
     ensures news { IfOk result (λ messages. messages.items ≡ (if to == from then [] else
         news_of (changes_between (continued wave.old from (equation net.now (signals_of received.now))) from to) to)) }
+    ensures memory { OnErr result (from < to) }
 {
     let mut messages = Vec::new(alloc);
     let mut values = Vec::new(alloc);

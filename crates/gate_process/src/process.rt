@@ -1,5 +1,6 @@
 ghost use Rattle.std.specs.Prelude.{◌≡◌, ℕ, ◌+◌, ◌<◌, Bool, true, false, length, slice_get, Some, IfOk, IfSome, OnOk, OnErr};
-ghost use Rattle.gate_process.specs.Step.{running, started_process, pin_frontier, pin_last, heard, safe_of, advanced, news};
+ghost use Rattle.cmb_channels.specs.Kinds.{is_change};
+ghost use Rattle.gate_process.specs.Step.{running, started_process, pin_frontier, pin_last, heard, safe_of, next_frontier, advanced, news};
 ghost use Rattle.gate_process.specs.Truth.{IsProcess, CanHear};
 
 use crate::advance::{extend, keep_all};
@@ -87,13 +88,15 @@ impl Process {
     /// Hears a message at the pin at this place.
     ///
     /// The message raises what is known of the pin, but not past the horizon, and a change goes on
-    /// with the waveform that the pin was told. An `AllocError` leaves the process as it was.
+    /// with the waveform that the pin was told. A null message takes no memory. An `AllocError`
+    /// leaves the process as it was.
     pub fn receive(&mut self, place: u32, message: Message) -> Result<(), AllocError>
         requires running { self.old.failed ≡ false }
         requires place { place < length self.old.state.received }
         requires can_hear { CanHear self.old.state place message }
         ensures ok { OnOk result (self.new ≡ running (heard place message self.old.state)) }
         ensures err { OnErr result (self.new ≡ self.old) }
+        ensures memory { OnErr result (is_change message ≡ true) }
     {
         let received = &mut self.received[place as usize];
         received.hear(message)?;
@@ -105,13 +108,14 @@ impl Process {
     /// change, in order, and at the end a null message where no change comes at the last tick. Each
     /// raises what is known of the net, so there is none where the frontier stays.
     ///
-    /// The cost grows with the changes and the pins, not with the ticks. After an `AllocError` the
-    /// process has failed.
+    /// The cost grows with the changes and the pins, not with the ticks. Where the frontier stays, it
+    /// takes no memory. After an `AllocError` the process has failed.
     pub fn advance(&mut self) -> Result<Vec<Message>, AllocError>
         requires running { self.old.failed ≡ false }
         ensures news { IfOk result (λ messages. messages.items ≡ news self.old.state) }
         ensures state { OnOk result (self.new ≡ running (advanced self.old.state)) }
         ensures err { OnErr result (self.new.failed ≡ true) }
+        ensures memory { OnErr result (self.old.state.known.frontier < next_frontier self.old.state) }
     {
         let alloc = *self.received.allocator();
         let safe = least_frontier(self.end, self.received.as_slice());

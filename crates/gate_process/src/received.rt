@@ -1,7 +1,8 @@
-ghost use Rattle.std.specs.Prelude.{◌≡◌, ℕ, ◌+◌, ◌<◌, ◌≤◌, map, replicate, IfOk, OnOk, OnErr};
+ghost use Rattle.std.specs.Prelude.{◌≡◌, true, ℕ, ◌+◌, ◌<◌, ◌≤◌, map, replicate, IfOk, OnOk, OnErr};
 ghost use Rattle.logic3.specs.declared.value.Value.TheVariants.{Unknown};
 ghost use Rattle.logic3.specs.Wave.{IsWave, last_value, value_at, value_in_the_end};
 ghost use Rattle.design.specs.Circuit.{most_ticks};
+ghost use Rattle.cmb_channels.specs.Kinds.{is_change};
 ghost use Rattle.gate_process.specs.Knowledge.{Knowledge, nothing_known, told, kept_since, forgetting, keeping};
 ghost use Rattle.gate_process.specs.Step.{least};
 
@@ -50,13 +51,14 @@ impl Received {
         self.frontier
     }
 
-    /// Knows a message more. An `AllocError` changes nothing.
+    /// Knows a message more. A null message takes no memory. An `AllocError` changes nothing.
     pub fn hear(&mut self, message: Message) -> Result<(), AllocError>
         requires raises { self.old.frontier < (told self.old message).frontier }
         requires fits { (told self.old message).frontier ≤ most_ticks + 1 }
         requires wave { IsWave (told self.old message).wave }
         ensures ok { OnOk result (self.new ≡ told self.old message) }
         ensures err { OnErr result (self.new ≡ self.old) }
+        ensures memory { OnErr result (is_change message ≡ true) }
     {
         match message {
             Message::Change(change) => {

@@ -1,3 +1,1 @@
 mod CountsLine
-mod Decks
-mod Told

@@ -2,18 +2,15 @@
 #![tactic(auto)]
 
 mod commander;
-mod deck_run;
-mod teller;
 mod words;
 
 pub use command_line::NoOrder;
 pub use commander::{answer_order, command, write_counts_line};
-pub use deck_run::{DeckFault, deck};
 pub use deck_text::{DeckTextFault, Sections, read_sections};
+pub use decks::{DeckFault, answer_deck, deck, tell};
 pub use orders::{Order, PickOptions, ProgramFault, ReadFault, SourceOptions, Texts, read_text};
 pub use runs::{
     CheckAnswer, Picks, Report, Show, Side, SimFault, Source, TwinAnswer, TwinFault, View, check,
     cone_text, plain, simulate, twin,
 };
-pub use teller::{answer_deck, tell};
 pub use words::order_of_words;

@@ -17,10 +17,10 @@ use Rattle.design.specs.Design.{DesignView}
 use Rattle.design.specs.Options.{horizon_of, options_of}
 use Rattle.design.specs.Delays.{delays_after, delays_of}
 use Rattle.design.specs.Stimuli.{stimuli_after, stimuli_of}
-use Rattle.cmb_kernel.specs.declared.event.Event.{Event}
-use Rattle.cmb_kernel.specs.declared.schedule_fault.ScheduleFault.{ScheduleFault}
-use Rattle.cmb_kernel.specs.declared.schedule_fault.ScheduleFault.TheVariants as schedule
-use Rattle.cmb_kernel.specs.Schedule.{events_after, events_of}
+use Rattle.cmb_events.specs.declared.event.Event.{Event}
+use Rattle.cmb_events.specs.declared.schedule_fault.ScheduleFault.{ScheduleFault}
+use Rattle.cmb_events.specs.declared.schedule_fault.ScheduleFault.TheVariants as schedule
+use Rattle.cmb_events.specs.Schedule.{events_after, events_of}
 use Rattle.runs.specs.declared.fault.SimFault.{SimFault}
 use Rattle.runs.specs.declared.fault.SimFault.TheVariants.{Setting}
 use Rattle.runs.specs.declared.view.View.{View}

@@ -8,12 +8,12 @@ use crate::input::ReadFault;
 use deck_text::DeckTextFault;
 use runs::{Side, SimFault, TwinFault};
 use std::alloc::AllocError;
+use std::fmt;
 use thiserror::Error;
 use vcd_dump::DumpFault;
 
 /// Why the program ended early: its text is the name that the line of a fault ends with.
 #[derive(Clone, Copy, Debug, Error)]
-#[error("{}", self.name())]
 pub enum ProgramFault<'a> {
     /// The text of this name could not be read.
     Read(&'a str),
@@ -87,6 +87,12 @@ impl<'a> ProgramFault<'a> {
             SimFault::Memory => ProgramFault::Memory,
             other => ProgramFault::Run { side, fault: other },
         }
+    }
+}
+
+impl fmt::Display for ProgramFault<'_> {
+    fn fmt<W: fmt::Write>(&self, f: &mut fmt::Formatter<W>) -> Result<(), fmt::Error> {
+        f.write_str(self.name())
     }
 }
 

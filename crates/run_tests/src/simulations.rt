@@ -1,5 +1,6 @@
 //! Runs by the kernel: dumps byte for byte, what is reported, schedules.
-use cmb_kernel::{Counts, ScheduleFault};
+use cmb_events::ScheduleFault;
+use cmb_kernel::Counts;
 use design::StimulusFault;
 use runs::{Picks, Report, Show, SimFault, Source, View, plain, simulate};
 use std::alloc::Global;

@@ -1,6 +1,6 @@
 //! Two runs compared, and the two engines compared, by the library's calls.
 use bench_text::BenchFault;
-use cmb_kernel::ScheduleFault;
+use cmb_events::ScheduleFault;
 use design::{DelayFault, OptionFault, StimulusFault};
 use logic3::{Change, Value, Waveform};
 use runs::{CheckAnswer, Picks, Side, SimFault, Source, TwinAnswer, TwinFault, check, twin};

@@ -1,10 +1,11 @@
 -- The answer to a source, step by step.
-use Rattle.std.proofs.Common.{◌≡◌, ℕ, List, Result, Ok, Err, refl, ap}
+use Rattle.std.proofs.Common.{◌≡◌, ◌≢◌, ℕ, ◌<◌, ◌≤◌, List, length, Result, Ok, Err, refl, ap, subst, ◌⊎◌, inl, inr}
+use Rattle.std.proofs.lemmas.Bool.{cases_lt}
 use Rattle.bench_text.specs.declared.fault.BenchFault.{BenchFault}
 use Rattle.bench_text.specs.declared.fault.BenchFault.TheVariants as bench
 use Rattle.netlist.specs.Netlist.{NetlistView}
 use Rattle.bench_text.specs.NetlistOf.{netlist_of}
-use Rattle.text_lines.specs.Text.{◌>>=◌}
+use Rattle.text_lines.specs.Text.{◌>>=◌, longest_text}
 use Rattle.design.specs.declared.fault.OptionFault.{OptionFault}
 use Rattle.design.specs.declared.fault.DelayFault.TheVariants as delay
 use Rattle.design.specs.declared.fault.StimulusFault.TheVariants as stimulus
@@ -13,9 +14,9 @@ use Rattle.design.specs.declared.fault.BuildFault.TheVariants as build
 use Rattle.design.specs.Design.{DesignView}
 use Rattle.design.specs.Options.{options_of, horizon_of}
 use Rattle.design.specs.Build.{design_of}
-use Rattle.cmb_kernel.specs.declared.event.Event.{Event}
-use Rattle.cmb_kernel.specs.declared.schedule_fault.ScheduleFault.{ScheduleFault}
-use Rattle.cmb_kernel.specs.declared.schedule_fault.ScheduleFault.TheVariants as schedule
+use Rattle.cmb_events.specs.declared.event.Event.{Event}
+use Rattle.cmb_events.specs.declared.schedule_fault.ScheduleFault.{ScheduleFault}
+use Rattle.cmb_events.specs.declared.schedule_fault.ScheduleFault.TheVariants as schedule
 use Rattle.runs.specs.declared.view.View.{View}
 use Rattle.runs.specs.declared.fault.SimFault.{SimFault}
 use Rattle.runs.specs.declared.fault.SimFault.TheVariants.{Setting, Dump, Memory}
@@ -49,6 +50,21 @@ module _ {A : Type 0} (answer : Result A SimFault) where
       IsRefusal answer (sim_of_schedule fault)
   IsRefusal-schedule schedule.Memory refused = tt
   IsRefusal-schedule _ refused = refused (λ e. (cc))
+
+-- ---- what is found at once
+
+-- a text that is refused at once where it is too long isn't too long where it isn't refused so
+pub short-unless_refused : {A F : Type 0} (result : Result A F) (fault : F) (text : List ℕ) →
+    (longest_text < length text → result ≡ Err fault) → result ≢ Err fault → length text ≤ longest_text
+short-unless_refused result fault text at_once other = go (cases_lt longest_text (length text))
+  where
+    go : (longest_text < length text) ⊎ (length text ≤ longest_text) → length text ≤ longest_text
+    go (inl long) = absurd (other (at_once long))
+    go (inr short) = short
+
+-- a fault of a netlist's text that is told as want of memory isn't that it is too long
+pub memory_of_bench : (fault : BenchFault) → sim_of_bench fault ≡ Memory → fault ≢ bench.TooLong
+memory_of_bench fault same is = let told = subst (λ f. sim_of_bench f ≡ Memory) is same in cc
 
 -- ---- the design
 

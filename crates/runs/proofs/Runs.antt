@@ -2,7 +2,7 @@
 use Rattle.std.proofs.Common.{◌≡◌, ℕ, List, Result, Ok, Err, ap}
 use Rattle.text_lines.specs.Text.{◌>>=◌}
 use Rattle.design.specs.Design.{DesignView}
-use Rattle.cmb_kernel.specs.declared.event.Event.{Event}
+use Rattle.cmb_events.specs.declared.event.Event.{Event}
 use Rattle.runs.specs.declared.fault.SimFault.{SimFault}
 use Rattle.runs.specs.declared.view.View.{View}
 use Rattle.runs.specs.Events.{events_of_picks}

@@ -10,13 +10,13 @@ use Rattle.design.specs.Equations.{value_of}
 use Rattle.cmb_channels.specs.declared.message.Message.{Message}
 use Rattle.cmb_channels.proofs.CallerLemmas.{view_at}
 use Rattle.gate_process.specs.Step.{ProcessState}
-use Rattle.cmb_kernel.specs.declared.event.Event.{Event}
-use Rattle.cmb_kernel.specs.declared.event.Event.TheVariants.{Deliver, Advance}
+use Rattle.cmb_events.specs.declared.event.Event.{Event}
+use Rattle.cmb_events.specs.declared.event.Event.TheVariants.{Deliver, Advance}
 use Rattle.cmb_kernel.specs.declared.fault.KernelFault.{KernelFault}
 use Rattle.cmb_kernel.specs.declared.fault.KernelFault.TheVariants as kernel
 use Rattle.cmb_kernel.specs.Refusals.{answer, first_fault, list_fault, refusal}
-use Rattle.cmb_kernel.specs.Schedule.{most_events}
-use Rattle.cmb_kernel.specs.Sound.{Exists, IsSound}
+use Rattle.cmb_events.specs.Schedule.{most_events, Exists}
+use Rattle.cmb_kernel.specs.Sound.{IsSound}
 use Rattle.cmb_kernel.specs.State.{KernelView, State, IsComplete, fresh, frontier_at, is_complete, most_rounds, started}
 use Rattle.cmb_kernel.specs.Step.{after_deliver, completed_within, round_events, round_of, step, steps}
 use Rattle.cmb_kernel.proofs.CallerLemmas.{net_count, get_below}

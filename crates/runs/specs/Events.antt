@@ -1,9 +1,9 @@
 -- The events that come before a run completes.
 use Rattle.std.specs.Prelude.{ℕ, List, [], Result, Ok}
 use Rattle.design.specs.Circuit.{Circuit}
-use Rattle.cmb_kernel.specs.declared.event.Event.{Event}
-use Rattle.cmb_kernel.specs.declared.schedule_fault.ScheduleFault.{ScheduleFault}
-use Rattle.cmb_kernel.specs.Schedule.{events_of, picks_of}
+use Rattle.cmb_events.specs.declared.event.Event.{Event}
+use Rattle.cmb_events.specs.declared.schedule_fault.ScheduleFault.{ScheduleFault}
+use Rattle.cmb_events.specs.Schedule.{events_of, picks_of}
 use Rattle.runs.specs.declared.source.Picks.{Picks}
 use Rattle.runs.specs.declared.source.Picks.TheVariants.{Nothing, Text, Seeded}
 

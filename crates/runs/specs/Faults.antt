@@ -2,7 +2,7 @@
 use Rattle.std.specs.Prelude.{ℕ, List, codes}
 use Rattle.bench_text.specs.Faults as of_bench
 use Rattle.design.specs.Faults.{delay_line, delay_name, option_name, stimulus_line, stimulus_name}
-use Rattle.cmb_kernel.specs.ScheduleFaults as of_schedule
+use Rattle.cmb_events.specs.ScheduleFaults as of_schedule
 use Rattle.vcd_dump.specs.Faults as of_dump
 use Rattle.bench_text.specs.declared.fault.BenchFault.{BenchFault}
 use Rattle.bench_text.specs.declared.fault.BenchFault.TheVariants as bench
@@ -10,8 +10,8 @@ use Rattle.design.specs.declared.fault.BuildFault.{BuildFault}
 use Rattle.design.specs.declared.fault.BuildFault.TheVariants as build
 use Rattle.design.specs.declared.fault.DelayFault.TheVariants as delay
 use Rattle.design.specs.declared.fault.StimulusFault.TheVariants as stimulus
-use Rattle.cmb_kernel.specs.declared.schedule_fault.ScheduleFault.{ScheduleFault}
-use Rattle.cmb_kernel.specs.declared.schedule_fault.ScheduleFault.TheVariants as schedule
+use Rattle.cmb_events.specs.declared.schedule_fault.ScheduleFault.{ScheduleFault}
+use Rattle.cmb_events.specs.declared.schedule_fault.ScheduleFault.TheVariants as schedule
 use Rattle.fanin_cone.specs.declared.fault.ConeFault.{ConeFault}
 use Rattle.fanin_cone.specs.declared.fault.ConeFault.TheVariants as cone
 use Rattle.vcd_dump.specs.declared.fault.DumpFault.{DumpFault}

@@ -4,7 +4,7 @@ use Rattle.std.specs.Result.{result_map_both}
 use Rattle.text_lines.specs.Text.{◌>>=◌}
 use Rattle.design.specs.Circuit.{Circuit}
 use Rattle.design.specs.Design.{DesignView}
-use Rattle.cmb_kernel.specs.declared.event.Event.{Event}
+use Rattle.cmb_events.specs.declared.event.Event.{Event}
 use Rattle.cmb_kernel.specs.State.{KernelView, State, started, frontier_at, least_frontier, most_rounds}
 use Rattle.cmb_kernel.specs.Step.{steps, completed_within}
 use Rattle.runs.specs.declared.fault.SimFault.{SimFault}

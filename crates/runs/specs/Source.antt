@@ -1,9 +1,9 @@
 -- Whole runs: the answer to texts and settings, composed of the definitions below.
-use Rattle.std.specs.Prelude.{ℕ, List, map, length, Result, Ok}
+use Rattle.std.specs.Prelude.{ℕ, ◌≤◌, List, map, length, Result, Ok, IsOk}
 use Rattle.std.specs.List.{range_with_len}
 use Rattle.std.specs.Result.{result_map_both}
 use Rattle.logic3.specs.declared.value.Value.{Value}
-use Rattle.text_lines.specs.Text.{◌>>=◌}
+use Rattle.text_lines.specs.Text.{◌>>=◌, longest_text}
 use Rattle.netlist.specs.Netlist.{NetlistView}
 use Rattle.bench_text.specs.NetlistOf.{netlist_of}
 use Rattle.design.specs.Options.{options_of, horizon_of}
@@ -57,6 +57,12 @@ dump_of_design view horizon design = dump_text view.unit horizon (signals_of des
 -- the same value, or the fault as another
 abbrev pub or_fault : {A F G : Type 0} → (F → G) → Result A F → Result A G
 or_fault lifted result = result_map_both (λ value. value) lifted result
+
+-- a run may find memory wanting only once its settings are in their ranges and its netlist's text isn't too long
+pub record MayWantMemory (source : SourceView) (ticks : ℕ) : Type 0 where
+  pub settings : IsOk (options_of source.default_delay source.period)
+  pub horizon : IsOk (horizon_of ticks)
+  pub netlist : length source.bench ≤ longest_text
 
 -- the horizon and the design that settings and texts make, or the first fault
 unfoldable pub design_of_source : SourceView → ℕ → Result (ℕ × DesignView) SimFault

@@ -6,8 +6,7 @@ use Rattle.text_lines.specs.Text.{◌>>=◌}
 use Rattle.netlist.specs.Netlist.{net_named}
 use Rattle.design.specs.Design.{DesignView, IsDesign}
 use Rattle.design.specs.Equations.{value_of}
-use Rattle.cmb_kernel.specs.Schedule.{most_events}
-use Rattle.cmb_kernel.specs.Sound.{Exists}
+use Rattle.cmb_events.specs.Schedule.{most_events, Exists}
 use Rattle.fanin_cone.specs.Agreement.{AgreesOn}
 use Rattle.fanin_cone.specs.Cone.{InCone}
 use Rattle.runs.specs.declared.fault.SimFault.{SimFault}

@@ -1,14 +1,14 @@
 //! The kernel and the plain engine, compared.
-ghost use Rattle.std.specs.Prelude.{◌≡◌, ◌<◌, ◌≤◌, ◌^◌, length, map, All, IfErr, IfOk, IsOkAnd, false};
+ghost use Rattle.std.specs.Prelude.{◌≡◌, ◌<◌, ◌≤◌, ◌^◌, length, map, All, IfErr, IfOk, IsOkAnd, false, Err};
 ghost use Rattle.std.specs.List.{range_with_len};
 ghost use Rattle.logic3.specs.Wave.{wave_of};
 ghost use Rattle.design.specs.Equations.{value_of};
-ghost use Rattle.cmb_kernel.specs.Schedule.{most_events};
-ghost use Rattle.cmb_kernel.specs.Sound.{Exists};
+ghost use Rattle.cmb_events.specs.Schedule.{most_events, Exists};
 ghost use Rattle.runs.specs.Checked.{checked};
 ghost use Rattle.runs.specs.Ends.{IsRefusal};
-ghost use Rattle.runs.specs.Source.{seen_source};
+ghost use Rattle.runs.specs.Source.{seen_source, MayWantMemory};
 ghost use Rattle.runs.specs.Simulated.{IsKnown, run_of_source, seen_run};
+ghost use Rattle.runs.specs.declared.fault.SimFault.TheVariants.{Memory};
 
 use crate::fault::SimFault;
 use crate::preparation::{PreparedRun, prepare_run};
@@ -40,6 +40,7 @@ pub fn check(alloc: Global, source: &Source<'_>, horizon: u64) -> Result<CheckAn
     ensures ok { IfOk result (λ answer. IsOkAnd (run_of_source (seen_source source.now) horizon)
         (λ run. answer ≡ checked run)) }
     ensures err { IfErr result (IsRefusal (run_of_source (seen_source source.now) horizon)) }
+    ensures memory { result ≡ Err Memory → MayWantMemory (seen_source source.now) horizon }
 {
     let run = prepare_run(alloc, source, horizon)?;
     check_prepared(alloc, &run)

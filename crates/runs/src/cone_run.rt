@@ -1,7 +1,10 @@
 //! The nets in fan-in cones, as a text of their own.
-ghost use Rattle.std.specs.Prelude.{◌≡◌, ◌≢◌, ◌<◌, length};
+ghost use Rattle.std.specs.Prelude.{◌≡◌, ◌≢◌, ◌<◌, length, Err};
 ghost use Rattle.std.specs.Result.{result_map_both};
+ghost use Rattle.text_lines.specs.Text.{longest_text};
 ghost use Rattle.netlist.specs.Names.{seen_names};
+ghost use Rattle.bench_text.specs.declared.fault.BenchFault.TheVariants.{TooLong};
+ghost use Rattle.runs.specs.declared.fault.SimFault.TheVariants.{Bench};
 ghost use Rattle.runs.specs.ConeText.{IsConeAnswer, IsConeOfNetlist};
 
 use crate::fault::SimFault;
@@ -17,7 +20,8 @@ use std::alloc::Global;
 /// [`SimFault::Bench`] where the netlist is refused, where there is no name (`NoNets`), and where the
 /// text would be too long (`TooLong`); [`SimFault::UnknownNet`] where no net has one of the names.
 pub fn cone_text(alloc: Global, bench: &[u8], names: &[&[u8]]) -> Result<Vec<u8>, SimFault>
-    ensures { result ≢ Err SimFault.Memory → IsConeAnswer bench.now (seen_names names.now)
+    ensures at_once { longest_text < length bench.now → result ≡ Err (Bench TooLong) }
+    ensures cone { result ≢ Err SimFault.Memory → IsConeAnswer bench.now (seen_names names.now)
         (result_map_both (λ text. text.items) (λ fault. fault) result) }
 {
     let netlist = read(alloc, bench)?;

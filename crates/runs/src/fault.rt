@@ -3,10 +3,12 @@ ghost use Rattle.runs.specs.declared.fault.SimFault.TheVariants as sim;
 ghost use Rattle.runs.specs.Faults.{line_of, name_of, sim_of_bench, sim_of_build, sim_of_cone, sim_of_dump, sim_of_schedule};
 
 use bench_text::BenchFault;
-use cmb_kernel::{KernelFault, ScheduleFault};
+use cmb_events::ScheduleFault;
+use cmb_kernel::KernelFault;
 use design::{BuildFault, DelayFault, OptionFault, StimulusFault};
 use fanin_cone::ConeFault;
 use std::alloc::AllocError;
+use std::fmt;
 use thiserror::Error;
 use vcd_dump::DumpFault;
 
@@ -15,7 +17,6 @@ use vcd_dump::DumpFault;
 /// The first fault decides: the settings (default delay, period, horizon), the netlist, the delays,
 /// the stimuli, the schedule, the names of nets. A want of memory of any layer is [`Memory`](Self::Memory).
 #[derive(Clone, Copy, Debug, PartialEq, Eq, Error)]
-#[error("{}", self.name())]
 pub enum SimFault {
     Setting(OptionFault),
     Bench(BenchFault),
@@ -58,6 +59,12 @@ impl SimFault {
             SimFault::Dump(fault) => fault.name(),
             SimFault::Memory => "Memory",
         }
+    }
+}
+
+impl fmt::Display for SimFault {
+    fn fmt<W: fmt::Write>(&self, f: &mut fmt::Formatter<W>) -> Result<(), fmt::Error> {
+        f.write_str(self.name())
     }
 }
 

@@ -1,11 +1,12 @@
 //! A run by the plain engine.
-ghost use Rattle.std.specs.Prelude.{◌≡◌, ◌<◌, [], map, length, All, Some, IfOk, IfErr, IfSome, OnOk, IsOkAnd};
+ghost use Rattle.std.specs.Prelude.{◌≡◌, ◌<◌, [], map, length, All, Some, IfOk, IfErr, IfSome, OnOk, IsOkAnd, Err};
 ghost use Rattle.std.specs.Io.KnownBytes.{Appends};
 ghost use Rattle.design.specs.Design.{IsDesign};
-ghost use Rattle.runs.specs.Source.{design_of_source, dump_of_design, dump_of_source, seen_source, shown_nets};
+ghost use Rattle.runs.specs.Source.{design_of_source, dump_of_design, dump_of_source, seen_source, shown_nets, MayWantMemory};
 ghost use Rattle.runs.specs.Ends.{BreaksOff, RunEndsBy};
 ghost use Rattle.runs.specs.Shown.{wave_at, waves_up_to};
 ghost use Rattle.runs.specs.Viewed.{ShowsValues};
+ghost use Rattle.runs.specs.declared.fault.SimFault.TheVariants.{Memory};
 
 use crate::dumping::{shown_nets, write_dump};
 use crate::fault::SimFault;
@@ -22,8 +23,9 @@ use std::io::Write;
 /// The text that goes out shows each shown net's value at every tick, as the equations give it.
 ///
 /// # Errors
-/// A refusal of the settings or of a text comes before the first byte is written. After a failed
-/// write or a want of memory a first part of the dump went out, which may be nothing.
+/// A refusal of the settings or of a text comes before the first byte is written; the settings and
+/// the length of the netlist's text are looked at before any memory is taken. After a failed write
+/// or a want of memory a first part of the dump went out, which may be nothing.
 pub fn plain<W: Write>(
     alloc: Global,
     source: &Source<'_>,
@@ -37,6 +39,7 @@ pub fn plain<W: Write>(
         (λ ready. ShowsValues view.now ready.1 text))) }
     ensures err { IfErr result (RunEndsBy (dump_of_source (seen_source source.now) view.now)
         (W.contents out.old) (W.contents out.new)) }
+    ensures memory { result ≡ Err Memory → MayWantMemory (seen_source source.now) view.now.horizon }
 {
     let (design, horizon) = prepare(alloc, source, view.horizon)?;
     dump_by_plain_engine(alloc, &design, horizon, view, out)

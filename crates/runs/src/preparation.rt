@@ -1,16 +1,16 @@
 //! What a run starts from.
-ghost use Rattle.std.specs.Prelude.{◌≡◌, ◌≢◌, ◌≤◌, Ok, length, All, IfOk, IfErr};
-ghost use Rattle.cmb_kernel.specs.Schedule.{most_events};
-ghost use Rattle.cmb_kernel.specs.Sound.{Exists};
-ghost use Rattle.runs.specs.Source.{design_of_source, seen_source};
+ghost use Rattle.std.specs.Prelude.{◌≡◌, ◌≢◌, ◌≤◌, Ok, length, All, IfOk, IfErr, OnOk, Err};
+ghost use Rattle.cmb_events.specs.Schedule.{most_events, Exists};
+ghost use Rattle.runs.specs.Source.{design_of_source, seen_source, MayWantMemory};
 ghost use Rattle.runs.specs.Ends.{IsRefusal};
 ghost use Rattle.runs.specs.Events.{events_of_picks, seen_picks};
 ghost use Rattle.runs.specs.Simulated.{run_of_source, seen_run};
+ghost use Rattle.runs.specs.declared.fault.SimFault.TheVariants.{Memory};
 
 use crate::fault::SimFault;
 use crate::source::{Picks, Source};
 use bench_text::read;
-use cmb_kernel::{Schedule, ScheduleFault};
+use cmb_events::{Schedule, ScheduleFault};
 use design::{Design, Horizon, options};
 use std::alloc::Global;
 
@@ -32,6 +32,8 @@ pub(crate) fn prepare_run(
     ensures exist { IfOk result (λ run. All (Exists run.design.circuit) run.schedule) }
     ensures few { IfOk result (λ run. length run.schedule ≤ most_events) }
     ensures err { IfErr result (IsRefusal (run_of_source (seen_source source.now) horizon)) }
+    ensures begun { OnOk result (MayWantMemory (seen_source source.now) horizon) }
+    ensures memory { result ≡ Err Memory → MayWantMemory (seen_source source.now) horizon }
 {
     let (design, horizon) = prepare(alloc, source, horizon)?;
     let schedule = picked(alloc, source.picks, &design)?;
@@ -51,6 +53,8 @@ pub(crate) fn prepare(
     ensures ok { IfOk result (λ ready. design_of_source (seen_source source.now) horizon
         ≡ Ok (ready.1, ready.0)) }
     ensures err { IfErr result (IsRefusal (design_of_source (seen_source source.now) horizon)) }
+    ensures begun { OnOk result (MayWantMemory (seen_source source.now) horizon) }
+    ensures memory { result ≡ Err Memory → MayWantMemory (seen_source source.now) horizon }
 {
     options(source.default_delay, source.period)?;
     let horizon = Horizon::new(horizon)?;

@@ -1,16 +1,16 @@
 //! A run by the kernel.
-ghost use Rattle.std.specs.Prelude.{◌≡◌, ◌<◌, ◌≤◌, ◌+◌, false, [], map, length, All, Some, IfOk, IfErr, IfSome, OnOk, IsOkAnd};
+ghost use Rattle.std.specs.Prelude.{◌≡◌, ◌<◌, ◌≤◌, ◌+◌, false, [], map, length, All, Some, IfOk, IfErr, IfSome, OnOk, IsOkAnd, Err};
 ghost use Rattle.std.specs.Io.KnownBytes.{Appends};
 ghost use Rattle.logic3.specs.Wave.{wave_of};
 ghost use Rattle.design.specs.Equations.{value_of};
 ghost use Rattle.cmb_kernel.specs.State.{most_rounds};
 ghost use Rattle.cmb_kernel.specs.Step.{completed_within, steps};
-ghost use Rattle.cmb_kernel.specs.Schedule.{most_events};
-ghost use Rattle.cmb_kernel.specs.Sound.{Exists};
-ghost use Rattle.runs.specs.Source.{dump_of_design, seen_source};
+ghost use Rattle.cmb_events.specs.Schedule.{most_events, Exists};
+ghost use Rattle.runs.specs.Source.{dump_of_design, seen_source, MayWantMemory};
 ghost use Rattle.runs.specs.Ends.{BreaksOff, RunEndsBy};
 ghost use Rattle.runs.specs.Simulated.{IsKnown, dump_in, report_of, reported, run_of_source, seen_run, simulated};
 ghost use Rattle.runs.specs.Viewed.{ShowsValues};
+ghost use Rattle.runs.specs.declared.fault.SimFault.TheVariants.{Memory};
 
 use crate::dumping::{shown_nets, write_dump};
 use crate::fault::SimFault;
@@ -18,7 +18,8 @@ use crate::preparation::{PreparedRun, prepare_run};
 use crate::source::Source;
 use crate::view::View;
 use cmb_channels::Queues;
-use cmb_kernel::{Counts, Event, Kernel, KernelFault};
+use cmb_events::Event;
+use cmb_kernel::{Counts, Kernel, KernelFault};
 use logic3::Waveform;
 use std::alloc::{AllocError, Global};
 use std::io::Write;
@@ -41,8 +42,9 @@ pub struct Report {
 /// whatever was picked: the events show in the report alone.
 ///
 /// # Errors
-/// A refusal of the settings or of a text comes before the first byte is written. After a failed
-/// write or a want of memory a first part of the dump went out, which may be nothing.
+/// A refusal of the settings or of a text comes before the first byte is written; the settings and
+/// the length of the netlist's text are looked at before any memory is taken. After a failed write
+/// or a want of memory a first part of the dump went out, which may be nothing.
 pub fn simulate<W: Write>(
     alloc: Global,
     source: &Source<'_>,
@@ -59,6 +61,7 @@ pub fn simulate<W: Write>(
         (λ run. report.total.rounds ≤ most_rounds (run.horizon + 1) run.design.circuit)) }
     ensures err { IfErr result (RunEndsBy (dump_in (simulated (seen_source source.now) view.now))
         (W.contents out.old) (W.contents out.new)) }
+    ensures memory { result ≡ Err Memory → MayWantMemory (seen_source source.now) view.now.horizon }
 {
     let run = prepare_run(alloc, source, view.horizon)?;
     dump_by_kernel(alloc, &run, view, out)

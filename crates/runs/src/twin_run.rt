@@ -2,13 +2,13 @@
 ghost use Rattle.std.specs.Prelude.{◌≡◌, ◌+◌, ◌<◌, ◌≤◌, ◌↔◌, ◌∷◌, [], length, All, IfErr, IfOk, IsOkAnd, IsTrue, Ok, Err};
 ghost use Rattle.logic3.specs.Wave.{wave_of};
 ghost use Rattle.design.specs.Equations.{value_of};
-ghost use Rattle.cmb_kernel.specs.Schedule.{most_events};
-ghost use Rattle.cmb_kernel.specs.Sound.{Exists};
+ghost use Rattle.cmb_events.specs.Schedule.{most_events, Exists};
 ghost use Rattle.fanin_cone.specs.Agreement.{AgreesOn};
 ghost use Rattle.fanin_cone.specs.Cone.{InCone};
-ghost use Rattle.runs.specs.Source.{seen_source};
+ghost use Rattle.runs.specs.Source.{seen_source, MayWantMemory};
 ghost use Rattle.runs.specs.Simulated.{seen_run};
 ghost use Rattle.runs.specs.Twins.{CanCompare, IsComparison, IsTwinRefusal, net_or_unknown, twins_in, twins_of};
+ghost use Rattle.runs.specs.declared.fault.SimFault.TheVariants.{Memory};
 
 use crate::fault::SimFault;
 use crate::preparation::{PreparedRun, prepare_run};
@@ -84,6 +84,7 @@ pub fn twin(
     ensures isolated { IfOk result (λ answer. IsTrue answer.agree → answer.first ≡ answer.second) }
     ensures err { IfErr result
         (IsTwinRefusal (twins_of (seen_source first.now) (seen_source second.now) name.now horizon)) }
+    ensures memory { IfErr result (λ fault. fault.fault ≡ Memory → MayWantMemory (seen_source first.now) horizon) }
 {
     let one = Side::First.blame(prepare_run(alloc, first, horizon))?;
     let other = Side::Second.blame(prepare_run(alloc, second, horizon))?;

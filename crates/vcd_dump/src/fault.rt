@@ -3,11 +3,11 @@ ghost use Rattle.vcd_dump.specs.declared.fault.DumpFault.TheVariants.{Memory};
 ghost use Rattle.vcd_dump.specs.Faults.{name_of};
 
 use std::alloc::{AllocError, AllocFailed};
+use std::fmt;
 use thiserror::Error;
 
 /// Why a dump ended early: what went out is then a prefix of its text.
 #[derive(Clone, Copy, Debug, PartialEq, Eq, Error)]
-#[error("{}", self.name())]
 pub enum DumpFault {
     /// A `write` answered a fault, of whatever kind.
     Write,
@@ -27,6 +27,12 @@ impl DumpFault {
             DumpFault::WroteNothing => "WroteNothing",
             DumpFault::Memory => "Memory",
         }
+    }
+}
+
+impl fmt::Display for DumpFault {
+    fn fmt<W: fmt::Write>(&self, f: &mut fmt::Formatter<W>) -> Result<(), fmt::Error> {
+        f.write_str(self.name())
     }
 }
 

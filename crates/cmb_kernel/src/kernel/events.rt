@@ -1,22 +1,25 @@
-ghost use Rattle.std.specs.Prelude.{◌≡◌, ◌<◌, true, false, None, length, IfOk, OnOk, OnErr};
+ghost use Rattle.std.specs.Prelude.{◌≡◌, ◌<◌, true, false, None, length, Err, IfOk, OnOk, OnErr};
 ghost use Rattle.design.specs.Circuit.{IsCircuit, pin_count};
 ghost use Rattle.cmb_channels.specs.Lists.{sent};
-ghost use Rattle.cmb_kernel.specs.declared.event.Event.TheVariants.{Deliver, Advance};
+ghost use Rattle.cmb_events.specs.declared.event.Event.TheVariants.{Deliver, Advance};
+ghost use Rattle.cmb_kernel.specs.declared.fault.KernelFault.TheVariants.{Memory};
 ghost use Rattle.cmb_kernel.specs.Step.{step, steps};
 ghost use Rattle.cmb_kernel.specs.Useful.{is_useful};
-ghost use Rattle.cmb_kernel.specs.Sound.{Exists, IsSound};
+ghost use Rattle.cmb_events.specs.Schedule.{Exists};
+ghost use Rattle.cmb_kernel.specs.Sound.{IsSound};
 ghost use Rattle.cmb_kernel.specs.Refusals.{event_fault, list_fault, refusal, answer};
 ghost use Rattle.cmb_kernel.specs.Calls.{IsOutcome};
 
-use crate::event::{Event, MOST_EVENTS};
 use crate::fault::KernelFault;
 use crate::kernel::Kernel;
 use cmb_channels::{Fabric, Message};
+use cmb_events::{Event, MOST_EVENTS};
 use design::Design;
 use std::alloc::AllocError;
 
 impl<'d, F: Fabric> Kernel<'d, F> {
-    /// Applies an event, and answers whether it raised a frontier, of a net or of a pin.
+    /// Applies an event, and answers whether it raised a frontier, of a net or of a pin. One that
+    /// raises none takes no memory.
     ///
     /// # Errors
     /// [`KernelFault::Failed`], and [`KernelFault::NoSuchPin`] or [`KernelFault::NoSuchNet`] at
@@ -24,6 +27,7 @@ impl<'d, F: Fabric> Kernel<'d, F> {
     pub fn apply(&mut self, event: Event) -> Result<bool, KernelFault>
         ensures outcome { IsOutcome self.old self.new (event_fault self.old.circuit 0 event)
             (step self.old.state event) (is_useful self.old.state event) result }
+        ensures memory { result ≡ Err Memory → is_useful self.old.state event ≡ true }
     {
         self.check_running()?;
         check_event(self.design, 0, event)?;
@@ -66,6 +70,7 @@ impl<'d, F: Fabric> Kernel<'d, F> {
         ensures useful { IfOk result (λ useful. useful ≡ is_useful self.old.state event) }
         ensures ok { OnOk result (self.new ≡ record self.old { state = step self.old.state event }) }
         ensures err { OnErr result (self.new.failed ≡ true) }
+        ensures memory { OnErr result (is_useful self.old.state event ≡ true) }
         ensures sound { OnOk result (IsSound self.new.circuit self.new.end self.new.state) }
     {
         match event {
@@ -80,6 +85,7 @@ impl<'d, F: Fabric> Kernel<'d, F> {
         ensures useful { IfOk result (λ useful. useful ≡ is_useful self.old.state (Deliver pin)) }
         ensures ok { OnOk result (self.new ≡ record self.old { state = step self.old.state (Deliver pin) }) }
         ensures err { OnErr result (self.new.failed ≡ true) }
+        ensures memory { OnErr result (is_useful self.old.state (Deliver pin) ≡ true) }
         ensures sound { OnOk result (IsSound self.new.circuit self.new.end self.new.state) }
     {
         // So it stays where the event is broken off.
@@ -101,6 +107,7 @@ impl<'d, F: Fabric> Kernel<'d, F> {
         ensures useful { IfOk result (λ useful. useful ≡ is_useful self.old.state (Advance net)) }
         ensures ok { OnOk result (self.new ≡ record self.old { state = step self.old.state (Advance net) }) }
         ensures err { OnErr result (self.new.failed ≡ true) }
+        ensures memory { OnErr result (is_useful self.old.state (Advance net) ≡ true) }
         ensures sound { OnOk result (IsSound self.new.circuit self.new.end self.new.state) }
     {
         // So it stays where the event is broken off.
@@ -113,12 +120,13 @@ impl<'d, F: Fabric> Kernel<'d, F> {
     }
 }
 
-/// Sends messages of a net in order.
+/// Sends messages of a net in order. None takes no memory.
 fn send_all<F: Fabric>(fabric: &mut F, net: u32, messages: &[Message]) -> Result<(), AllocError>
     requires { net < F.nets fabric.old }
     ensures lists { OnOk result (F.lists fabric.new ≡ sent net messages.now (F.sources fabric.old) (F.lists fabric.old)) }
     ensures sources { F.sources fabric.new ≡ F.sources fabric.old }
     ensures nets { F.nets fabric.new ≡ F.nets fabric.old }
+    ensures memory { OnErr result (0 < length messages.now) }
 {
     for message in messages {
         fabric.send(net, *message)?;

@@ -1,16 +1,17 @@
-ghost use Rattle.std.specs.Prelude.{◌≡◌, ℕ, ◌+◌, ◌<◌, ◌≤◌, min, true, false, None, length, map, replicate, slice_index_or, [], OnOk, OnErr};
+ghost use Rattle.std.specs.Prelude.{◌≡◌, ℕ, ◌+◌, ◌<◌, ◌≤◌, min, true, false, None, length, map, replicate, slice_index_or, [], Err, OnOk, OnErr};
 ghost use Rattle.std.specs.List.{range_with_len};
 ghost use Rattle.design.specs.Circuit.{pin_count};
 ghost use Rattle.design.specs.Equations.{waves_of};
-ghost use Rattle.cmb_kernel.specs.declared.event.Event.TheVariants.{Deliver, Advance};
-ghost use Rattle.cmb_kernel.specs.State.{started, least_frontier, least_delay, most_rounds, IsComplete, waves_in};
+ghost use Rattle.cmb_events.specs.declared.event.Event.TheVariants.{Deliver, Advance};
+ghost use Rattle.cmb_kernel.specs.declared.fault.KernelFault.TheVariants.{Memory};
+ghost use Rattle.cmb_kernel.specs.State.{started, least_frontier, least_delay, most_rounds, IsComplete, is_complete, waves_in};
 ghost use Rattle.cmb_kernel.specs.Step.{steps, deliveries_from, round_of, rounds, completed_within};
 ghost use Rattle.cmb_kernel.specs.Calls.{IsOutcome};
 
-use crate::event::Event;
 use crate::fault::KernelFault;
 use crate::kernel::Kernel;
 use cmb_channels::Fabric;
+use cmb_events::Event;
 use std::alloc::AllocError;
 
 impl<'d, F: Fabric> Kernel<'d, F> {
@@ -34,7 +35,8 @@ impl<'d, F: Fabric> Kernel<'d, F> {
         Ok(())
     }
 
-    /// Does rounds until each net is known up to the horizon; where each is already, it does nothing.
+    /// Does rounds until each net is known up to the horizon; where each is already, it does nothing
+    /// and takes no memory.
     ///
     /// It takes at most `ceil((horizon + 1) / least)` rounds, where `least` is the least delay of a gate
     /// or flip-flop, or one round where there is neither; and never more than a fresh kernel would.
@@ -50,6 +52,7 @@ impl<'d, F: Fabric> Kernel<'d, F> {
         // Rounds that complete a fresh kernel are enough here.
         ensures fresh { OnOk result ((count : ℕ) → IsComplete (rounds count (started self.old.circuit self.old.end)) →
             self.new.state ≡ completed_within count self.old.state) }
+        ensures memory { result ≡ Err Memory → is_complete self.old.state ≡ false }
     {
         self.check_running()?;
         while !self.is_complete() {

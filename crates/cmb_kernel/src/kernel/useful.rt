@@ -2,11 +2,11 @@ ghost use Rattle.std.specs.Prelude.{◌≡◌, ℕ, ◌<◌, ◌↔◌, true, fa
 ghost use Rattle.design.specs.Circuit.{pin_count};
 ghost use Rattle.cmb_kernel.specs.State.{IsComplete};
 ghost use Rattle.cmb_kernel.specs.Useful.{is_useful};
-ghost use Rattle.cmb_kernel.specs.Sound.{Exists};
+ghost use Rattle.cmb_events.specs.Schedule.{Exists};
 
-use crate::event::Event;
 use crate::kernel::Kernel;
 use cmb_channels::Fabric;
+use cmb_events::Event;
 
 impl<'d, F: Fabric> Kernel<'d, F> {
     /// Some event that raises a frontier, or `None` where each net is known up to the horizon.

@@ -1,6 +1,8 @@
-ghost use Rattle.std.specs.Prelude.{◌≡◌, ◌≢◌, IfOk};
+ghost use Rattle.std.specs.Prelude.{◌≡◌, ◌≢◌, ◌≤◌, length, IfOk, IsOk};
+ghost use Rattle.text_lines.specs.Text.{longest_text};
 ghost use Rattle.netlist.specs.Netlist.{IsNetlist};
 ghost use Rattle.design.specs.Build.{design_of};
+ghost use Rattle.design.specs.Options.{options_of};
 ghost use Rattle.design.specs.Joined.{first_pins_of};
 
 use crate::design::Design;
@@ -18,7 +20,8 @@ impl Design {
     ///
     /// # Errors
     /// The first fault, in the order default delay, period, delay text, stimulus text, or
-    /// [`BuildFault::Memory`] where a growth was refused in any step.
+    /// [`BuildFault::Memory`] where a growth was refused in any step; the settings and the length of
+    /// the delay text are looked at before any memory is taken.
     pub fn build(
         alloc: Global,
         netlist: Netlist,
@@ -27,8 +30,10 @@ impl Design {
         default_delay: u64,
         period: u64,
     ) -> Result<Design, BuildFault>
-        ensures { result ≢ Err BuildFault.Memory →
+        ensures design { result ≢ Err BuildFault.Memory →
             result ≡ design_of netlist delays.now stimuli.now default_delay period }
+        ensures settings { result ≡ Err BuildFault.Memory → IsOk (options_of default_delay period) }
+        ensures delays { result ≡ Err BuildFault.Memory → length delays.now ≤ longest_text }
     {
         options(default_delay, period)?;
         let delays = delays::delays(alloc, &netlist, delays, default_delay)?;

@@ -10,8 +10,8 @@ loop-line-init c =
     let none : c.in_ok-given.given.items ≡ replicate (length netlist.nets) None = search rules in
     rw (c.into_iter-line-iterator.ensures.into_iter_gives, c.code_lines-line-items.ensures) (Given-first netlist _ _ none)
 
-pub returns-then-is_some : goal.returns-then-is_some
-returns-then-is_some c = λ _.
+pub returns-then-is_some-clause-given : goal.returns-then-is_some-clause-given
+returns-then-is_some-clause-given c = λ _.
     let netlist = c.args.netlist.now in
     let twice = Given-twice c.loop-line.invariant c.in-Some.ensures.steps c.in_ok-delay.ensures.net c.in_ok-delay.ensures.delay c.index.ensures (sym c.if-is_some.ensures) in
     ap (result_map_both (net_ticks netlist) (λ fault. fault)) (sym (delays_of-lines netlist c.args.text.now c.if-text-gt-LONGEST_TEXT.false ∙ twice))

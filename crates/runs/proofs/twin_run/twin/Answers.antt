@@ -1,7 +1,6 @@
 use Rattle.std.proofs.Common.{◌≡◌, ◌≤◌, length, All, IfOk, IsOkAnd, Ok, subst}
 use Rattle.std.proofs.lemmas.Result.{err_from_is_err_and, IfErr-at_err, IfOk-at_ok}
-use Rattle.cmb_kernel.specs.Schedule.{most_events}
-use Rattle.cmb_kernel.specs.Sound.{Exists}
+use Rattle.cmb_events.specs.Schedule.{most_events, Exists}
 use Rattle.runs.specs.declared.preparation.PreparedRun.{PreparedRun}
 use Rattle.runs.specs.declared.twin_run.Side.TheVariants.{First, Second}
 use Rattle.runs.specs.Ends.{IsRefusal}

@@ -1,8 +1,10 @@
-use Rattle.std.proofs.Common.{◌==◌, not, length, slice_set, refl, ap, ◌∙◌, sym, subst, ◌+◌, ◌<◌}
-use Rattle.cmb_kernel.specs.declared.event.Event.TheVariants.{Advance}
+use Rattle.std.proofs.Common.{◌≡◌, true, ◌==◌, not, length, slice_set, refl, ap, ◌∙◌, sym, subst, ◌+◌, ◌<◌}
+use Rattle.cmb_events.specs.declared.event.Event.TheVariants.{Advance}
+use Rattle.cmb_kernel.proofs.Refused.{OnErr_always}
 use Rattle.cmb_kernel.proofs.Running.{runs_at, goes_on}
-use Rattle.cmb_kernel.proofs.Applied.{IsApplied, few_messages, net_advanced}
+use Rattle.cmb_kernel.proofs.Applied.{IsApplied, few_messages, farther_useful, telling_useful, net_advanced}
 use Rattle.cmb_kernel.specs.Running.{state_of}
+use Rattle.cmb_kernel.specs.Useful.{is_useful}
 use Rattle.cmb_kernel.proofs.kernel.Kernel.advance.Given.{Over}
 use Rattle.cmb_kernel.proofs.kernel.Kernel.advance.Goals as goal
 use Rattle.cmb_kernel.proofs.kernel.Kernel.advance.Goals.{After-add_event}
@@ -43,6 +45,22 @@ applied g c =
 
 pub invariant_of-self-2 : goal.invariant_of-self-2
 invariant_of-self-2 g c = λ _. (applied g (goal.at.invariant_of-self-2 g c).After-add_event).all
+
+-- memory is taken only where the frontier rises, and where there is something to tell
+pub returns-in_err-news-clause-memory : goal.returns-in_err-news-clause-memory
+returns-in_err-news-clause-memory g c =
+    let all = c.self.invariant (rw (← c.self.view_is) at c.requires.running) in
+    let useful : is_useful c.args.self.now.state (Advance c.args.net) ≡ true = rw (← c.self.view_is)
+    (farther_useful all c.args.net c.index_mut.result.now (rw (← c.self.view_is) at c.requires.exists) c.index_mut.ensures.value c.in_err-news.ensures.memory) in
+    OnErr_always _ useful
+
+pub returns-in_err-send_all-clause-memory : goal.returns-in_err-send_all-clause-memory
+returns-in_err-send_all-clause-memory g c =
+    let all = c.self.invariant (rw (← c.self.view_is) at c.requires.running) in
+    let useful : is_useful c.args.self.now.state (Advance c.args.net) ≡ true = rw (← c.self.view_is)
+    (telling_useful all c.args.net c.index_mut.result.now (rw (← c.self.view_is) at c.requires.exists) c.index_mut.ensures.value
+    (subst (λ (ms : _). 0 < length ms) (c.as_slice.ensures.value ∙ c.in_ok-news.ensures.news) c.in_err-send_all.ensures.memory)) in
+    OnErr_always _ useful
 
 pub returns-clause-useful : goal.returns-clause-useful
 returns-clause-useful g c =

@@ -1,4 +1,4 @@
-use Rattle.cmb_kernel.specs.declared.event.Event.TheVariants.{Advance}
+use Rattle.cmb_events.specs.declared.event.Event.TheVariants.{Advance}
 use Rattle.cmb_kernel.specs.Step.{step}
 use Rattle.cmb_kernel.proofs.Moved.{moved_on, advances_more}
 use Rattle.cmb_kernel.proofs.kernel.Kernel.advance_all.Goals as goal

@@ -1,6 +1,6 @@
 use Rattle.std.proofs.Common.{◌≡◌, map}
 use Rattle.std.specs.List.{range_with_len}
-use Rattle.cmb_kernel.specs.declared.event.Event.TheVariants.{Advance}
+use Rattle.cmb_events.specs.declared.event.Event.TheVariants.{Advance}
 use Rattle.cmb_kernel.specs.Step.{steps}
 use Rattle.cmb_kernel.proofs.kernel.Kernel.advance_all.Given as goal
 

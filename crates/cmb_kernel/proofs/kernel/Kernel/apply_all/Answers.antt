@@ -3,8 +3,8 @@ use Rattle.std.proofs.lemmas.List.Elements.{All-get_or}
 use Rattle.std.proofs.lemmas.Result.{err_from_is_err_and}
 use Rattle.cmb_kernel.specs.State.{KernelView}
 use Rattle.cmb_kernel.specs.Step.{step}
-use Rattle.cmb_kernel.specs.Sound.{Exists}
-use Rattle.cmb_kernel.specs.declared.event.Event.TheVariants.{Deliver}
+use Rattle.cmb_events.specs.Schedule.{Exists}
+use Rattle.cmb_events.specs.declared.event.Event.TheVariants.{Deliver}
 use Rattle.cmb_kernel.proofs.Moved.{moved_on, steps_more}
 use Rattle.cmb_kernel.proofs.Refused.{never_memory, all_exist}
 use Rattle.cmb_kernel.proofs.kernel.Kernel.apply_all.Goals as goal

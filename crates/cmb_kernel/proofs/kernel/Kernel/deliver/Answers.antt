@@ -1,8 +1,10 @@
-use Rattle.std.proofs.Common.{◌≡◌, ◌<◌, [], length, slice_index_or, sym, subst, ap, ◌∙◌}
+use Rattle.std.proofs.Common.{◌≡◌, ◌<◌, true, [], length, slice_index_or, sym, subst, ap, ◌∙◌}
 use Rattle.std.specs.Option.{is_some}
-use Rattle.cmb_kernel.specs.declared.event.Event.TheVariants.{Deliver}
+use Rattle.cmb_events.specs.declared.event.Event.TheVariants.{Deliver}
 use Rattle.cmb_kernel.specs.Running.{state_of}
 use Rattle.cmb_kernel.specs.Step.{counted}
+use Rattle.cmb_kernel.specs.Useful.{is_useful}
+use Rattle.cmb_kernel.proofs.Refused.{OnErr_always}
 use Rattle.cmb_kernel.proofs.Running.{some_pin, place_is, runs_at, place_within, goes_on}
 use Rattle.cmb_kernel.proofs.Applied.{IsApplied, few_before, none_waits, nothing_came, can_be_told, message_came}
 use Rattle.cmb_kernel.proofs.kernel.Kernel.deliver.Given.{Over}
@@ -90,6 +92,17 @@ add_event-requires g c =
 
 pub invariant_of-self-2 : goal.invariant_of-self-2
 invariant_of-self-2 g c = rw c.add_event.ensures (λ _. (applied g c).all)
+
+-- a message came, so the event is useful
+pub returns-in_err-receive-clause-memory : goal.returns-in_err-receive-clause-memory
+returns-in_err-receive-clause-memory g c =
+    let all = c.self.invariant (rw (← c.self.view_is) at c.requires.running) in
+    let exists = rw (← c.self.view_is) at c.requires.exists in
+    let place = (place_is c.self.inside.design.now.circuit c.args.pin c.pin_net-net.result c.pin.result exists
+    c.pin_net-net.ensures.net c.pin.ensures.pin).1 in
+    let useful : is_useful c.args.self.now.state (Deliver c.args.pin) ≡ true = rw (← c.self.view_is) (sym (message_came all c.args.pin c.pin_net-net.result _ c.in-Some.message _ c.index_mut.result.now exists c.in-Some.ensures.front
+    c.pin_net-net.ensures.net place c.index_mut.ensures.value).useful) in
+    OnErr_always _ useful
 
 pub returns-clause-useful : goal.returns-clause-useful
 returns-clause-useful g c =

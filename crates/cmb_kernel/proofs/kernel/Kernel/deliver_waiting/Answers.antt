@@ -1,4 +1,4 @@
-use Rattle.cmb_kernel.specs.declared.event.Event.TheVariants.{Deliver}
+use Rattle.cmb_events.specs.declared.event.Event.TheVariants.{Deliver}
 use Rattle.cmb_kernel.specs.Step.{step}
 use Rattle.cmb_kernel.proofs.Moved.{moved_on, steps_again}
 use Rattle.cmb_kernel.proofs.kernel.Kernel.deliver_waiting.Goals as goal

@@ -1,5 +1,5 @@
 use Rattle.std.proofs.Common.{◌≡◌, replicate}
-use Rattle.cmb_kernel.specs.declared.event.Event.TheVariants.{Deliver}
+use Rattle.cmb_events.specs.declared.event.Event.TheVariants.{Deliver}
 use Rattle.cmb_kernel.specs.Step.{steps}
 use Rattle.cmb_kernel.proofs.kernel.Kernel.deliver_waiting.Given as goal
 

@@ -1,5 +1,5 @@
 use Rattle.std.proofs.Common.{◌<◌, length, sym, subst}
-use Rattle.cmb_kernel.proofs.Running.{some_pin, place_is, runs_at, place_within, received_is}
+use Rattle.cmb_kernel.proofs.Running.{some_pin, place_is, runs_at, place_within, received_is, received_in_time}
 use Rattle.cmb_kernel.proofs.kernel.Kernel.received.Goals as goal
 
 pub pin-requires-clause-place : goal.pin-requires-clause-place
@@ -25,11 +25,17 @@ received-requires-clause-place g c =
     (place_within all c.args.pin c.pin_net-net.result c.index.result.now (rw (← c.self.view_is) at c.requires.pin)
     c.pin_net-net.ensures.net c.pin_net-net.ensures.within c.index.ensures)
 
-pub returns : goal.returns
-returns g c =
+pub returns-clause-received : goal.returns-clause-received
+returns-clause-received g c =
     let all = c.self.invariant (rw (← c.self.view_is) at c.requires.running) in
     let place = (place_is c.self.inside.design.now.circuit c.args.pin c.pin_net-net.result c.pin.result (rw (← c.self.view_is) at c.requires.pin)
     c.pin_net-net.ensures.net c.pin.ensures.pin).1 in
     rw (← c.self.view_is)
     (received_is all c.args.pin c.pin_net-net.result _ c.received.result c.index.result.now c.pin_net-net.ensures.net place
     c.pin_net-net.ensures.within c.index.ensures c.received.ensures)
+
+pub returns-clause-within : goal.returns-clause-within
+returns-clause-within g c =
+    let all = c.self.invariant (rw (← c.self.view_is) at c.requires.running) in
+    rw (← c.self.view_is)
+    (received_in_time all c.pin_net-net.result _ c.received.result c.index.result.now c.pin_net-net.ensures.within c.index.ensures c.received.ensures)

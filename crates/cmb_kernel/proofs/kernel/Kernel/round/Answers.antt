@@ -1,6 +1,6 @@
 use Rattle.std.proofs.Common.{◌≡◌, ◌+◌, ◌≤◌, min, map, length, ap, sym, subst, ◌∙◌, rules}
 use Rattle.std.specs.List.{range_with_len}
-use Rattle.cmb_kernel.specs.declared.event.Event.TheVariants.{Advance}
+use Rattle.cmb_events.specs.declared.event.Event.TheVariants.{Advance}
 use Rattle.cmb_kernel.specs.State.{State, KernelView, least_frontier, least_delay}
 use Rattle.cmb_kernel.specs.Step.{steps, round_events, with_round}
 use Rattle.cmb_kernel.proofs.Running.{with_rounds}

@@ -1,0 +1,2 @@
+mod EventCount
+mod Picks

@@ -1,0 +1,3 @@
+pub mod Schedule
+pub mod ScheduleFaults
+pub use Rattle.design.specs.Circuit

@@ -1,0 +1,19 @@
+-- What a schedule's fault tells: its name and its line.
+use Rattle.std.specs.Prelude.{ℕ, List, codes}
+use Rattle.cmb_events.specs.declared.schedule_fault.ScheduleFault.{ScheduleFault}
+use Rattle.cmb_events.specs.declared.schedule_fault.ScheduleFault.TheVariants.{TooLong, BadLine, UnknownNet, BadPin, TooManyEvents, Memory}
+
+-- the line that a fault names, and 0 for one without a line
+abbrev pub line_of : ScheduleFault → ℕ
+line_of (BadLine line) = line
+line_of (UnknownNet line) = line
+line_of (BadPin line) = line
+line_of other = 0
+
+abbrev pub name_of : ScheduleFault → List ℕ
+name_of TooLong = codes "TooLong"
+name_of (BadLine line) = codes "BadLine"
+name_of (UnknownNet line) = codes "UnknownNet"
+name_of (BadPin line) = codes "BadPin"
+name_of TooManyEvents = codes "TooManyEvents"
+name_of Memory = codes "Memory"

@@ -1,0 +1,166 @@
+//! Schedules: lists of events, from a text or from a seed.
+ghost use Rattle.std.specs.Prelude.{◌≡◌, ◌≢◌, ◌<◌, ◌≤◌, [], length, All, IfOk};
+ghost use Rattle.text_lines.specs.Text.{longest_text};
+ghost use Rattle.cmb_events.specs.Schedule.{delivery_at, event_of_words, event_or_fault, events_of, most_events, net_in, pick_of, picks_of, Exists};
+
+use crate::event::{Event, MOST_EVENTS};
+use crate::schedule_fault::ScheduleFault;
+use design::Design;
+use rand_core::SeedableRng;
+use rand_core::utils::NextWord;
+use rand_pcg::Lcg64Xsh32;
+use std::alloc::Global;
+use std::marker::Model;
+use text_lines::{LONGEST_TEXT, Words, code_lines, is_plain, number, words_of};
+
+/// A list of at most 10,000,000 events, each of a pin or a net that the design has.
+#[derive(Debug, Drop)]
+pub struct Schedule {
+    events: Vec<Event>,
+}
+
+impl Model for Schedule {
+    ghost use Rattle.std.specs.Prelude.{List};
+    ghost use Rattle.cmb_events.specs.declared.event.Event.{Event as TheEvent};
+
+    ghost Value = { List TheEvent };
+
+    ghost view = { λ schedule. schedule.events.items };
+}
+
+impl Schedule {
+    /// No events. Takes no memory.
+    pub fn empty(alloc: Global) -> Schedule
+        ensures { result ≡ [] }
+    {
+        Schedule {
+            events: Vec::new(alloc),
+        }
+    }
+
+    /// The events that a text asks for, a line each: `advance NAME`, or `deliver NAME PLACE` for the
+    /// net's pin at a place, counted from 0. Comments and lines without words are passed over. A text
+    /// that is too long is refused before any memory is taken.
+    ///
+    /// # Errors
+    /// The first fault, as [`ScheduleFault`] says, or [`ScheduleFault::Memory`] where a growth was
+    /// refused.
+    pub fn read(alloc: Global, text: &[u8], design: &Design) -> Result<Schedule, ScheduleFault>
+        ensures exact { result ≢ Err ScheduleFault.Memory → result ≡ events_of design.now.circuit text.now }
+        ensures at_once { longest_text < length text.now → result ≡ Err ScheduleFault.TooLong }
+        ensures exist { IfOk result (λ schedule. All (Exists design.now.circuit) schedule) }
+        ensures few { IfOk result (λ schedule. length schedule ≤ most_events) }
+    {
+        if text.len() > LONGEST_TEXT {
+            return Err(ScheduleFault::TooLong);
+        }
+        let mut events = Vec::new(alloc);
+        for (line, code) in code_lines(text) {
+            let event = event_of(design, line, code)?;
+            events.push(event)?;
+        }
+        Ok(Schedule { events })
+    }
+
+    /// So many events, picked by the words of the generator `Lcg64Xsh32` of this seed: each word,
+    /// modulo the number of pins and nets together, is a place among the deliveries to all pins and
+    /// then the advances of all nets. Too many picks are refused before any memory is taken.
+    ///
+    /// # Errors
+    /// [`ScheduleFault::TooManyEvents`] where there are more than 10,000,000 picks, or
+    /// [`ScheduleFault::Memory`] where a growth was refused.
+    pub fn seeded(
+        alloc: Global,
+        seed: u64,
+        picks: u64,
+        design: &Design,
+    ) -> Result<Schedule, ScheduleFault>
+        ensures exact { result ≢ Err ScheduleFault.Memory → result ≡ picks_of design.now.circuit seed picks }
+        ensures at_once { most_events < picks → result ≡ Err ScheduleFault.TooManyEvents }
+        ensures exist { IfOk result (λ schedule. All (Exists design.now.circuit) schedule) }
+        ensures few { IfOk result (λ schedule. length schedule ≤ most_events) }
+    {
+        if picks > MOST_EVENTS {
+            return Err(ScheduleFault::TooManyEvents);
+        }
+        let mut words = Lcg64Xsh32::seed_from_u64(seed);
+        let mut events = Vec::new(alloc);
+        for _pick in 0..picks {
+            let event = pick_of(design, words.next_word());
+            events.push(event)?;
+        }
+        Ok(Schedule { events })
+    }
+
+    /// The events, in order. Takes no memory.
+    pub fn events(&self) -> &[Event]
+        ensures { result.now ≡ self.now }
+    {
+        self.events.as_slice()
+    }
+}
+
+/// The event that a word picks.
+fn pick_of(design: &Design, word: u32) -> Event
+    ensures pick { result ≡ pick_of design.now.circuit word }
+    ensures exists { Exists design.now.circuit result }
+{
+    let pins = design.pins();
+    let place = word % (design.nets() + pins);
+    if place < pins {
+        Event::Deliver(place)
+    } else {
+        Event::Advance(place - pins)
+    }
+}
+
+/// The event of the line of this number, or its first fault; `code` is the line without its comment.
+fn event_of(design: &Design, line: u64, code: &[u8]) -> Result<Event, ScheduleFault>
+    ensures event { result ≡ event_or_fault design.now.circuit (line, code.now) }
+    ensures exists { IfOk result (Exists design.now.circuit) }
+{
+    if !is_plain(code) {
+        return Err(ScheduleFault::BadLine { line });
+    }
+    event_of_words(design, line, words_of(code))
+}
+
+/// The event that the words of a line ask for.
+fn event_of_words(design: &Design, line: u64, mut words: Words<'_>) -> Result<Event, ScheduleFault>
+    ensures event { result ≡ event_of_words design.now.circuit line words.entry }
+    ensures exists { IfOk result (Exists design.now.circuit) }
+{
+    match (words.next(), words.next(), words.next(), words.next()) {
+        (Some(verb), Some(name), None, None) if verb == b"advance".as_slice() => {
+            let net = net_in(design, line, name)?;
+            Ok(Event::Advance(net))
+        }
+        (Some(verb), Some(name), Some(word), None) if verb == b"deliver".as_slice() => {
+            let place = number(word).ok_or(ScheduleFault::BadLine { line })?;
+            let net = net_in(design, line, name)?;
+            delivery_at(design, line, net, place)
+        }
+        _ => Err(ScheduleFault::BadLine { line }),
+    }
+}
+
+/// The number of the net of this name.
+fn net_in(design: &Design, line: u64, name: &[u8]) -> Result<u32, ScheduleFault>
+    ensures net { result ≡ net_in design.now.circuit line name.now }
+    ensures within { IfOk result (λ net. net < length design.now.circuit) }
+{
+    design.find(name).ok_or(ScheduleFault::UnknownNet { line })
+}
+
+/// The delivery to the pin of a net at a place, counted from 0.
+fn delivery_at(design: &Design, line: u64, net: u32, place: u64) -> Result<Event, ScheduleFault>
+    requires { net < length design.now.circuit }
+    ensures event { result ≡ delivery_at design.now.circuit line net place }
+    ensures exists { IfOk result (Exists design.now.circuit) }
+{
+    if place < design.pins_of(net).len() as u64 {
+        Ok(Event::Deliver(design.pin(net, place as usize)))
+    } else {
+        Err(ScheduleFault::BadPin { line })
+    }
+}

@@ -1,0 +1,101 @@
+-- The answer to a deck, from its sections and from the answer to their texts.
+use Rattle.std.proofs.Common.{◌≡◌, ℕ, ◌-◌, ◌^◌, ◌<◌, ◌≤◌, min, List, Option, Result, Ok, Err, IsOkAnd, ◌⊎◌, inl, inr, refl, sym, ap, subst, ◌∙◌, arith}
+use Rattle.std.proofs.KnownBytes.{Keeps-refl}
+use Rattle.std.proofs.lemmas.Bool.{cases_lt, lt-ltb}
+use Rattle.text_lines.specs.Text.{◌>>=◌}
+use Rattle.design.specs.Circuit.{most_ticks}
+use Rattle.design.specs.Options.{horizon_of}
+use Rattle.vcd_dump.specs.Bytes.{AppendsPrefix}
+use Rattle.runs.specs.declared.fault.SimFault.{SimFault}
+use Rattle.runs.specs.declared.fault.SimFault.TheVariants.{Dump, Memory}
+use Rattle.deck_text.specs.declared.fault.DeckTextFault.{DeckTextFault}
+use Rattle.deck_text.specs.declared.fault.DeckTextFault.TheVariants.{TooLong, BadDeck}
+use Rattle.decks.specs.declared.deck_run.DeckFault.{DeckFault}
+use Rattle.decks.specs.declared.deck_run.DeckFault.TheVariants.{Sim}
+use Rattle.runs.specs.declared.simulation.Report.{Report}
+use Rattle.deck_text.specs.Deck.{Sections, ended_lines, sections_of, sections_of_lines}
+use Rattle.decks.specs.DeckRun.{DeckEndsBy, deck_of_text, dump_of_deck, simulated_deck, source_of_deck, view_of_deck}
+use Rattle.runs.specs.Ends.{WritesPart, RunEndsBy}
+use Rattle.runs.specs.Source.{design_of_source, or_fault, dump_of_design}
+use Rattle.deck_text.specs.Seen.{held, on_sections}
+use Rattle.runs.specs.Simulated.{dump_in, run_of_source, simulated}
+use Rattle.orders.proofs.CallerLemmas.{cut, limited-cut}
+
+-- a horizon past a `u64` is refused as the largest `u64` is
+horizon_of-held : (horizon : ℕ) → horizon_of (min (2 ^ 64 - 1) horizon) ≡ horizon_of horizon
+horizon_of-held horizon = go (cases_lt most_ticks horizon)
+  where
+    go : (most_ticks < horizon) ⊎ (horizon ≤ most_ticks) → horizon_of (min (2 ^ 64 - 1) horizon) ≡ horizon_of horizon
+    go (inl above) = rw (lt-ltb most_ticks (min (2 ^ 64 - 1) horizon) (omega arith), lt-ltb most_ticks horizon above) refl
+    go (inr within) = let same : min (2 ^ 64 - 1) horizon ≡ horizon = omega arith in ap horizon_of same
+
+-- so the sections as the code holds them have the same answer
+simulated-held : (s : Sections) → simulated (source_of_deck (held s)) (view_of_deck (held s)) ≡ simulated (source_of_deck s) (view_of_deck s)
+unfolding simulated run_of_source design_of_source dump_of_design
+simulated-held s = rw (horizon_of-held s.horizon) refl
+
+-- the answer to a deck whose sections the code found
+pub simulated_deck-sections : (bytes : List ℕ) (found : Sections) → on_sections held (sections_of bytes) ≡ Ok found →
+    simulated_deck bytes ≡ or_fault Sim (simulated (source_of_deck found) (view_of_deck found))
+unfolding simulated_deck
+simulated_deck-sections bytes found is = go (sections_of bytes) is
+  where
+    go : (sections : Result Sections DeckTextFault) → on_sections held sections ≡ Ok found →
+        (or_fault deck_of_text sections >>= λ s. or_fault Sim (simulated (source_of_deck s) (view_of_deck s)))
+        ≡ or_fault Sim (simulated (source_of_deck found) (view_of_deck found))
+    go (Ok s) e =
+        let same : held s ≡ found = cc in
+        ap (or_fault Sim) (sym (simulated-held s) ∙ ap (λ (d : Sections). simulated (source_of_deck d) (view_of_deck d)) same)
+    go (Err fault) e = cc
+
+-- the answer to a text in which it found none
+dump_of_deck-bad_text : (bytes : List ℕ) (fault : DeckTextFault) → on_sections held (sections_of bytes) ≡ Err fault →
+    dump_of_deck bytes ≡ Err (deck_of_text fault)
+unfolding simulated_deck
+dump_of_deck-bad_text bytes fault is = go (sections_of bytes) is
+  where
+    go : (sections : Result Sections DeckTextFault) → on_sections held sections ≡ Err fault →
+        dump_in (or_fault deck_of_text sections >>= λ s. or_fault Sim (simulated (source_of_deck s) (view_of_deck s))) ≡ Err (deck_of_text fault)
+    go (Ok s) e = cc
+    go (Err other) e = let same : other ≡ fault = cc in ap (λ f. Err (deck_of_text f)) same
+
+-- such a text is refused, and nothing goes out
+pub DeckEndsBy-bad_text : (bytes : List ℕ) (kept : Option (List ℕ)) (fault : DeckTextFault) → on_sections held (sections_of bytes) ≡ Err fault →
+    DeckEndsBy (dump_of_deck bytes) kept kept (deck_of_text fault)
+DeckEndsBy-bad_text bytes kept TooLong is = (dump_of_deck-bad_text bytes TooLong is, Keeps-refl kept)
+DeckEndsBy-bad_text bytes kept (BadDeck line) is = (dump_of_deck-bad_text bytes (BadDeck line) is, Keeps-refl kept)
+
+-- a text that is too long may be cut
+sections_of-cut : (text : List ℕ) → sections_of (cut text) ≡ sections_of text
+unfolding sections_of
+sections_of-cut text = limited-cut (Err TooLong) (λ t. sections_of_lines (ended_lines t)) text
+
+pub dump_of_deck-cut : (bytes : List ℕ) → dump_of_deck (cut bytes) ≡ dump_of_deck bytes
+unfolding simulated_deck
+dump_of_deck-cut bytes = rw (sections_of-cut bytes) refl
+
+-- a run of the sections that is done is a run of the deck that is done
+pub IsOkAnd-Sim : {A : Type 0} (answer : Result A SimFault) (P : A → Type 0) → IsOkAnd answer P → IsOkAnd (or_fault Sim answer) P
+IsOkAnd-Sim (Ok value) P done = done
+IsOkAnd-Sim (Err fault) P done = absurd done
+
+WritesPart-Sim : (answer : Result (List ℕ) SimFault) (old new : Option (List ℕ)) → WritesPart answer old new → WritesPart (or_fault Sim answer) old new
+WritesPart-Sim (Ok text) old new part = part
+WritesPart-Sim (Err fault) old new part = part
+
+DeckEndsBy-or_fault : (answer : Result (List ℕ) SimFault) (old new : Option (List ℕ)) (fault : SimFault) → RunEndsBy answer old new fault →
+    DeckEndsBy (or_fault Sim answer) old new (Sim fault)
+DeckEndsBy-or_fault answer old new (Dump fault) ends = IsOkAnd-Sim answer (AppendsPrefix old new) ends
+DeckEndsBy-or_fault answer old new Memory ends = WritesPart-Sim answer old new ends
+DeckEndsBy-or_fault answer old new _ ends = (ap (or_fault Sim) ends.0, ends.1)
+
+dump_in-or_fault : (answer : Result (List ℕ × Report) SimFault) → dump_in (or_fault Sim answer) ≡ or_fault Sim (dump_in answer)
+dump_in-or_fault (Ok both) = refl
+dump_in-or_fault (Err fault) = refl
+
+-- and one that ended with a fault is one that ended with it
+pub DeckEndsBy-Sim : (deck : Result (List ℕ × Report) DeckFault) (answer : Result (List ℕ × Report) SimFault) (old new : Option (List ℕ)) (fault : SimFault) →
+    deck ≡ or_fault Sim answer → RunEndsBy (dump_in answer) old new fault → DeckEndsBy (dump_in deck) old new (Sim fault)
+DeckEndsBy-Sim deck answer old new fault is ends =
+    subst (λ d. DeckEndsBy d old new (Sim fault)) (sym (ap dump_in is ∙ dump_in-or_fault answer))
+    (DeckEndsBy-or_fault (dump_in answer) old new fault ends)

@@ -1,0 +1,2 @@
+mod Decks
+mod Told

@@ -1,0 +1,24 @@
+use Rattle.std.proofs.Common.{sym}
+use Rattle.std.proofs.lemmas.Result.{err_from_is_err_and}
+use Rattle.decks.specs.DeckRun.{source_of_deck, view_of_deck}
+use Rattle.deck_text.specs.Seen.{seen_sections}
+use Rattle.runs.specs.Simulated.{simulated}
+use Rattle.decks.proofs.Decks.{simulated_deck-sections, DeckEndsBy-Sim, DeckEndsBy-bad_text, IsOkAnd-Sim}
+use Rattle.decks.proofs.deck_run.deck.Goals as goal
+
+pub returns-in_err-sections-clause-err : goal.returns-in_err-sections-clause-err
+returns-in_err-sections-clause-err g c =
+    let p = err_from_is_err_and c.from_residual.result c.from_residual.ensures.1 in
+    rw (p.1, p.2) (DeckEndsBy-bad_text c.args.text.now _ _ (sym c.in_err-sections.ensures))
+
+pub returns-in_err-simulate-clause-err : goal.returns-in_err-simulate-clause-err
+returns-in_err-simulate-clause-err g c =
+    let p = err_from_is_err_and c.from_residual-in_err-simulate.result c.from_residual-in_err-simulate.ensures.1 in
+    let is = simulated_deck-sections c.args.text.now (seen_sections c.in_ok-sections.sections) (sym c.in_ok-sections.ensures) in
+    rw (p.1, p.2) (DeckEndsBy-Sim _ _ _ _ _ is c.in_err-simulate.ensures.err)
+
+pub returns-clause-ok : goal.returns-clause-ok
+returns-clause-ok g c =
+    let found = seen_sections c.in_ok-sections.sections in
+    rw (simulated_deck-sections c.args.text.now found (sym c.in_ok-sections.ensures))
+    (IsOkAnd-Sim (simulated (source_of_deck found) (view_of_deck found)) _ c.in_ok-simulate.ensures.ok)

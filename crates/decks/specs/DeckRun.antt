@@ -1,0 +1,65 @@
+-- The answer to a deck, which is that of its sections, and how its run ends.
+use Rattle.std.specs.Prelude.{◌≡◌, ℕ, List, Option, Result, Err, IsOkAnd}
+use Rattle.std.specs.Io.KnownBytes.{Keeps}
+use Rattle.text_lines.specs.Text.{◌>>=◌}
+use Rattle.vcd_dump.specs.declared.unit.TimeUnit.TheVariants.{Ns}
+use Rattle.vcd_dump.specs.Bytes.{AppendsPrefix}
+use Rattle.deck_text.specs.declared.fault.DeckTextFault.{DeckTextFault}
+use Rattle.deck_text.specs.declared.fault.DeckTextFault.TheVariants as no_deck
+use Rattle.deck_text.specs.Deck.{Sections, sections_of}
+use Rattle.runs.specs.declared.fault.SimFault.TheVariants.{Dump, Memory}
+use Rattle.runs.specs.declared.simulation.Report.{Report}
+use Rattle.runs.specs.declared.twin_run.Side.TheVariants.{First}
+use Rattle.runs.specs.declared.view.Show.TheVariants.{All}
+use Rattle.runs.specs.declared.view.View.{View}
+use Rattle.runs.specs.Ends.{WritesPart}
+use Rattle.runs.specs.Events.{text}
+use Rattle.runs.specs.Simulated.{dump_in, simulated}
+use Rattle.runs.specs.Source.{SourceView, or_fault}
+use Rattle.orders.specs.declared.program_fault.ProgramFault.{ProgramFault}
+use Rattle.orders.specs.declared.program_fault.ProgramFault.TheVariants.{Deck}
+use Rattle.orders.specs.ProgramFaults.{fault_of_run}
+use Rattle.decks.specs.declared.deck_run.DeckFault.{DeckFault}
+use Rattle.decks.specs.declared.deck_run.DeckFault.TheVariants.{TooLong, BadDeck, Sim}
+
+-- a deck's run has the default delay 1 and the period 10; its schedule picks the events
+abbrev pub source_of_deck : Sections → SourceView
+source_of_deck s = record {
+  bench = s.bench;
+  delays = s.delays;
+  stimuli = s.stimuli;
+  default_delay = 1;
+  period = 10;
+  picks = text s.schedule;
+}
+
+-- it shows all nets in nanoseconds
+abbrev pub view_of_deck : Sections → View
+view_of_deck s = record { horizon = s.horizon; show = All; unit = Ns }
+
+-- a text that is no deck has no run
+abbrev pub deck_of_text : DeckTextFault → DeckFault
+deck_of_text no_deck.TooLong = TooLong
+deck_of_text (no_deck.BadDeck line) = BadDeck line
+
+-- the answer to a deck: the dump and the report, or the first fault
+unfoldable pub simulated_deck : List ℕ → Result (List ℕ × Report) DeckFault
+simulated_deck bytes = do
+  sections ← or_fault deck_of_text (sections_of bytes)
+  or_fault Sim (simulated (source_of_deck sections) (view_of_deck sections))
+
+-- the dump alone
+abbrev pub dump_of_deck : List ℕ → Result (List ℕ) DeckFault
+dump_of_deck bytes = dump_in (simulated_deck bytes)
+
+-- a failed write broke the dump off, and a want of memory the run; any other fault is the answer, and nothing went out
+abbrev pub DeckEndsBy : Result (List ℕ) DeckFault → Option (List ℕ) → Option (List ℕ) → DeckFault → Type 0
+DeckEndsBy answer old new (Sim (Dump fault)) = IsOkAnd answer (AppendsPrefix old new)
+DeckEndsBy answer old new (Sim Memory) = WritesPart answer old new
+DeckEndsBy answer old new fault = (answer ≡ Err fault) × Keeps old new
+
+-- how the fault comes out of the program
+abbrev pub fault_of_deck : DeckFault → ProgramFault
+fault_of_deck TooLong = Deck no_deck.TooLong
+fault_of_deck (BadDeck line) = Deck (no_deck.BadDeck line)
+fault_of_deck (Sim fault) = fault_of_run First fault

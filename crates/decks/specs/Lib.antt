@@ -1,0 +1,2 @@
+pub mod DeckRun
+pub mod Tell

@@ -1,0 +1,46 @@
+-- How the program without words ends.
+use Rattle.std.specs.Prelude.{◌≡◌, ◌⊎◌, ℕ, List, Option, Result, IfSome, IsOkAnd, codes}
+use denote.Ref.{Bor}
+use Rattle.std.specs.Io.KnownBytes.{Appends, Keeps}
+use Rattle.orders.specs.declared.input.ReadFault.{ReadFault}
+use Rattle.orders.specs.declared.program_fault.ProgramFault.{ProgramFault}
+use Rattle.orders.specs.declared.program_fault.ProgramFault.TheVariants.{Flush}
+use Rattle.orders.specs.Place.{section_names}
+use Rattle.orders.specs.ProgramFaults.{fault_of_read}
+use Rattle.orders.specs.Report.{Reports}
+use Rattle.decks.specs.declared.deck_run.DeckFault.{DeckFault}
+use Rattle.decks.specs.DeckRun.{DeckEndsBy, dump_of_deck, fault_of_deck}
+
+-- a failed read of standard input, as a fault of the program
+abbrev pub IsUnreadDeck : ReadFault → ProgramFault → Type 0
+IsUnreadDeck fault told = (name : Bor (List ℕ)) × (name.now ≡ codes "stdin") × (told ≡ fault_of_read name fault)
+
+module _ (out out_new err err_new : Option (List ℕ)) (status : ℕ) where
+  -- ---- a deck that was read, whose answer this is
+
+  -- its dump went out, and nothing was told
+  abbrev pub DeckDone : Result (List ℕ) DeckFault → Type 0
+  DeckDone answer = (status ≡ 0) × IsOkAnd answer (Appends out out_new) × Keeps err err_new
+
+  -- it is refused, or its run broke off
+  abbrev pub DeckBroken : Result (List ℕ) DeckFault → Type 0
+  DeckBroken answer =
+      (fault : DeckFault) × DeckEndsBy answer out out_new fault × Reports section_names (fault_of_deck fault) err err_new status
+
+  -- its dump went out, and the flush failed
+  abbrev pub DeckUnflushed : Result (List ℕ) DeckFault → Type 0
+  DeckUnflushed answer = IsOkAnd answer (Appends out out_new) × Reports section_names Flush err err_new status
+
+  abbrev pub DeckTold : Result (List ℕ) DeckFault → Type 0
+  DeckTold answer = DeckDone answer ⊎ (DeckBroken answer ⊎ DeckUnflushed answer)
+
+  -- ---- standard input
+
+  -- it could not be read: nothing went out
+  abbrev pub DeckUnread : Type 0
+  DeckUnread =
+      (fault : ReadFault) × ((told : ProgramFault) × IsUnreadDeck fault told × Keeps out out_new × Reports section_names told err err_new status)
+
+  -- or what was told is of the deck that the reader has: of all its bytes, where they are known
+  abbrev pub TellEnds : Option (List ℕ) → Type 0
+  TellEnds bytes = DeckUnread ⊎ ((deck : List ℕ) × IfSome bytes (λ all. deck ≡ all) × DeckTold (dump_of_deck deck))

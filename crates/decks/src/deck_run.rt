@@ -1,0 +1,87 @@
+//! A run from one text.
+ghost use Rattle.std.specs.Prelude.{◌≡◌, IfErr, IfOk, IsOkAnd};
+ghost use Rattle.std.specs.Io.KnownBytes.{Appends};
+ghost use Rattle.decks.specs.declared.deck_run.DeckFault.TheVariants.{Sim};
+ghost use Rattle.decks.specs.DeckRun.{DeckEndsBy, deck_of_text, dump_of_deck, fault_of_deck, simulated_deck};
+
+use deck_text::{DeckTextFault, read_sections};
+use orders::ProgramFault;
+use runs::{Picks, Report, Show, SimFault, Source, View, simulate};
+use std::alloc::Global;
+use std::io::Write;
+use thiserror::Error;
+use vcd_dump::TimeUnit;
+
+/// Why the run of a deck ended early. Lines count from 1.
+#[derive(Clone, Copy, Debug, PartialEq, Eq, Error)]
+pub enum DeckFault {
+    /// The text has more than 16,777,216 bytes.
+    #[error("TooLong")]
+    TooLong,
+    /// The first line that breaks a rule of decks.
+    #[error("BadDeck")]
+    BadDeck { line: u64 },
+    /// The run of its sections ended early.
+    #[error("{0}")]
+    Sim(SimFault),
+}
+
+impl From<DeckTextFault> for DeckFault {
+    ghost from_gives = { λ fault e. e ≡ deck_of_text fault };
+
+    fn from(fault: DeckTextFault) -> DeckFault {
+        match fault {
+            DeckTextFault::TooLong => DeckFault::TooLong,
+            DeckTextFault::BadDeck { line } => DeckFault::BadDeck { line },
+        }
+    }
+}
+
+impl From<SimFault> for DeckFault {
+    ghost from_gives = { λ fault e. e ≡ Sim fault };
+
+    fn from(fault: SimFault) -> DeckFault {
+        DeckFault::Sim(fault)
+    }
+}
+
+impl From<DeckFault> for ProgramFault<'_> {
+    ghost from_gives = { λ fault e. e ≡ fault_of_deck fault };
+
+    fn from(fault: DeckFault) -> Self {
+        match fault {
+            DeckFault::TooLong => ProgramFault::Deck(DeckTextFault::TooLong),
+            DeckFault::BadDeck { line } => ProgramFault::Deck(DeckTextFault::BadDeck { line }),
+            DeckFault::Sim(fault) => ProgramFault::from(fault),
+        }
+    }
+}
+
+/// Writes the dump of a deck's run: all nets, in nanoseconds. The default delay is 1, the period 10.
+/// The deck's schedule picks the events that come before the run completes; answers the report.
+///
+/// # Errors
+/// A refusal of the deck or of a section comes before the first byte is written. After a failed
+/// write or a want of memory a first part of the dump went out, which may be nothing.
+pub fn deck<W: Write>(alloc: Global, text: &[u8], out: &mut W) -> Result<Report, DeckFault>
+    ensures ok { IfOk result (λ report. IsOkAnd (simulated_deck text.now) (λ answer.
+        Appends (W.contents out.old) (W.contents out.new) answer.0 × (report ≡ answer.1))) }
+    ensures err { IfErr result (DeckEndsBy (dump_of_deck text.now)
+        (W.contents out.old) (W.contents out.new)) }
+{
+    let sections = read_sections(text)?;
+    let source = Source {
+        bench: sections.bench,
+        delays: sections.delays,
+        stimuli: sections.stimuli,
+        default_delay: 1,
+        period: 10,
+        picks: Picks::Text(sections.schedule),
+    };
+    let view = View {
+        horizon: sections.horizon,
+        show: Show::All,
+        unit: TimeUnit::Ns,
+    };
+    Ok(simulate(alloc, &source, &view, out)?)
+}

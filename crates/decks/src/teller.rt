@@ -1,0 +1,53 @@
+//! The program without words.
+ghost use Rattle.decks.specs.DeckRun.{dump_of_deck};
+ghost use Rattle.decks.specs.Tell.{DeckTold, IsUnreadDeck, TellEnds};
+
+use crate::deck_run::deck;
+use orders::status::DONE;
+use orders::{ProgramFault, ReadFault, SECTIONS, flush, read_text, report};
+use std::alloc::Global;
+use std::io::{Read, Write};
+
+/// Reads a deck, and answers it as [`answer_deck`] does.
+///
+/// Where the deck can't be read the status is 3, or 4 where memory was wanting, and the fault is
+/// named for `stdin`; nothing is written then.
+pub fn tell<R: Read, W: Write, E: Write>(
+    alloc: Global,
+    input: &mut R,
+    out: &mut W,
+    err: &mut E,
+) -> u8
+    ensures { TellEnds (W.contents out.old) (W.contents out.new) (E.contents err.old) (E.contents err.new)
+        result (R.remaining input.old) }
+{
+    match read_text(alloc, input) {
+        Ok(text) => answer_deck(alloc, text.as_slice(), out, err),
+        Err(fault) => report(err, unread_deck(fault), SECTIONS),
+    }
+}
+
+/// The fault of a deck that could not be read.
+fn unread_deck(fault: ReadFault) -> ProgramFault<'static>
+    ensures { IsUnreadDeck fault result }
+{
+    ProgramFault::of_read(fault, "stdin")
+}
+
+/// Writes the dump of a deck's run and flushes once; answers the exit status.
+///
+/// 0 says that this is done, 1 that the deck is refused, 3 that a write failed, and 4 that memory was
+/// wanting. For each but 0 one line `WHERE:LINE: NAME` goes to `err`; a fault of `err` is ignored,
+/// and no memory is taken for the line.
+pub fn answer_deck<W: Write, E: Write>(alloc: Global, text: &[u8], out: &mut W, err: &mut E) -> u8
+    ensures { DeckTold (W.contents out.old) (W.contents out.new) (E.contents err.old) (E.contents err.new)
+        result (dump_of_deck text.now) }
+{
+    match deck(alloc, text, out) {
+        Ok(_) => match flush(out) {
+            Ok(()) => DONE,
+            Err(fault) => report(err, fault, SECTIONS),
+        },
+        Err(fault) => report(err, ProgramFault::from(fault), SECTIONS),
+    }
+}
