@@ -1,5 +1,5 @@
 //! Tests of the layers below a whole run, against worked examples, published values and limits at
-//! full size: the plain engine, channels, processes, the kernel, schedules and cones.
+//! full size: the plain engine, channels, processes, the kernel, schedules, cones and dumps.
 #![tactic(auto)]
 
 #[cfg(test)]
@@ -8,6 +8,8 @@ mod channels;
 mod circuits;
 #[cfg(test)]
 mod cones;
+#[cfg(test)]
+mod dumps;
 #[cfg(test)]
 mod kernels;
 #[cfg(test)]

@@ -85,11 +85,23 @@ fn circuits_with_memory(rt: HostRuntime) -> Result<(), Fail> {
 #[test]
 fn nets_of_s27(rt: HostRuntime) -> Result<(), Fail> {
     for (net, changes) in [
-        (b"G17".as_slice(), [(6, One), (27, Zero)]),
-        (b"G14", [(1, Zero), (13, One)]),
-        (b"G11", [(5, Zero), (26, One)]),
-        (b"G9", [(4, One), (25, Zero)]),
+        (b"G0".as_slice(), [(0, One), (12, Zero)]),
+        (b"G1", [(0, One), (22, Zero)]),
+        (b"G2", [(0, Zero), (12, One)]),
+        (b"G3", [(0, Zero), (22, One)]),
         (b"G5", [(11, One), (21, Zero)]),
+        (b"G6", [(11, Zero), (31, One)]),
+        (b"G7", [(11, One), (21, Zero)]),
+        (b"G14", [(1, Zero), (13, One)]),
+        (b"G17", [(6, One), (27, Zero)]),
+        (b"G8", [(2, Zero), (32, One)]),
+        (b"G15", [(3, Zero), (24, One)]),
+        (b"G16", [(3, Zero), (23, One)]),
+        (b"G9", [(4, One), (25, Zero)]),
+        (b"G10", [(6, One), (14, Zero)]),
+        (b"G11", [(5, Zero), (26, One)]),
+        (b"G12", [(1, Zero), (23, One)]),
+        (b"G13", [(2, One), (13, Zero)]),
     ] {
         shows(&rt, rt.alloc(), S27, 35, net, changes.as_slice())?;
     }

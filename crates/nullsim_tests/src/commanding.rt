@@ -3,12 +3,12 @@ ghost use Rattle.std.specs.Prelude.{◌≡◌, option_map};
 ghost use Rattle.nullsim_tests.specs.Shelf.{text_under};
 
 use crate::files::{FILES, Named};
-use crate::writers::Narrow;
 use nullsim::{ReadFault, Texts, command};
 use std::alloc::{AllocError, Global};
 use std::io::Write;
 use std::process::Abort;
 use std::test::Fail;
+use worked_examples::Narrow;
 use worked_examples::dumps::{INVERTER_DUMP, OUTPUTS_DUMP, SAMPLER_DUMP, SLOW_DUMP};
 
 /// Texts by name, and how often one was asked for.

@@ -94,6 +94,38 @@ fn long_pieces_make_the_whole_text(rt: HostRuntime) -> Result<(), Fail> {
     Ok(())
 }
 
+/// Fails at its first call, and then gives a text.
+#[derive(Drop)]
+struct Stumbling<'a> {
+    kind: ErrorKind,
+    has_failed: bool,
+    text: &'a [u8],
+}
+
+impl<'a> Read for Stumbling<'a> {
+    fn read(&mut self, buf: &mut [u8]) -> io::Result<usize> {
+        if self.has_failed {
+            return self.text.read(buf);
+        }
+        self.has_failed = true;
+        Err(io::Error::from(self.kind))
+    }
+}
+
+#[test]
+fn a_reader_that_fails_once(rt: HostRuntime) {
+    for kind in [ErrorKind::Other, ErrorKind::Interrupted] {
+        let mut input = Stumbling {
+            kind,
+            has_failed: false,
+            text: b"%nullsim 0".as_slice(),
+        };
+        let answer = read_text(rt.alloc(), &mut input);
+        assert!(rt; matches!(&answer, Err(ReadFault::Read)));
+        assert_eq!(rt; input.text.len(), 10);
+    }
+}
+
 /// Fails at every call.
 #[derive(Clone, Copy)]
 struct Broken {

@@ -21,5 +21,3 @@ mod refusals;
 mod running;
 #[cfg(test)]
 mod telling;
-#[cfg(test)]
-mod writers;

@@ -1,9 +1,9 @@
 //! Each fault of a deck through `tell`: the place and the line that it names, and the exit status.
-use crate::writers::Narrow;
 use nullsim::tell;
 use std::alloc::Global;
 use std::process::Abort;
 use std::test::Fail;
+use worked_examples::Narrow;
 
 // The deck is refused: this line goes to standard error, a byte a call, and nothing goes out.
 fn refuses(rt: &impl Abort, alloc: Global, deck: &str, fault: &str) {

@@ -1,9 +1,9 @@
 //! Command lines through `command`: `run`, with schedules and counts.
 use crate::commanding::{breaks_off, ends, goes_out, misuses, refuses, tells, took};
-use crate::writers::Narrow;
 use std::alloc::Global;
 use std::process::Abort;
 use std::test::Fail;
+use worked_examples::Narrow;
 use worked_examples::dumps::{EDGE_DUMP, INVERTER_DUMP, OUTPUTS_DUMP};
 
 const RUN: &str = "run --bench inv.bench --stimuli inv.stim --horizon 5";

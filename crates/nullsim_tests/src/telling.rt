@@ -1,11 +1,11 @@
 //! Decks through `tell`: dumps byte for byte, faulty streams.
-use crate::writers::Narrow;
 use cmb_kernel::Counts;
 use nullsim::{Report, deck, tell};
 use std::alloc::{AllocError, Global};
 use std::io::{self, ErrorKind, Read};
 use std::process::Abort;
 use std::test::Fail;
+use worked_examples::Narrow;
 use worked_examples::dumps::{CONTROLLED_DUMP, CROSSING_DUMP, INVERTER_DUMP, SLOW_DUMP};
 
 // `tell` carries the deck out: this dump goes out, and nothing to standard error.
@@ -45,6 +45,11 @@ fn worked_decks(rt: HostRuntime) {
         (
             b"%nullsim 2\n%bench\nINPUT(a)\nINPUT(b)\ny = AND(a, b)\n%stimuli\n0 a 0\n",
             CONTROLLED_DUMP,
+        ),
+        // A flip-flop, whose period is 10.
+        (
+            b"%nullsim 12\n%bench\nINPUT(d)\nq = DFF(d)\n%stimuli\n4 d 1\n",
+            b"$version nullsim 1 $end\n$timescale 1 ns $end\n$scope module top $end\n$var wire 1 ! d $end\n$var wire 1 \" q $end\n$upscope $end\n$enddefinitions $end\n#0\n$dumpvars\nx!\nx\"\n$end\n#4\n1!\n#11\n1\"\n#12\n",
         ),
         // Under schedules.
         (

@@ -92,3 +92,47 @@ fn two_runs(rt: HostRuntime) -> Result<(), Fail> {
     rises_and_falls(&rt, &answer.second);
     Ok(())
 }
+
+// So many inputs.
+fn inputs(alloc: Global, count: u32) -> Result<Vec<u8>, AllocError> {
+    let mut text = Vec::new(alloc);
+    for number in 0..count {
+        text.extend_from_slice(format!(in alloc; "INPUT(n{number})\n")?.as_bytes())?;
+    }
+    Ok(text)
+}
+
+// Each shown net has a line for its name and one for its first value, beside eight others.
+#[test]
+fn ten_thousand_nets(rt: HostRuntime) -> Result<(), Fail> {
+    let bench = inputs(rt.alloc(), 10_000)?;
+    let source = Source {
+        stimuli: b"",
+        ..driven(bench.as_slice())
+    };
+    let view = View {
+        horizon: 0,
+        show: Show::All,
+        unit: TimeUnit::Ns,
+    };
+    let mut out = Vec::new(rt.alloc());
+    simulate(rt.alloc(), &source, &view, &mut out)?;
+    let lines = out.iter().filter(|byte| **byte == b'\n').count();
+    assert_eq!(rt; lines, 20_008);
+    Ok(())
+}
+
+// A gate that turns over at each tick from 1 on.
+#[test]
+fn a_hundred_thousand_changes(rt: HostRuntime) -> Result<(), Fail> {
+    let source = Source {
+        stimuli: b"0 e 0\n1 e 1\n",
+        default_delay: 1,
+        ..driven(b"INPUT(e)\ny = NAND(e, y)\n")
+    };
+    let answer = twin(rt.alloc(), &source, &source, b"y", 100_000)?;
+    assert!(rt; answer.agree);
+    assert_eq!(rt; answer.first.changes().len(), 100_000);
+    assert_eq!(rt; answer.second.changes().len(), 100_000);
+    Ok(())
+}

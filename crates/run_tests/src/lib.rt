@@ -2,6 +2,8 @@
 #![tactic(auto)]
 
 #[cfg(test)]
+mod cones;
+#[cfg(test)]
 mod far_runs;
 #[cfg(test)]
 mod simulations;

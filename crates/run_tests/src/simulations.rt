@@ -4,12 +4,14 @@ use cmb_kernel::Counts;
 use design::StimulusFault;
 use runs::{Picks, Report, Show, SimFault, Source, View, plain, simulate};
 use std::alloc::Global;
+use std::io::ErrorKind;
 use std::process::Abort;
 use vcd_dump::{DumpFault, TimeUnit};
 use worked_examples::dumps::{
     EDGE_DUMP, INVERTER_DUMP, OSCILLATOR_DUMP, OUTPUTS_DUMP, RING_COUNTER_DUMP, SAMPLER_DUMP,
     SELF_INVERTER_DUMP, SLOW_DUMP,
 };
+use worked_examples::{Narrow, Stumbling};
 
 const INVERTER: Source<'static> = Source {
     bench: b"INPUT(a)\nOUTPUT(y)\ny = NOT(a)\n",
@@ -170,12 +172,14 @@ fn schedules(rt: HostRuntime) {
 
 #[test]
 fn random_schedule(rt: HostRuntime) {
-    for seed in [0, 1, 7, u64::MAX] {
-        let picks = Picks::Seeded { seed, picks: 1_000 };
-        let source = Source { picks, ..EDGE };
+    for (seed, picks) in [(0, 1_000), (1, 1_000), (7, 1_000), (u64::MAX, 100_000)] {
+        let source = Source {
+            picks: Picks::Seeded { seed, picks },
+            ..EDGE
+        };
         let mut out = Vec::new(rt.alloc());
         let answer = simulate(rt.alloc(), &source, &all_up_to(8), &mut out);
-        assert!(rt; answer.is_ok_and(|report| report.after.events == 1_000));
+        assert!(rt; answer.is_ok_and(|report| report.after.events == picks));
         assert!(rt; out.as_slice() == EDGE_DUMP);
     }
 }
@@ -236,6 +240,42 @@ fn writer_without_room(rt: HostRuntime) {
     let fault = SimFault::Dump(DumpFault::WroteNothing);
     assert_eq!(rt; answer, Err(fault));
     assert!(rt; room.as_slice() == &INVERTER_DUMP[..100]);
+}
+
+#[test]
+fn writer_of_forty_bytes(rt: HostRuntime) {
+    let mut out = Narrow::new(rt.alloc(), 40, 40);
+    let answer = simulate(rt.alloc(), &INVERTER, &all_up_to(5), &mut out);
+    assert_eq!(rt; answer, Err(SimFault::Dump(DumpFault::Write)));
+    assert!(rt; out.taken.as_slice() == &INVERTER_DUMP[..40]);
+}
+
+// A writer that fails at the call of this number breaks the run off, and isn't called again.
+fn breaks_off(rt: &impl Abort, alloc: Global, call: u32, kind: ErrorKind) {
+    let mut out = Stumbling::new(alloc, call, kind);
+    let answer = simulate(alloc, &INVERTER, &all_up_to(5), &mut out);
+    assert_eq!(rt; answer, Err(SimFault::Dump(DumpFault::Write)));
+    assert_eq!(rt; out.calls, call.saturating_add(1));
+    assert!(rt; INVERTER_DUMP.starts_with(out.taken.as_slice()));
+}
+
+#[test]
+fn writers_that_fail_once(rt: HostRuntime) {
+    for kind in [ErrorKind::Other, ErrorKind::Interrupted] {
+        for call in [0, 1, 2, 5, 9] {
+            breaks_off(&rt, rt.alloc(), call, kind);
+        }
+    }
+}
+
+// No call gives the writer nothing.
+#[test]
+fn pieces_of_a_dump(rt: HostRuntime) {
+    let mut out = Stumbling::new(rt.alloc(), u32::MAX, ErrorKind::Other);
+    let answer = simulate(rt.alloc(), &INVERTER, &all_up_to(5), &mut out);
+    assert!(rt; answer.is_ok());
+    assert!(rt; out.taken.as_slice() == INVERTER_DUMP);
+    assert_eq!(rt; out.empty, 0);
 }
 
 // The dump of the outputs of a circuit, in picoseconds, up to tick 5.

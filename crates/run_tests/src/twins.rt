@@ -3,10 +3,15 @@ use bench_text::BenchFault;
 use cmb_events::ScheduleFault;
 use design::{DelayFault, OptionFault, StimulusFault};
 use logic3::{Change, Value, Waveform};
-use runs::{CheckAnswer, Picks, Side, SimFault, Source, TwinAnswer, TwinFault, check, twin};
+use runs::{
+    CheckAnswer, Picks, Show, Side, SimFault, Source, TwinAnswer, TwinFault, View, check, simulate,
+    twin,
+};
 use std::alloc::Global;
 use std::process::Abort;
 use std::test::Fail;
+use vcd_dump::TimeUnit;
+use worked_examples::dumps::{OTHER_TWIN_DUMP, TWIN_DUMP};
 use worked_examples::{S27_BENCH, S27_STIMULI};
 
 const ONE: Source<'static> = Source {
@@ -121,6 +126,22 @@ fn what_plays_no_part(rt: HostRuntime) -> Result<(), Fail> {
         compares(&rt, rt.alloc(), sides, b"y", true, &inverted, &inverted)?;
     }
     Ok(())
+}
+
+// The codes of one net differ between the dumps of two runs that agree on it.
+#[test]
+fn dumps_of_both(rt: HostRuntime) {
+    let view = View {
+        horizon: 5,
+        show: Show::All,
+        unit: TimeUnit::Ns,
+    };
+    for (source, dump) in [(ONE, TWIN_DUMP), (OTHER, OTHER_TWIN_DUMP)] {
+        let mut out = Vec::new(rt.alloc());
+        let answer = simulate(rt.alloc(), &source, &view, &mut out);
+        assert!(rt; answer.is_ok());
+        assert!(rt; out.as_slice() == dump);
+    }
 }
 
 #[test]

@@ -5,6 +5,8 @@
 #[cfg(test)]
 mod logic;
 #[cfg(test)]
+mod picking;
+#[cfg(test)]
 mod reading;
 #[cfg(test)]
 mod texts;

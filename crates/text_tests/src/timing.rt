@@ -1,4 +1,5 @@
 //! Delay texts, stimulus texts and settings: what is refused, and with which fault.
+use crate::texts::longest;
 use bench_text::read;
 use design::{BuildFault, DelayFault, Design, Horizon, OptionFault, StimulusFault, options};
 use std::alloc::Global;
@@ -91,6 +92,20 @@ fn faulty_delays(rt: HostRuntime) -> Result<(), Fail> {
     ] {
         delays_gate(&rt, rt.alloc(), text, delay)?;
     }
+    Ok(())
+}
+
+// A byte too many is refused before anything else in the text.
+#[test]
+fn too_long_texts(rt: HostRuntime) -> Result<(), Fail> {
+    let mut text = longest(rt.alloc(), b"#")?;
+    let built = build(rt.alloc(), text.as_slice(), text.as_slice(), 1, 10)?;
+    assert!(rt; built.is_ok());
+    text.push(b'x')?;
+    let answer = build(rt.alloc(), text.as_slice(), b"x", 1, 10)?;
+    is_refused(&rt, answer, BuildFault::Timing(DelayFault::TooLong));
+    let answer = build(rt.alloc(), b"", text.as_slice(), 1, 10)?;
+    is_refused(&rt, answer, BuildFault::Stimulus(StimulusFault::TooLong));
     Ok(())
 }
 

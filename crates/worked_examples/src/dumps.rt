@@ -39,3 +39,11 @@ pub const CROSSING_DUMP: &[u8] =
 /// Of the same gate with one pin driven, by 0, up to tick 2.
 pub const CONTROLLED_DUMP: &[u8] =
     b"$version nullsim 1 $end\n$timescale 1 ns $end\n$scope module top $end\n$var wire 1 ! a $end\n$var wire 1 \" b $end\n$var wire 1 # y $end\n$upscope $end\n$enddefinitions $end\n#0\n$dumpvars\n0!\nx\"\nx#\n$end\n#1\n0#\n#2\n";
+
+/// Of the nets a, y, b and z, where y inverts a, and z is 1 where a and b are, up to tick 5.
+pub const TWIN_DUMP: &[u8] =
+    b"$version nullsim 1 $end\n$timescale 1 ns $end\n$scope module top $end\n$var wire 1 ! a $end\n$var wire 1 \" y $end\n$var wire 1 # b $end\n$var wire 1 $ z $end\n$upscope $end\n$enddefinitions $end\n#0\n$dumpvars\n0!\nx\"\n1#\nx$\n$end\n#1\n1\"\n0$\n#3\n1!\n#4\n0\"\n1$\n#5\n";
+
+/// Of another circuit with the same y, driven alike, in which z is 1 where a and b differ.
+pub const OTHER_TWIN_DUMP: &[u8] =
+    b"$version nullsim 1 $end\n$timescale 1 ns $end\n$scope module top $end\n$var wire 1 ! c $end\n$var wire 1 \" k $end\n$var wire 1 # m $end\n$var wire 1 $ z $end\n$var wire 1 % b $end\n$var wire 1 & a $end\n$var wire 1 ' y $end\n$upscope $end\n$enddefinitions $end\n#0\n$dumpvars\nx!\nx\"\nx#\nx$\n1%\n0&\nx'\n$end\n#1\n1$\n1'\n#3\n1&\n#4\n0$\n0'\n#5\n";
