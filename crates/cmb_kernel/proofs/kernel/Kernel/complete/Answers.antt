@@ -7,13 +7,13 @@ use Rattle.cmb_kernel.proofs.kernel.Kernel.complete.Goals as goal
 
 pub loop-self-smaller : goal.loop-self-smaller
 loop-self-smaller g c =
-    less_left c.args.self.now c.loop-self.self c.in_ok-check_running.ensures.circuit c.loop-self.invariant c.round.new.self c.in_ok-round.ensures.outcome.ok
-    (sym c.is_complete.ensures.complete ∙ c.loop-self-test.true)
+    let before = sym c.is_complete.ensures.complete ∙ c.loop-self-test.true in
+    less_left c.args.self.now c.loop-self.self c.in_ok-check_running.ensures.circuit c.loop-self.invariant c.round.new.self c.in_ok-round.ensures.outcome.ok before
 
 pub loop-self-preserved : goal.loop-self-preserved
 loop-self-preserved g c =
-    one_more_round c.args.self.now c.loop-self.self c.in_ok-check_running.ensures.circuit c.loop-self.invariant c.round.new.self c.in_ok-round.ensures.outcome.ok
-    (sym c.is_complete.ensures.complete ∙ c.loop-self-test.true)
+    let incomplete = sym c.is_complete.ensures.complete ∙ c.loop-self-test.true in
+    one_more_round c.args.self.now c.loop-self.self c.in_ok-check_running.ensures.circuit c.loop-self.invariant c.round.new.self c.in_ok-round.ensures.outcome.ok incomplete
 
 pub returns-clause-outcome : goal.returns-clause-outcome
 returns-clause-outcome g c = record {
