@@ -2,7 +2,8 @@
 use Rattle.std.proofs.Common.{◌≡◌, ℕ, ◌+◌, ◌≤◌, List, [], ◌∷◌, map, length, replicate, All, refl, ap, sym, subst, ◌∙◌, arith}
 use Rattle.std.proofs.lemmas.List.Elements.{All-nil, All-cons}
 use Rattle.std.proofs.lemmas.Simd.{map-map}
-use Rattle.design.specs.Circuit.{Circuit, most_ticks, pin_count}
+use Rattle.design.specs.Circuit.{Circuit, pin_count}
+use Rattle.timing_text.specs.Ranges.{most_ticks}
 use Rattle.design.specs.Design.{DesignView, IsDesign}
 use Rattle.design.specs.Pins.{sources_of}
 use Rattle.cmb_channels.specs.declared.message.Message.{Message}

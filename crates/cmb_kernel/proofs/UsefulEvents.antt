@@ -5,7 +5,8 @@ use Rattle.std.proofs.lemmas.List.{length-map}
 use Rattle.std.proofs.lemmas.List.Sums.{sum_by-cons}
 use Rattle.std.proofs.lemmas.Option.{slice_get_within, get_or_from_slice_get}
 use Rattle.design.proofs.CallerLemmas.{timed_at, pin_is}
-use Rattle.design.specs.Circuit.{Net, Circuit, IsCircuit, HasDelay, pin_count}
+use Rattle.design.specs.Circuit.{Net, Circuit, IsCircuit, pin_count}
+use Rattle.timing_text.specs.Ranges.{HasDelay}
 use Rattle.design.specs.Equations.{value_of}
 use Rattle.netlist.specs.declared.part.Part.{Part}
 use Rattle.netlist.specs.declared.part.Part.TheVariants.{Input, Gate, Flop}

@@ -1,6 +1,6 @@
 -- What holds of a kernel that hasn't failed.
 use Rattle.std.specs.Prelude.{◌≡◌, ℕ, ◌+◌, ◌≤◌, List, map, length, sum_by, All}
-use Rattle.design.specs.Circuit.{most_ticks}
+use Rattle.timing_text.specs.Ranges.{most_ticks}
 use Rattle.design.specs.Design.{DesignView, IsDesign}
 use Rattle.design.specs.Pins.{sources_of}
 use Rattle.cmb_channels.specs.declared.message.Message.{Message}

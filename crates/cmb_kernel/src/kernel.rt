@@ -15,11 +15,12 @@ mod useful;
 use crate::counts::Counts;
 use crate::fault::KernelFault;
 use cmb_channels::Fabric;
-use design::{Design, Horizon};
+use design::Design;
 use gate_process::Process;
 use logic3::Waveform;
 use std::alloc::{AllocError, Global};
 use std::marker::Model;
+use timing_text::Horizon;
 
 /// A run of a design: a process for each net, and channels between them.
 ///

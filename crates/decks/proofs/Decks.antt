@@ -3,8 +3,8 @@ use Rattle.std.proofs.Common.{◌≡◌, ℕ, ◌-◌, ◌^◌, ◌<◌, ◌≤�
 use Rattle.std.proofs.KnownBytes.{Keeps-refl}
 use Rattle.std.proofs.lemmas.Bool.{cases_lt, lt-ltb}
 use Rattle.text_lines.specs.Text.{◌>>=◌}
-use Rattle.design.specs.Circuit.{most_ticks}
-use Rattle.design.specs.Options.{horizon_of}
+use Rattle.timing_text.specs.Ranges.{most_ticks}
+use Rattle.timing_text.specs.Options.{horizon_of}
 use Rattle.vcd_dump.specs.Bytes.{AppendsPrefix}
 use Rattle.runs.specs.declared.fault.SimFault.{SimFault}
 use Rattle.runs.specs.declared.fault.SimFault.TheVariants.{Dump, Memory}

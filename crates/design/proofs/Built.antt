@@ -8,24 +8,24 @@ use Rattle.std.proofs.lemmas.List.Elements.{All-map}
 use Rattle.logic3.specs.declared.change.Change.{Change}
 use Rattle.text_lines.specs.Text.{◌>>=◌}
 use Rattle.netlist.specs.Netlist.{NetView, NetlistView, IsNetlist}
-use Rattle.design.specs.declared.fault.OptionFault.{OptionFault}
-use Rattle.design.specs.declared.fault.OptionFault.TheVariants.{BadDelay, BadPeriod}
-use Rattle.design.specs.declared.fault.DelayFault.{DelayFault}
-use Rattle.design.specs.declared.fault.DelayFault.TheVariants as delay
-use Rattle.design.specs.declared.fault.StimulusFault.{StimulusFault}
-use Rattle.design.specs.declared.fault.StimulusFault.TheVariants as stimulus
+use Rattle.timing_text.specs.declared.fault.OptionFault.{OptionFault}
+use Rattle.timing_text.specs.declared.fault.OptionFault.TheVariants.{BadDelay, BadPeriod}
+use Rattle.timing_text.specs.declared.fault.DelayFault.{DelayFault}
+use Rattle.timing_text.specs.declared.fault.DelayFault.TheVariants as delay
+use Rattle.timing_text.specs.declared.fault.StimulusFault.{StimulusFault}
+use Rattle.timing_text.specs.declared.fault.StimulusFault.TheVariants as stimulus
 use Rattle.design.specs.declared.fault.BuildFault.{BuildFault}
 use Rattle.design.specs.declared.fault.BuildFault.TheVariants.{Setting, Timing, Stimulus, Memory}
-use Rattle.design.specs.Circuit.{Circuit, IsTimed, most_delay, most_ticks}
+use Rattle.design.specs.Circuit.{Circuit, IsTimed}
+use Rattle.timing_text.specs.Ranges.{most_delay, most_ticks}
 use Rattle.design.specs.Design.{DesignView, IsDesign, untimed}
 use Rattle.design.specs.Joined.{timed_nets, design_view, first_pins_of, IsJoined}
-use Rattle.design.specs.Options.{is_in_limits, option_fault, options_of}
-use Rattle.design.specs.Delays.{DelayLine, delays_of, net_delays, delay_of_net}
-use Rattle.design.specs.Stimuli.{NamedChange, stimuli_of, net_stimuli, stimuli_named}
+use Rattle.timing_text.specs.Options.{is_in_limits, option_fault, options_of}
+use Rattle.timing_text.specs.Delays.{DelayLine, delays_of, net_delays, delay_of_net}
+use Rattle.timing_text.specs.Stimuli.{NamedChange, stimuli_of, net_stimuli, stimuli_named}
 use Rattle.design.specs.Faults.{timing_fault, stimulus_fault}
 use Rattle.design.specs.Build.{circuit_with, circuit_of, design_of}
-use Rattle.design.proofs.DelaysInRange.{HasDelay-delays_of}
-use Rattle.design.proofs.StimuliInRange.{HasStimuli-stimuli_of}
+use Rattle.timing_text.proofs.CallerLemmas.{HasDelay-delays_of, HasStimuli-stimuli_of}
 
 -- nets without what timed them
 untimed-timed : (delay : NetView → ℕ) (stimuli : NetView → List Change) (period : ℕ) (nets : List NetView) →

@@ -1,7 +1,6 @@
 -- What crates above may cite of the lemmas of this one.
 pub use Rattle.design.proofs.Built.{IsDesign-design_of}
 pub use Rattle.design.proofs.Joined.{net_named-circuit}
-pub use Rattle.design.proofs.Named.{names-differ, net_at-named, no_net}
 pub use Rattle.design.proofs.Numbers.{PinIs, length-sources, net_of_pin_below, pin_below, pin_count-cons, pin_is, same_pin, source_at}
 pub use Rattle.design.proofs.SampleTicks.{asked-before, asked-early, asked-from, asked-mono, asker-late, asker-mono, asker-none, unasked}
 pub use Rattle.design.proofs.Solution.{same_asked, same_values, value_solves}

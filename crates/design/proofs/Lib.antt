@@ -1,21 +1,11 @@
 mod Built
 pub mod CallerLemmas
-mod DelayLines
-mod DelaysInRange
-mod GivenDelays
-mod GivenStimuli
 mod Joined
-mod Named
 mod Numbers
 mod Parts
-mod Rising
 mod SampleTicks
 mod Solution
 mod Starts
-mod StimuliInRange
-mod StimuliNamed
-mod StimulusLines
 mod Stored
-mod TextRows
 mod Ticks
 mod WellFormed

@@ -7,7 +7,8 @@ use Rattle.logic3.specs.declared.value.Value.TheVariants.{Unknown}
 use Rattle.logic3.specs.Gate.{value_of_gate, only_pin}
 use Rattle.netlist.specs.declared.part.Part.{Part}
 use Rattle.netlist.specs.declared.part.Part.TheVariants.{Input, Gate, Flop}
-use Rattle.design.specs.Circuit.{Net, Circuit, IsCircuit, HasDelay, IsTimed}
+use Rattle.design.specs.Circuit.{Net, Circuit, IsCircuit, IsTimed}
+use Rattle.timing_text.specs.Ranges.{HasDelay}
 use Rattle.design.specs.Samples.{timing_of, asked_of_part}
 use Rattle.design.specs.Equations.{values_at, equation_of_part, equation_at, IsSolution, value_within, value_of}
 use Rattle.design.proofs.SampleTicks.{asked-early}

@@ -8,9 +8,9 @@ use Rattle.design.specs.declared.fault.BuildFault.{BuildFault}
 use Rattle.design.specs.declared.fault.BuildFault.TheVariants.{Setting, Timing, Stimulus}
 use Rattle.design.specs.Circuit.{Circuit}
 use Rattle.design.specs.Design.{DesignView}
-use Rattle.design.specs.Options.{option_fault}
-use Rattle.design.specs.Delays.{DelayLine, delays_of, delay_named, delay_of_part}
-use Rattle.design.specs.Stimuli.{NamedChange, stimuli_of, stimuli_named}
+use Rattle.timing_text.specs.Options.{option_fault}
+use Rattle.timing_text.specs.Delays.{DelayLine, delays_of, delay_named, delay_of_part}
+use Rattle.timing_text.specs.Stimuli.{NamedChange, stimuli_of, stimuli_named}
 
 -- each net with its delay, the period and its stimuli
 abbrev pub circuit_with : NetlistView → List DelayLine → List NamedChange → ℕ → ℕ → Circuit

@@ -1,9 +1,8 @@
 -- A circuit: nets with their timing and stimuli.
 use Rattle.std.specs.Prelude.{◌≡◌, ℕ, ◌<◌, ◌≤◌, List, [], length, sum_by, All}
 use Rattle.logic3.specs.declared.change.Change.{Change}
-use Rattle.logic3.specs.Rising.{TicksRise}
 use Rattle.netlist.specs.declared.part.Part.{Part}
-use Rattle.netlist.specs.declared.part.Part.TheVariants.{Input}
+use Rattle.timing_text.specs.Ranges.{HasDelay, HasStimuli, most_ticks}
 
 -- a net of a circuit: what drives it, and when
 pub record Net : Type 0 where
@@ -16,24 +15,6 @@ pub record Net : Type 0 where
 
 abbrev pub Circuit : Type 0
 Circuit = List Net
-
--- the most ticks that a gate or a flip-flop may take
-abbrev pub most_delay : ℕ
-most_delay = 1_000_000
-
--- the last tick that a horizon, a period or a stimulus may name
-abbrev pub most_ticks : ℕ
-most_ticks = 10_000_000
-
-abbrev pub HasDelay : Part → ℕ → Type 0
-HasDelay Input delay = delay ≡ 0
-HasDelay _ delay = (1 ≤ delay) × (delay ≤ most_delay)
-
-abbrev pub HasStimuli : Part → List Change → Type 0
-HasStimuli Input stimuli =
-    All (λ (change : Change). change.tick ≤ most_ticks) stimuli
-    × TicksRise stimuli
-HasStimuli _ stimuli = stimuli ≡ []
 
 -- a gate or a flip-flop takes at least one tick, an input none; stimuli stand at inputs alone, and their ticks rise strictly
 pub record IsTimed (net : Net) : Type 0 where

@@ -11,8 +11,5 @@ pub mod Joined
 pub mod Samples
 pub mod Equations
 pub mod Pins
-pub mod Options
-pub mod Delays
-pub mod Stimuli
 pub mod Build
 pub mod Faults

@@ -12,10 +12,10 @@ ghost use Rattle.design.specs.Design.{IsDesign};
 ghost use Rattle.design.specs.Equations.{equation_at, signals_in, waves_of};
 
 use crate::design::Design;
-use crate::horizon::Horizon;
 use logic3::{Change, GateKind, Value, Waveform, gate, value_after};
 use netlist::Part;
 use std::alloc::{AllocError, Global};
+use timing_text::Horizon;
 
 /// The waveforms of all nets, in their order, from tick 0 to the horizon.
 ///

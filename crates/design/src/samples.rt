@@ -1,6 +1,6 @@
 //! At which tick a net looks at its pins.
 ghost use Rattle.std.specs.Prelude.{◌≡◌, ◌<◌, ◌≤◌, ◌+◌};
-ghost use Rattle.design.specs.Circuit.{most_delay, most_ticks};
+ghost use Rattle.timing_text.specs.Ranges.{most_delay, most_ticks};
 ghost use Rattle.design.specs.Samples.{last_sample, next_sample, asked_of_part, asker_of_part};
 
 use netlist::Part;

@@ -1,12 +1,13 @@
 //! Cones, agreement and extraction on worked circuits.
 use crate::circuits::{Circuit, S27};
 use bench_text::{read, write};
-use design::{Design, Horizon};
+use design::Design;
 use fanin_cone::{ConeFault, agree, cone, extract};
 use netlist::Netlist;
 use std::alloc::Global;
 use std::process::Abort;
 use std::test::Fail;
+use timing_text::Horizon;
 
 const FIRST: Circuit = Circuit {
     bench: b"INPUT(a)\nOUTPUT(y)\ny = NOT(a)\nINPUT(b)\nz = AND(a, b)\n",

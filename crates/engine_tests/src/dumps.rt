@@ -1,10 +1,11 @@
 //! Dumps by direct calls.
 use crate::circuits::INVERTER;
-use design::{Design, Horizon};
+use design::Design;
 use logic3::Waveform;
 use std::alloc::Global;
 use std::process::Abort;
 use std::test::Fail;
+use timing_text::Horizon;
 use vcd_dump::{TimeUnit, dump};
 
 // The dump of no net up to tick 5.

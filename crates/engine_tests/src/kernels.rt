@@ -9,11 +9,12 @@ use Event::{Advance, Deliver};
 use cmb_channels::Queues;
 use cmb_events::Event;
 use cmb_kernel::{Counts, Kernel, KernelFault};
-use design::{Design, Horizon, plain_waves};
+use design::{Design, plain_waves};
 use logic3::Waveform;
 use std::alloc::{AllocError, Global};
 use std::process::Abort;
 use std::test::Fail;
+use timing_text::Horizon;
 
 fn counts(events: u64, changes: u64, nulls: u64, rounds: u64) -> Counts {
     Counts {

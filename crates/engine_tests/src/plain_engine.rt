@@ -4,11 +4,12 @@ use crate::circuits::{
     SAMPLER, SELF_INVERTER, SLOW_INVERTER,
 };
 use Value::{One, Unknown, Zero};
-use design::{Horizon, plain_waves};
+use design::plain_waves;
 use logic3::{Change, Value, Waveform};
 use std::alloc::Global;
 use std::process::Abort;
 use std::test::Fail;
+use timing_text::Horizon;
 
 // Up to the horizon the net shows X, and then just these changes.
 fn shows(

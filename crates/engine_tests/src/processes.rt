@@ -7,12 +7,13 @@ use crate::circuits::built;
 use Message::Null;
 use Value::{One, Unknown, Zero};
 use cmb_channels::Message;
-use design::{Design, Horizon};
+use design::Design;
 use gate_process::Process;
 use logic3::{Change, Value};
 use std::alloc::Global;
 use std::process::Abort;
 use std::test::Fail;
+use timing_text::Horizon;
 
 // A process at work, how many pins its net has, and the first tick past its horizon.
 #[derive(Drop)]

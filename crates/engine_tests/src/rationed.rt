@@ -5,10 +5,11 @@ ghost use Rattle.std.specs.Prelude.{◌≡◌};
 use crate::circuits::{Circuit, GATED_OSCILLATOR, INVERTER, RING_COUNTER};
 use cmb_channels::{Fabric, Message, Queues};
 use cmb_kernel::{Kernel, KernelFault};
-use design::{Design, Horizon};
+use design::Design;
 use std::alloc::{AllocError, Global};
 use std::process::Abort;
 use std::test::Fail;
+use timing_text::Horizon;
 
 /// Queues that refuse memory once they have carried so many messages.
 #[derive(Drop)]

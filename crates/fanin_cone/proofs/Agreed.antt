@@ -12,11 +12,13 @@ use Rattle.logic3.specs.Wave.{value_after}
 use Rattle.netlist.specs.declared.part.Part.{Part}
 use Rattle.netlist.specs.declared.part.Part.TheVariants.{Input, Gate, Flop}
 use Rattle.netlist.specs.Netlist.{NetView, net_named, name_at}
-use Rattle.design.specs.Circuit.{Net, HasDelay}
+use Rattle.design.specs.Circuit.{Net}
+use Rattle.timing_text.specs.Ranges.{HasDelay}
 use Rattle.design.specs.Design.{DesignView, IsDesign}
 use Rattle.design.specs.Samples.{timing_of, asked_of_part}
 use Rattle.design.specs.Equations.{values_at, equation_of_part, value_within, value_of}
-use Rattle.design.proofs.CallerLemmas.{net_named-circuit, no_net, net_at-named, asked-early, same_asked, length-circuit, timed_at, pins_at, IsCircuit-from_IsDesign}
+use Rattle.design.proofs.CallerLemmas.{net_named-circuit, asked-early, same_asked, length-circuit, timed_at, pins_at, IsCircuit-from_IsDesign}
+use Rattle.netlist.proofs.CallerLemmas.{no_net, net_at-named}
 use Rattle.fanin_cone.specs.Cone.{pin_names, IsClosed}
 use Rattle.fanin_cone.specs.Agreement.{net_of, stimuli_to, IsSameNet, AgreesAt, AgreesOn}
 use Rattle.fanin_cone.proofs.DesignNets.{net_at-untimed}

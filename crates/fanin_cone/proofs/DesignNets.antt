@@ -5,7 +5,7 @@ use Rattle.std.proofs.lemmas.Option.{slice_get_within, get_or_from_slice_get, no
 use Rattle.netlist.specs.Netlist.{NetView, net_at, name_at}
 use Rattle.design.specs.Circuit.{Net, Circuit}
 use Rattle.design.specs.Design.{DesignView, IsDesign, untimed}
-use Rattle.design.proofs.CallerLemmas.{no_net}
+use Rattle.netlist.proofs.CallerLemmas.{no_net}
 
 -- a number below the number of nets has a net
 pub net_there : (circuit : Circuit) (number : ℕ) → number < length circuit → (net : Net) × (slice_get circuit number ≡ Some net)

@@ -7,13 +7,13 @@ use Rattle.std.proofs.lemmas.List.{get_or-map, length-map}
 use Rattle.std.proofs.lemmas.List.Elements.{All-head, All-tail, All-map, All-weaker}
 use Rattle.std.proofs.lemmas.List.Folds.{list_any_at}
 use Rattle.std.proofs.lemmas.List.Quantifiers.{position-Some}
-use Rattle.netlist.proofs.CallerLemmas.{list_any-place}
+use Rattle.netlist.proofs.CallerLemmas.{list_any-place, no_net, net_at-named}
 use Rattle.netlist.specs.Netlist.{NetView, NetlistView, net_at, net_named, name_at}
 use Rattle.netlist.specs.Repeats.{distinct}
 use Rattle.netlist.specs.Pick.{place_in, picked}
 use Rattle.design.specs.Design.{DesignView, IsDesign, untimed}
 use Rattle.design.specs.Equations.{value_of}
-use Rattle.design.proofs.CallerLemmas.{net_named-circuit, no_net, net_at-named, length-circuit}
+use Rattle.design.proofs.CallerLemmas.{net_named-circuit, length-circuit}
 use Rattle.fanin_cone.specs.Cone.{pin_names, IsClosed}
 use Rattle.fanin_cone.specs.Agreement.{net_of, AgreesAt, AgreesOn}
 use Rattle.fanin_cone.specs.Extract.{IsExtract, KeepsTiming}

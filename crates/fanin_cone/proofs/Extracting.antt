@@ -3,7 +3,7 @@ use Rattle.std.proofs.Common.{◌≡◌, ℕ, ◌<◌, List, length, map, get_or
 use Rattle.std.proofs.lemmas.List.{length-map}
 use Rattle.std.proofs.lemmas.List.Elements.{All-weaker, All-contains, All-contains_itself, Contains-get_or}
 use Rattle.netlist.specs.Netlist.{NetlistView, IsNetlist, net_at, name_at}
-use Rattle.design.proofs.CallerLemmas.{no_net}
+use Rattle.netlist.proofs.CallerLemmas.{no_net}
 use Rattle.fanin_cone.specs.Cone.{start, pin, IsConeOf}
 use Rattle.fanin_cone.proofs.KnownNames.{HaveNumbers, numbers_below, names_of_numbers}
 use Rattle.fanin_cone.proofs.Listed.{Contains-map}

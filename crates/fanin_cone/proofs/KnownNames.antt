@@ -8,8 +8,7 @@ use Rattle.std.proofs.lemmas.List.Elements.{All-nil, All-cons}
 use Rattle.std.proofs.lemmas.List.Folds.{list_any_none}
 use Rattle.std.proofs.lemmas.List.Sums.{position_or_len_is}
 use Rattle.netlist.specs.Netlist.{NetlistView, net_named, name_at}
-use Rattle.netlist.proofs.CallerLemmas.{is_some-position}
-use Rattle.design.proofs.CallerLemmas.{net_at-named}
+use Rattle.netlist.proofs.CallerLemmas.{is_some-position, net_at-named}
 use Rattle.fanin_cone.specs.Extract.{first_unknown}
 
 -- the names have these numbers

@@ -3,7 +3,7 @@ use Rattle.std.proofs.Common.{◌≡◌, ℕ, ◌<◌, length, ◌∙◌, All, C
 use Rattle.std.proofs.lemmas.Bool.{cases_eq}
 use Rattle.std.proofs.lemmas.List.{get_or_default}
 use Rattle.netlist.specs.Netlist.{NetView, NetlistView, IsNetlist, net_at, name_at}
-use Rattle.design.proofs.CallerLemmas.{no_net, names-differ}
+use Rattle.netlist.proofs.CallerLemmas.{no_net, names-differ}
 
 -- a name has one number
 pub same_net : (netlist : NetlistView) → IsNetlist netlist → (net other : ℕ) → net < length netlist.nets → other < length netlist.nets →

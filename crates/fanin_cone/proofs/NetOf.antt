@@ -6,10 +6,10 @@ use Rattle.std.specs.Str.{bytes_eq}
 use Rattle.std.proofs.lemmas.List.Folds.{find_at}
 use Rattle.std.proofs.lemmas.Option.{slice_get_past, slice_get_within, none-some, same_Some}
 use Rattle.netlist.specs.Netlist.{NetView, NetlistView, IsNetlist, net_named, name_at}
-use Rattle.netlist.proofs.CallerLemmas.{bytes_eq-same, All-from_no_position}
+use Rattle.netlist.proofs.CallerLemmas.{bytes_eq-same, All-from_no_position, no_net, net_at-named}
 use Rattle.design.specs.Circuit.{Net}
 use Rattle.design.specs.Design.{DesignView, IsDesign}
-use Rattle.design.proofs.CallerLemmas.{net_named-circuit, no_net, net_at-named, length-circuit}
+use Rattle.design.proofs.CallerLemmas.{net_named-circuit, length-circuit}
 use Rattle.fanin_cone.specs.Agreement.{net_of}
 use Rattle.fanin_cone.proofs.DesignNets.{net_there, net_at-untimed}
 use Rattle.fanin_cone.proofs.NetNames.{same_net}

@@ -7,7 +7,8 @@ use Rattle.std.proofs.lemmas.Option.{none-some, same_Some}
 use Rattle.netlist.specs.Netlist.{NetView, net_named, net_at}
 use Rattle.design.specs.Circuit.{Net}
 use Rattle.design.specs.Design.{DesignView, IsDesign, untimed}
-use Rattle.design.proofs.CallerLemmas.{net_named-circuit, net_at-named, no_net, length-circuit}
+use Rattle.design.proofs.CallerLemmas.{net_named-circuit, length-circuit}
+use Rattle.netlist.proofs.CallerLemmas.{net_at-named, no_net}
 use Rattle.fanin_cone.specs.Cone.{pin_names, InCone, start, pin}
 use Rattle.fanin_cone.specs.Agreement.{net_of, AgreesOn}
 use Rattle.fanin_cone.proofs.DesignNets.{net_there, net_at-untimed}

@@ -6,7 +6,8 @@ use Rattle.logic3.specs.declared.change.Change.{Change}
 use Rattle.logic3.specs.Rising.{TicksRise}
 use Rattle.netlist.specs.declared.part.Part.{Part}
 use Rattle.netlist.specs.declared.part.Part.TheVariants.{Input}
-use Rattle.design.specs.Circuit.{Net, HasStimuli}
+use Rattle.design.specs.Circuit.{Net}
+use Rattle.timing_text.specs.Ranges.{HasStimuli}
 use Rattle.design.specs.Design.{DesignView, IsDesign}
 use Rattle.design.proofs.CallerLemmas.{timed_at, IsCircuit-from_IsDesign}
 use Rattle.fanin_cone.proofs.DesignNets.{net_with}

@@ -3,7 +3,7 @@ use Rattle.std.proofs.Common.{◌≡◌, ℕ, ◌<◌, Bool, false, List, [], �
 use Rattle.std.proofs.lemmas.List.{length-replicate}
 use Rattle.std.proofs.lemmas.List.Elements.{All-nil, All-contains_itself, Contains-get_or, All-weaker, All-contains, Contains-append_left, Contains-push, Contains-push_cases}
 use Rattle.netlist.specs.Netlist.{NetView, NetlistView, IsNetlist, net_at, name_at}
-use Rattle.design.proofs.CallerLemmas.{no_net}
+use Rattle.netlist.proofs.CallerLemmas.{no_net}
 use Rattle.fanin_cone.specs.Cone.{InCone, start, pin, IsConeOf}
 use Rattle.fanin_cone.specs.Walk.{is_marked, Marks, MarksCone, NumbersMarked}
 use Rattle.fanin_cone.proofs.Listed.{Contains-map, Contains-from_map}

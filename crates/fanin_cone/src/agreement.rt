@@ -8,10 +8,11 @@ ghost use Rattle.fanin_cone.specs.Cone.{pin_names, InCone};
 ghost use Rattle.fanin_cone.specs.Agreement.{net_of, stimuli_to, IsSameNet, AgreesAt, AgreesOn};
 
 use crate::cones::cone;
-use design::{Design, Horizon};
+use design::Design;
 use logic3::Change;
 use netlist::Part;
 use std::alloc::{AllocError, Global};
+use timing_text::Horizon;
 
 /// Whether two designs agree, at ticks up to the horizon, on the fan-in cone that the net of this
 /// name has in the first one; None where one of them has no net of this name.

@@ -4,7 +4,8 @@ use Rattle.std.proofs.lemmas.List.{length-map}
 use Rattle.logic3.specs.declared.value.Value.{Value}
 use Rattle.logic3.specs.Wave.{value_at, changes_between, wave_of}
 use Rattle.logic3.proofs.CallerLemmas.{value_at-wave_of, changes_between-same}
-use Rattle.design.specs.Circuit.{Net, most_ticks}
+use Rattle.design.specs.Circuit.{Net}
+use Rattle.timing_text.specs.Ranges.{most_ticks}
 use Rattle.cmb_channels.specs.declared.message.Message.{Message}
 use Rattle.cmb_channels.proofs.CallerLemmas.{length-update, IsUpdated, get_of_update}
 use Rattle.gate_process.specs.Knowledge.{Knowledge, nothing_known, knowledge_of, told, forgetting, Tells}

@@ -3,7 +3,8 @@ use Rattle.std.specs.Prelude.{◌≡◌, ◌≢◌, ℕ, ◌+◌, ◌<◌, ◌�
 use Rattle.logic3.specs.declared.value.Value.{Value}
 use Rattle.logic3.specs.declared.change.Change.{Change}
 use Rattle.netlist.specs.Part.{takes_pins}
-use Rattle.design.specs.Circuit.{Net, IsTimed, most_ticks}
+use Rattle.design.specs.Circuit.{Net, IsTimed}
+use Rattle.timing_text.specs.Ranges.{most_ticks}
 use Rattle.design.specs.Samples.{asked_tick}
 use Rattle.design.specs.Equations.{equation}
 use Rattle.logic3.specs.Wave.{IsWave}

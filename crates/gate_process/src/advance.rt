@@ -3,7 +3,7 @@ ghost use Rattle.std.specs.Prelude.{◌≡◌, ℕ, ◌+◌, ◌<◌, ◌≤◌,
 ghost use Rattle.logic3.specs.declared.value.Value.TheVariants.{Unknown};
 ghost use Rattle.logic3.specs.declared.change.Change.{Change};
 ghost use Rattle.logic3.specs.Wave.{value_at, value_before, last_value, joined, changes_between};
-ghost use Rattle.design.specs.Circuit.{most_ticks};
+ghost use Rattle.timing_text.specs.Ranges.{most_ticks};
 ghost use Rattle.design.specs.Equations.{equation};
 ghost use Rattle.gate_process.specs.Knowledge.{Knowledge, news_of, kept_since, keeping};
 ghost use Rattle.gate_process.specs.Step.{signals_of, continued};

@@ -1,5 +1,5 @@
 ghost use Rattle.std.specs.Prelude.{◌≡◌, ℕ, ◌+◌, ◌<◌, ◌≤◌, length, slice_get, Some, IfOk};
-ghost use Rattle.design.specs.Circuit.{most_ticks};
+ghost use Rattle.timing_text.specs.Ranges.{most_ticks};
 ghost use Rattle.design.specs.Equations.{equation};
 ghost use Rattle.gate_process.specs.Step.{signals_of, frontier_of, oldest_asked};
 ghost use Rattle.gate_process.specs.Truth.{IsNet};

@@ -7,10 +7,11 @@ use crate::advance::{extend, keep_all};
 use crate::net_copy::NetCopy;
 use crate::received::{Received, least_frontier, nothing_received};
 use cmb_channels::Message;
-use design::{Design, Horizon};
+use design::Design;
 use logic3::{Value, Waveform};
 use std::alloc::{AllocError, Global};
 use std::marker::Model;
+use timing_text::Horizon;
 
 /// The logical process of a net.
 ///

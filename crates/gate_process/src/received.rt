@@ -1,7 +1,7 @@
 ghost use Rattle.std.specs.Prelude.{◌≡◌, true, ℕ, ◌+◌, ◌<◌, ◌≤◌, map, replicate, IfOk, OnOk, OnErr};
 ghost use Rattle.logic3.specs.declared.value.Value.TheVariants.{Unknown};
 ghost use Rattle.logic3.specs.Wave.{IsWave, last_value, value_at, value_in_the_end};
-ghost use Rattle.design.specs.Circuit.{most_ticks};
+ghost use Rattle.timing_text.specs.Ranges.{most_ticks};
 ghost use Rattle.cmb_channels.specs.Kinds.{is_change};
 ghost use Rattle.gate_process.specs.Knowledge.{Knowledge, nothing_known, told, kept_since, forgetting, keeping};
 ghost use Rattle.gate_process.specs.Step.{least};

@@ -2,6 +2,7 @@ mod Among
 pub mod CallerLemmas
 mod Distinct
 mod Joined
+mod Named
 mod NewName
 mod Picked
 mod Places

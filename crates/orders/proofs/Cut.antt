@@ -9,14 +9,14 @@ use Rattle.bench_text.specs.NetlistOf.{netlist_of, netlist_of_statements, statem
 use Rattle.bench_text.specs.declared.fault.BenchFault.{BenchFault}
 use Rattle.bench_text.specs.declared.fault.BenchFault.TheVariants as bench
 use Rattle.design.specs.declared.fault.BuildFault.{BuildFault}
-use Rattle.design.specs.declared.fault.DelayFault.TheVariants as delay
-use Rattle.design.specs.declared.fault.StimulusFault.TheVariants as stimulus
+use Rattle.timing_text.specs.declared.fault.DelayFault.TheVariants as delay
+use Rattle.timing_text.specs.declared.fault.StimulusFault.TheVariants as stimulus
 use Rattle.design.specs.Build.{design_of}
 use Rattle.design.specs.Circuit.{Circuit}
 use Rattle.design.specs.Design.{DesignView}
-use Rattle.design.specs.Options.{horizon_of, options_of}
-use Rattle.design.specs.Delays.{delays_after, delays_of}
-use Rattle.design.specs.Stimuli.{stimuli_after, stimuli_of}
+use Rattle.timing_text.specs.Options.{horizon_of, options_of}
+use Rattle.timing_text.specs.Delays.{delays_after, delays_of}
+use Rattle.timing_text.specs.Stimuli.{stimuli_after, stimuli_of}
 use Rattle.cmb_events.specs.declared.event.Event.{Event}
 use Rattle.cmb_events.specs.declared.schedule_fault.ScheduleFault.{ScheduleFault}
 use Rattle.cmb_events.specs.declared.schedule_fault.ScheduleFault.TheVariants as schedule

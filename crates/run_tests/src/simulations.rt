@@ -1,11 +1,11 @@
 //! Runs by the kernel: dumps byte for byte, what is reported, schedules.
 use cmb_events::ScheduleFault;
 use cmb_kernel::Counts;
-use design::StimulusFault;
 use runs::{Picks, Report, Show, SimFault, Source, View, plain, simulate};
 use std::alloc::Global;
 use std::io::ErrorKind;
 use std::process::Abort;
+use timing_text::StimulusFault;
 use vcd_dump::{DumpFault, TimeUnit};
 use worked_examples::dumps::{
     EDGE_DUMP, INVERTER_DUMP, OSCILLATOR_DUMP, OUTPUTS_DUMP, RING_COUNTER_DUMP, SAMPLER_DUMP,

@@ -1,7 +1,6 @@
 //! Two runs compared, and the two engines compared, by the library's calls.
 use bench_text::BenchFault;
 use cmb_events::ScheduleFault;
-use design::{DelayFault, OptionFault, StimulusFault};
 use logic3::{Change, Value, Waveform};
 use runs::{
     CheckAnswer, Picks, Show, Side, SimFault, Source, TwinAnswer, TwinFault, View, check, simulate,
@@ -10,6 +9,7 @@ use runs::{
 use std::alloc::Global;
 use std::process::Abort;
 use std::test::Fail;
+use timing_text::{DelayFault, OptionFault, StimulusFault};
 use vcd_dump::TimeUnit;
 use worked_examples::dumps::{OTHER_TWIN_DUMP, TWIN_DUMP};
 use worked_examples::{S27_BENCH, S27_STIMULI};

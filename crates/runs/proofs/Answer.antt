@@ -6,13 +6,13 @@ use Rattle.bench_text.specs.declared.fault.BenchFault.TheVariants as bench
 use Rattle.netlist.specs.Netlist.{NetlistView}
 use Rattle.bench_text.specs.NetlistOf.{netlist_of}
 use Rattle.text_lines.specs.Text.{◌>>=◌, longest_text}
-use Rattle.design.specs.declared.fault.OptionFault.{OptionFault}
-use Rattle.design.specs.declared.fault.DelayFault.TheVariants as delay
-use Rattle.design.specs.declared.fault.StimulusFault.TheVariants as stimulus
+use Rattle.timing_text.specs.declared.fault.OptionFault.{OptionFault}
+use Rattle.timing_text.specs.declared.fault.DelayFault.TheVariants as delay
+use Rattle.timing_text.specs.declared.fault.StimulusFault.TheVariants as stimulus
 use Rattle.design.specs.declared.fault.BuildFault.{BuildFault}
 use Rattle.design.specs.declared.fault.BuildFault.TheVariants as build
 use Rattle.design.specs.Design.{DesignView}
-use Rattle.design.specs.Options.{options_of, horizon_of}
+use Rattle.timing_text.specs.Options.{options_of, horizon_of}
 use Rattle.design.specs.Build.{design_of}
 use Rattle.cmb_events.specs.declared.event.Event.{Event}
 use Rattle.cmb_events.specs.declared.schedule_fault.ScheduleFault.{ScheduleFault}

@@ -4,7 +4,7 @@ use Rattle.logic3.specs.declared.value.Value.{Value}
 use Rattle.netlist.specs.Netlist.{net_named}
 use Rattle.design.specs.Design.{DesignView, IsDesign}
 use Rattle.design.specs.Equations.{value_of}
-use Rattle.design.proofs.CallerLemmas.{net_at-named}
+use Rattle.netlist.proofs.CallerLemmas.{net_at-named}
 use Rattle.fanin_cone.specs.Agreement.{AgreesOn}
 use Rattle.fanin_cone.specs.Cone.{InCone, start}
 use Rattle.fanin_cone.proofs.CallerLemmas.{value_agrees, cone_closed}

@@ -6,7 +6,7 @@ use Rattle.logic3.proofs.CallerLemmas.{wave_of_iff}
 use Rattle.netlist.specs.Netlist.{net_named}
 use Rattle.design.specs.Design.{DesignView, IsDesign}
 use Rattle.design.specs.Equations.{value_of}
-use Rattle.design.proofs.CallerLemmas.{net_at-named}
+use Rattle.netlist.proofs.CallerLemmas.{net_at-named}
 use Rattle.cmb_events.specs.Schedule.{most_events, Exists}
 use Rattle.fanin_cone.specs.Agreement.{AgreesOn, net_of}
 use Rattle.fanin_cone.specs.Cone.{InCone, start}

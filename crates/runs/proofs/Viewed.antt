@@ -20,13 +20,14 @@ use Rattle.bench_text.specs.NetlistOf.{netlist_of}
 use Rattle.text_lines.specs.Text.{◌>>=◌}
 use Rattle.bench_text.proofs.CallerLemmas.{IsNetlist-netlist_of}
 use Rattle.design.specs.declared.fault.BuildFault.{BuildFault}
-use Rattle.design.specs.declared.fault.OptionFault.{OptionFault}
-use Rattle.design.specs.declared.fault.OptionFault.TheVariants.{BadHorizon}
+use Rattle.timing_text.specs.declared.fault.OptionFault.{OptionFault}
+use Rattle.timing_text.specs.declared.fault.OptionFault.TheVariants.{BadHorizon}
 use Rattle.design.specs.Build.{design_of}
-use Rattle.design.specs.Circuit.{Net, most_ticks}
+use Rattle.design.specs.Circuit.{Net}
+use Rattle.timing_text.specs.Ranges.{most_ticks}
 use Rattle.design.specs.Design.{DesignView, IsDesign, untimed}
 use Rattle.design.specs.Equations.{value_of}
-use Rattle.design.specs.Options.{options_of, horizon_of}
+use Rattle.timing_text.specs.Options.{options_of, horizon_of}
 use Rattle.design.proofs.CallerLemmas.{IsDesign-design_of}
 use Rattle.vcd_dump.specs.Traces.{name_of}
 use Rattle.vcd_dump.proofs.CallerLemmas.{shown_value-dump_text}

@@ -1,15 +1,15 @@
 -- What a fault of a run tells, its name and its line, and how a layer's fault comes out of a run.
 use Rattle.std.specs.Prelude.{ℕ, List, codes}
 use Rattle.bench_text.specs.Faults as of_bench
-use Rattle.design.specs.Faults.{delay_line, delay_name, option_name, stimulus_line, stimulus_name}
+use Rattle.timing_text.specs.Faults.{delay_line, delay_name, option_name, stimulus_line, stimulus_name}
 use Rattle.cmb_events.specs.ScheduleFaults as of_schedule
 use Rattle.vcd_dump.specs.Faults as of_dump
 use Rattle.bench_text.specs.declared.fault.BenchFault.{BenchFault}
 use Rattle.bench_text.specs.declared.fault.BenchFault.TheVariants as bench
 use Rattle.design.specs.declared.fault.BuildFault.{BuildFault}
 use Rattle.design.specs.declared.fault.BuildFault.TheVariants as build
-use Rattle.design.specs.declared.fault.DelayFault.TheVariants as delay
-use Rattle.design.specs.declared.fault.StimulusFault.TheVariants as stimulus
+use Rattle.timing_text.specs.declared.fault.DelayFault.TheVariants as delay
+use Rattle.timing_text.specs.declared.fault.StimulusFault.TheVariants as stimulus
 use Rattle.cmb_events.specs.declared.schedule_fault.ScheduleFault.{ScheduleFault}
 use Rattle.cmb_events.specs.declared.schedule_fault.ScheduleFault.TheVariants as schedule
 use Rattle.fanin_cone.specs.declared.fault.ConeFault.{ConeFault}

@@ -6,7 +6,7 @@ use Rattle.logic3.specs.declared.value.Value.{Value}
 use Rattle.text_lines.specs.Text.{◌>>=◌, longest_text}
 use Rattle.netlist.specs.Netlist.{NetlistView}
 use Rattle.bench_text.specs.NetlistOf.{netlist_of}
-use Rattle.design.specs.Options.{options_of, horizon_of}
+use Rattle.timing_text.specs.Options.{options_of, horizon_of}
 use Rattle.design.specs.Circuit.{Circuit}
 use Rattle.design.specs.Design.{DesignView}
 use Rattle.design.specs.Build.{design_of}

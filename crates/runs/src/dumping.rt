@@ -8,10 +8,11 @@ ghost use Rattle.runs.specs.Shown.{waves_up_to};
 
 use crate::fault::SimFault;
 use crate::view::{Show, View};
-use design::{Design, Horizon};
+use design::Design;
 use logic3::Waveform;
 use std::alloc::{AllocError, Global};
 use std::io::Write;
+use timing_text::Horizon;
 use vcd_dump::dump;
 
 /// The numbers of the nets that are shown, in their order.

@@ -5,11 +5,12 @@ ghost use Rattle.runs.specs.Faults.{line_of, name_of, sim_of_bench, sim_of_build
 use bench_text::BenchFault;
 use cmb_events::ScheduleFault;
 use cmb_kernel::KernelFault;
-use design::{BuildFault, DelayFault, OptionFault, StimulusFault};
+use design::BuildFault;
 use fanin_cone::ConeFault;
 use std::alloc::AllocError;
 use std::fmt;
 use thiserror::Error;
+use timing_text::{DelayFault, OptionFault, StimulusFault};
 use vcd_dump::DumpFault;
 
 /// Why a run ended early.

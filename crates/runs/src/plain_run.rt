@@ -13,10 +13,11 @@ use crate::fault::SimFault;
 use crate::preparation::prepare;
 use crate::source::Source;
 use crate::view::{Show, View};
-use design::{Design, Horizon, plain_waves};
+use design::{Design, plain_waves};
 use logic3::Waveform;
 use std::alloc::{AllocError, Global};
 use std::io::Write;
+use timing_text::Horizon;
 
 /// Writes the dump of a run.
 ///

@@ -11,8 +11,9 @@ use crate::fault::SimFault;
 use crate::source::{Picks, Source};
 use bench_text::read;
 use cmb_events::{Schedule, ScheduleFault};
-use design::{Design, Horizon, options};
+use design::Design;
 use std::alloc::Global;
+use timing_text::{Horizon, options};
 
 /// A run that can begin: its horizon, its design, and the events that come before it completes.
 #[derive(Debug, Drop)]

@@ -1,10 +1,11 @@
 //! Delay texts, stimulus texts and settings: what is refused, and with which fault.
 use crate::texts::longest;
 use bench_text::read;
-use design::{BuildFault, DelayFault, Design, Horizon, OptionFault, StimulusFault, options};
+use design::{BuildFault, Design};
 use std::alloc::Global;
 use std::process::Abort;
 use std::test::Fail;
+use timing_text::{DelayFault, Horizon, OptionFault, StimulusFault, options};
 
 fn build(
     alloc: Global,

@@ -14,11 +14,12 @@ use crate::fault::DumpFault;
 use crate::lines::{push_change, push_declaration, push_heading, push_time_after};
 use crate::pending::{Pending, add_change, first_changes};
 use crate::unit::TimeUnit;
-use design::{Design, Horizon};
+use design::Design;
 use logic3::{Change, Waveform};
 use std::alloc::Global;
 use std::collections::BTreeSet;
 use std::io::Write;
+use timing_text::Horizon;
 
 // Each line is built in `line`, so that one call of `write` can take it whole.
 

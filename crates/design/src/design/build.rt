@@ -2,15 +2,14 @@ ghost use Rattle.std.specs.Prelude.{◌≡◌, ◌≢◌, ◌≤◌, length, IfO
 ghost use Rattle.text_lines.specs.Text.{longest_text};
 ghost use Rattle.netlist.specs.Netlist.{IsNetlist};
 ghost use Rattle.design.specs.Build.{design_of};
-ghost use Rattle.design.specs.Options.{options_of};
+ghost use Rattle.timing_text.specs.Options.{options_of};
 ghost use Rattle.design.specs.Joined.{first_pins_of};
 
 use crate::design::Design;
 use crate::fault::BuildFault;
-use crate::settings::options;
-use crate::{delays, stimuli};
 use netlist::Netlist;
 use std::alloc::{AllocError, Global};
+use timing_text::{options, read_delays, read_stimuli};
 
 impl Design {
     /// A netlist with the timing of a delay text and the stimuli of a stimulus text.
@@ -36,8 +35,8 @@ impl Design {
         ensures delays { result ≡ Err BuildFault.Memory → length delays.now ≤ longest_text }
     {
         options(default_delay, period)?;
-        let delays = delays::delays(alloc, &netlist, delays, default_delay)?;
-        let stimuli = stimuli::stimuli(alloc, &netlist, stimuli)?;
+        let delays = read_delays(alloc, &netlist, delays, default_delay)?;
+        let stimuli = read_stimuli(alloc, &netlist, stimuli)?;
         let first_pins = first_pins(alloc, &netlist)?;
         Ok(Design {
             netlist,

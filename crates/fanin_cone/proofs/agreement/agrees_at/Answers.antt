@@ -1,5 +1,6 @@
 use Rattle.std.proofs.Common.{arith, sym, true≢false}
-use Rattle.design.proofs.CallerLemmas.{net_at-named, length-circuit}
+use Rattle.design.proofs.CallerLemmas.{length-circuit}
+use Rattle.netlist.proofs.CallerLemmas.{net_at-named}
 use Rattle.fanin_cone.proofs.Agreeing.{AgreesAt-found, AgreesAt-none}
 use Rattle.fanin_cone.proofs.agreement.agrees_at.Goals as goal
 

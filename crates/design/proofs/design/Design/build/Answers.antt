@@ -7,7 +7,7 @@ use Rattle.design.proofs.design.Design.build.Goals.{In_ok-stimuli}
 given : (c : In_ok-stimuli) → IsGiven c.args.netlist c.args.delays.now c.args.stimuli.now c.args.default_delay c.args.period
     c.in_ok-delays.delays.items (map (λ v. v.items) c.in_ok-stimuli.stimuli.items)
 given c = is_given c.args.netlist c.args.delays.now c.args.stimuli.now c.args.default_delay c.args.period _ _ c.in_ok-options.field-0
-    c.in_ok-options.ensures (c.in_ok-delays.ensures.delays (λ e. (cc))) (c.in_ok-stimuli.ensures (λ e. (cc)))
+    c.in_ok-options.ensures (c.in_ok-delays.ensures.delays (λ e. (cc))) (c.in_ok-stimuli.ensures.stimuli (λ e. (cc)))
 
 pub returns-in_err-delays-clause-design : goal.returns-in_err-delays-clause-design
 returns-in_err-delays-clause-design c =
@@ -21,7 +21,7 @@ returns-in_err-stimuli-clause-design c =
     let lifted = err_from_is_err_and c.from_residual-in_err-stimuli.result c.from_residual-in_err-stimuli.ensures.1 in
     rw (lifted.1, lifted.2)
     (λ differs. design_of-stimulus_fault c.args.netlist c.args.delays.now c.args.stimuli.now c.args.default_delay c.args.period c.in_ok-options.field-0
-    c.in_ok-options.ensures _ _ (c.in_ok-delays.ensures.delays (λ e. (cc))) (λ other. c.in_err-stimuli.ensures (λ e. other (cc))) (λ e. differs (ap Err e)))
+    c.in_ok-options.ensures _ _ (c.in_ok-delays.ensures.delays (λ e. (cc))) (λ other. c.in_err-stimuli.ensures.stimuli (λ e. other (cc))) (λ e. differs (ap Err e)))
 
 pub invariant_of-result : goal.invariant_of-result
 invariant_of-result c =

@@ -1,8 +1,0 @@
-use Rattle.std.proofs.Common.{map}
-use Rattle.text_lines.specs.Text.{code_lines}
-use Rattle.design.proofs.GivenStimuli.{Given}
-use Rattle.design.proofs.stimuli.stimuli.Given as goal
-
-abbrev pub invariant-loop-line : goal.invariant-loop-line
-invariant-loop-line l =
-    Given l.netlist (code_lines l.text) l.line-iterator (map (λ changes. changes.items) l.stimuli.items)
