@@ -19,6 +19,10 @@ struct NetDelay {
 }
 
 /// The delay of each net in ticks, by net number: that of its line, or the default; 0 for an input.
+///
+/// # Errors
+/// The first fault of the text, as [`DelayFault`] says, or [`DelayFault::Memory`] where a growth was
+/// refused. A text that is too long is refused before any memory is taken.
 pub fn read_delays(
     alloc: Global,
     netlist: &Netlist,

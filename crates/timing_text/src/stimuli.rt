@@ -23,6 +23,10 @@ struct NetChange {
 }
 
 /// The stimuli of each net, by net number; none but for an input.
+///
+/// # Errors
+/// The first fault of the text, as [`StimulusFault`] says, or [`StimulusFault::Memory`] where a growth
+/// was refused. A text that is too long is refused before any memory is taken.
 pub fn read_stimuli(
     alloc: Global,
     netlist: &Netlist,
