@@ -1,5 +1,5 @@
 -- The answer to a deck, from its sections and from the answer to their texts.
-use Rattle.std.proofs.Common.{◌≡◌, ℕ, ◌-◌, ◌^◌, ◌<◌, ◌≤◌, min, List, Option, Result, Ok, Err, IsOkAnd, ◌⊎◌, inl, inr, refl, sym, ap, subst, ◌∙◌, arith}
+use Rattle.std.proofs.Common.{◌≡◌, ℕ, ◌-◌, ◌^◌, ◌<◌, ◌≤◌, min, List, Option, Result, Ok, Err, IsOk, IsOkAnd, ◌⊎◌, inl, inr, refl, sym, ap, subst, ◌∙◌, arith}
 use Rattle.std.proofs.KnownBytes.{Keeps-refl}
 use Rattle.std.proofs.lemmas.Bool.{cases_lt, lt-ltb}
 use Rattle.text_lines.specs.Text.{◌>>=◌}
@@ -14,9 +14,9 @@ use Rattle.decks.specs.declared.deck_run.DeckFault.{DeckFault}
 use Rattle.decks.specs.declared.deck_run.DeckFault.TheVariants.{Sim}
 use Rattle.runs.specs.declared.simulation.Report.{Report}
 use Rattle.deck_text.specs.Deck.{Sections, ended_lines, sections_of, sections_of_lines}
-use Rattle.decks.specs.DeckRun.{DeckEndsBy, deck_of_text, dump_of_deck, simulated_deck, source_of_deck, view_of_deck}
+use Rattle.decks.specs.DeckRun.{DeckEndsBy, DeckMayWantMemory, deck_of_text, dump_of_deck, simulated_deck, source_of_deck, view_of_deck}
 use Rattle.runs.specs.Ends.{WritesPart, RunEndsBy}
-use Rattle.runs.specs.Source.{design_of_source, or_fault, dump_of_design}
+use Rattle.runs.specs.Source.{MayWantMemory, design_of_source, or_fault, dump_of_design}
 use Rattle.deck_text.specs.Seen.{held, on_sections}
 use Rattle.runs.specs.Simulated.{dump_in, run_of_source, simulated}
 use Rattle.orders.proofs.CallerLemmas.{cut, limited-cut}
@@ -99,3 +99,31 @@ pub DeckEndsBy-Sim : (deck : Result (List ℕ × Report) DeckFault) (answer : Re
 DeckEndsBy-Sim deck answer old new fault is ends =
     subst (λ d. DeckEndsBy d old new (Sim fault)) (sym (ap dump_in is ∙ dump_in-or_fault answer))
     (DeckEndsBy-or_fault (dump_in answer) old new fault ends)
+
+-- what a run of the sections that the code found may want, the deck may want
+pub DeckMayWantMemory-sections : (bytes : List ℕ) (found : Sections) → on_sections held (sections_of bytes) ≡ Ok found →
+    MayWantMemory (source_of_deck found) found.horizon → DeckMayWantMemory bytes
+DeckMayWantMemory-sections bytes found is may = go (sections_of bytes) is
+  where
+    go : (sections : Result Sections DeckTextFault) → on_sections held sections ≡ Ok found →
+        IsOkAnd sections (λ s. MayWantMemory (source_of_deck s) s.horizon)
+    go (Ok s) e =
+        let same : found ≡ held s = cc in
+        let may_held = subst (λ (d : Sections). MayWantMemory (source_of_deck d) d.horizon) same may in
+        record {
+          settings = may_held.settings;
+          horizon = subst IsOk (horizon_of-held s.horizon) may_held.horizon;
+          netlist = may_held.netlist;
+        }
+    go (Err fault) e = cc
+
+-- a text in which it found none isn't refused for want of memory
+pub deck_of_text-Memory : {A B : Type 0} (result : Result A DeckFault) (fault : DeckTextFault) → result ≡ Err (deck_of_text fault) →
+    result ≡ Err (Sim Memory) → B
+deck_of_text-Memory result TooLong is wanting = cc
+deck_of_text-Memory result (BadDeck line) is wanting = cc
+
+-- the deck wants memory where its run does
+pub Sim-Memory : {A B : Type 0} (result : Result A DeckFault) (run : Result B SimFault) (fault : SimFault) → result ≡ Err (Sim fault) → run ≡ Err fault →
+    result ≡ Err (Sim Memory) → run ≡ Err Memory
+Sim-Memory result run fault is failed wanting = let same : fault ≡ Memory = cc in failed ∙ ap Err same

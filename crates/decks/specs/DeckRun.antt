@@ -15,7 +15,7 @@ use Rattle.runs.specs.declared.view.View.{View}
 use Rattle.runs.specs.Ends.{WritesPart}
 use Rattle.runs.specs.Events.{text}
 use Rattle.runs.specs.Simulated.{dump_in, simulated}
-use Rattle.runs.specs.Source.{SourceView, or_fault}
+use Rattle.runs.specs.Source.{SourceView, or_fault, MayWantMemory}
 use Rattle.orders.specs.declared.program_fault.ProgramFault.{ProgramFault}
 use Rattle.orders.specs.declared.program_fault.ProgramFault.TheVariants.{Deck}
 use Rattle.orders.specs.ProgramFaults.{fault_of_run}
@@ -57,6 +57,10 @@ abbrev pub DeckEndsBy : Result (List ℕ) DeckFault → Option (List ℕ) → Op
 DeckEndsBy answer old new (Sim (Dump fault)) = IsOkAnd answer (AppendsPrefix old new)
 DeckEndsBy answer old new (Sim Memory) = WritesPart answer old new
 DeckEndsBy answer old new fault = (answer ≡ Err fault) × Keeps old new
+
+-- it may find memory wanting only in a deck whose horizon is in its range and whose netlist's text isn't too long
+abbrev pub DeckMayWantMemory : List ℕ → Type 0
+DeckMayWantMemory bytes = IsOkAnd (sections_of bytes) (λ sections. MayWantMemory (source_of_deck sections) sections.horizon)
 
 -- how the fault comes out of the program
 abbrev pub fault_of_deck : DeckFault → ProgramFault

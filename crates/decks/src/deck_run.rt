@@ -1,8 +1,9 @@
 //! A run from one text.
-ghost use Rattle.std.specs.Prelude.{◌≡◌, IfErr, IfOk, IsOkAnd};
+ghost use Rattle.std.specs.Prelude.{◌≡◌, Err, IfErr, IfOk, IsOkAnd};
 ghost use Rattle.std.specs.Io.KnownBytes.{Appends};
+ghost use Rattle.runs.specs.declared.fault.SimFault.TheVariants.{Memory};
 ghost use Rattle.decks.specs.declared.deck_run.DeckFault.TheVariants.{Sim};
-ghost use Rattle.decks.specs.DeckRun.{DeckEndsBy, deck_of_text, dump_of_deck, fault_of_deck, simulated_deck};
+ghost use Rattle.decks.specs.DeckRun.{DeckEndsBy, DeckMayWantMemory, deck_of_text, dump_of_deck, fault_of_deck, simulated_deck};
 
 use deck_text::{DeckTextFault, read_sections};
 use orders::ProgramFault;
@@ -62,12 +63,14 @@ impl From<DeckFault> for ProgramFault<'_> {
 ///
 /// # Errors
 /// A refusal of the deck or of a section comes before the first byte is written. After a failed
-/// write or a want of memory a first part of the dump went out, which may be nothing.
+/// write or a want of memory a first part of the dump went out, which may be nothing. The deck's rules
+/// and its horizon are looked at before any memory is taken.
 pub fn deck<W: Write>(alloc: Global, text: &[u8], out: &mut W) -> Result<Report, DeckFault>
     ensures ok { IfOk result (λ report. IsOkAnd (simulated_deck text.now) (λ answer.
         Appends (W.contents out.old) (W.contents out.new) answer.0 × (report ≡ answer.1))) }
     ensures err { IfErr result (DeckEndsBy (dump_of_deck text.now)
         (W.contents out.old) (W.contents out.new)) }
+    ensures memory { result ≡ Err (Sim Memory) → DeckMayWantMemory text.now }
 {
     let sections = read_sections(text)?;
     let source = Source {

@@ -1,9 +1,9 @@
-use Rattle.std.proofs.Common.{sym}
+use Rattle.std.proofs.Common.{Err, refl, sym, ap, ◌∙◌}
 use Rattle.std.proofs.lemmas.Result.{err_from_is_err_and}
 use Rattle.decks.specs.DeckRun.{source_of_deck, view_of_deck}
 use Rattle.deck_text.specs.Seen.{seen_sections}
 use Rattle.runs.specs.Simulated.{simulated}
-use Rattle.decks.proofs.Decks.{simulated_deck-sections, DeckEndsBy-Sim, DeckEndsBy-bad_text, IsOkAnd-Sim}
+use Rattle.decks.proofs.Decks.{DeckMayWantMemory-sections, deck_of_text-Memory, Sim-Memory, simulated_deck-sections, DeckEndsBy-Sim, DeckEndsBy-bad_text, IsOkAnd-Sim}
 use Rattle.decks.proofs.deck_run.deck.Goals as goal
 
 pub returns-in_err-sections-clause-err : goal.returns-in_err-sections-clause-err
@@ -22,3 +22,15 @@ returns-clause-ok g c =
     let found = seen_sections c.in_ok-sections.sections in
     rw (simulated_deck-sections c.args.text.now found (sym c.in_ok-sections.ensures))
     (IsOkAnd-Sim (simulated (source_of_deck found) (view_of_deck found)) _ c.in_ok-simulate.ensures.ok)
+
+pub returns-in_err-sections-clause-memory : goal.returns-in_err-sections-clause-memory
+returns-in_err-sections-clause-memory g c =
+    let p = err_from_is_err_and c.from_residual.result c.from_residual.ensures.1 in
+    deck_of_text-Memory _ _ (p.1 ∙ ap Err p.2)
+
+pub returns-in_err-simulate-clause-memory : goal.returns-in_err-simulate-clause-memory
+returns-in_err-simulate-clause-memory g c = λ wanting.
+    let p = err_from_is_err_and c.from_residual-in_err-simulate.result c.from_residual-in_err-simulate.ensures.1 in
+    let found = seen_sections c.in_ok-sections.sections in
+    DeckMayWantMemory-sections c.args.text.now found (sym c.in_ok-sections.ensures)
+    (c.in_err-simulate.ensures.memory (Sim-Memory _ _ _ (p.1 ∙ ap Err p.2) refl wanting))
