@@ -19,7 +19,7 @@ use Rattle.runs.specs.Ends.{WritesPart, RunEndsBy}
 use Rattle.runs.specs.Source.{MayWantMemory, design_of_source, or_fault, dump_of_design}
 use Rattle.deck_text.specs.Seen.{held, on_sections}
 use Rattle.runs.specs.Simulated.{dump_in, run_of_source, simulated}
-use Rattle.orders.proofs.CallerLemmas.{cut, limited-cut}
+use Rattle.program_io.proofs.CallerLemmas.{cut, limited-cut}
 
 -- a horizon past a `u64` is refused as the largest `u64` is
 horizon_of-held : (horizon : ℕ) → horizon_of (min (2 ^ 64 - 1) horizon) ≡ horizon_of horizon

@@ -16,9 +16,9 @@ use Rattle.runs.specs.Ends.{WritesPart}
 use Rattle.runs.specs.Events.{text}
 use Rattle.runs.specs.Simulated.{dump_in, simulated}
 use Rattle.runs.specs.Source.{SourceView, or_fault, MayWantMemory}
-use Rattle.orders.specs.declared.program_fault.ProgramFault.{ProgramFault}
-use Rattle.orders.specs.declared.program_fault.ProgramFault.TheVariants.{Deck}
-use Rattle.orders.specs.ProgramFaults.{fault_of_run}
+use Rattle.program_io.specs.declared.program_fault.ProgramFault.{ProgramFault}
+use Rattle.program_io.specs.declared.program_fault.ProgramFault.TheVariants.{Deck}
+use Rattle.program_io.specs.ProgramFaults.{fault_of_run}
 use Rattle.decks.specs.declared.deck_run.DeckFault.{DeckFault}
 use Rattle.decks.specs.declared.deck_run.DeckFault.TheVariants.{TooLong, BadDeck, Sim}
 

@@ -2,12 +2,12 @@
 use Rattle.std.specs.Prelude.{◌≡◌, ◌⊎◌, ℕ, List, Option, Result, IfSome, IsOkAnd, codes}
 use denote.Ref.{Bor}
 use Rattle.std.specs.Io.KnownBytes.{Appends, Keeps}
-use Rattle.orders.specs.declared.input.ReadFault.{ReadFault}
-use Rattle.orders.specs.declared.program_fault.ProgramFault.{ProgramFault}
-use Rattle.orders.specs.declared.program_fault.ProgramFault.TheVariants.{Flush}
-use Rattle.orders.specs.Place.{section_names}
-use Rattle.orders.specs.ProgramFaults.{fault_of_read}
-use Rattle.orders.specs.Report.{Reports}
+use Rattle.program_io.specs.declared.input.ReadFault.{ReadFault}
+use Rattle.program_io.specs.declared.program_fault.ProgramFault.{ProgramFault}
+use Rattle.program_io.specs.declared.program_fault.ProgramFault.TheVariants.{Flush}
+use Rattle.program_io.specs.Place.{section_names}
+use Rattle.program_io.specs.ProgramFaults.{fault_of_read}
+use Rattle.program_io.specs.Report.{Reports}
 use Rattle.decks.specs.declared.deck_run.DeckFault.{DeckFault}
 use Rattle.decks.specs.DeckRun.{DeckEndsBy, dump_of_deck, fault_of_deck}
 

@@ -6,7 +6,7 @@ ghost use Rattle.decks.specs.declared.deck_run.DeckFault.TheVariants.{Sim};
 ghost use Rattle.decks.specs.DeckRun.{DeckEndsBy, DeckMayWantMemory, deck_of_text, dump_of_deck, fault_of_deck, simulated_deck};
 
 use deck_text::{DeckTextFault, read_sections};
-use orders::ProgramFault;
+use program_io::ProgramFault;
 use runs::{Picks, Report, Show, SimFault, Source, View, simulate};
 use std::alloc::Global;
 use std::io::Write;

@@ -3,8 +3,8 @@ ghost use Rattle.decks.specs.DeckRun.{dump_of_deck};
 ghost use Rattle.decks.specs.Tell.{DeckTold, IsUnreadDeck, TellEnds};
 
 use crate::deck_run::deck;
-use orders::status::DONE;
-use orders::{ProgramFault, ReadFault, SECTIONS, flush, read_text, report};
+use program_io::status::DONE;
+use program_io::{ProgramFault, ReadFault, SECTIONS, flush, read_text, report};
 use std::alloc::Global;
 use std::io::{Read, Write};
 

@@ -7,15 +7,16 @@ use Rattle.vcd_dump.specs.Bytes.{AppendsPrefix}
 use Rattle.vcd_dump.specs.Dump.{line}
 use Rattle.cmb_kernel.specs.declared.counts.Counts.{Counts}
 use Rattle.orders.specs.declared.order.Order.{Order}
-use Rattle.orders.specs.declared.program_fault.ProgramFault.{ProgramFault}
-use Rattle.orders.specs.declared.program_fault.ProgramFault.TheVariants as program
-use Rattle.orders.specs.Ends.{ForAnswer, WriteEndsBy}
+use Rattle.program_io.specs.declared.program_fault.ProgramFault.{ProgramFault}
+use Rattle.program_io.specs.declared.program_fault.ProgramFault.TheVariants as program
+use Rattle.program_io.specs.Ends.{ForAnswer, WriteEndsBy}
 use Rattle.orders.specs.Options.{KnownTexts}
 use Rattle.orders.specs.OrderAnswer.{IsAnswer, OrderEndsBy}
-use Rattle.orders.specs.Place.{names_of, section_names}
-use Rattle.orders.specs.ProgramFaults.{side_of}
+use Rattle.orders.specs.FileNames.{names_of}
+use Rattle.program_io.specs.Place.{section_names}
+use Rattle.program_io.specs.ProgramFaults.{side_of}
 use Rattle.orders.specs.Readings.{KnownReadings, ReadsAll, ReadsUntil, files_of}
-use Rattle.orders.specs.Report.{Reports}
+use Rattle.program_io.specs.Report.{Reports}
 use Rattle.command_line.specs.declared.words.NoOrder.{NoOrder}
 use Rattle.command_line.specs.declared.words.NoOrder.TheVariants.{Help, Usage, Memory}
 

@@ -8,7 +8,8 @@ pub use command_line::NoOrder;
 pub use commander::{answer_order, command, write_counts_line};
 pub use deck_text::{DeckTextFault, Sections, read_sections};
 pub use decks::{DeckFault, answer_deck, deck, tell};
-pub use orders::{Order, PickOptions, ProgramFault, ReadFault, SourceOptions, Texts, read_text};
+pub use orders::{Order, PickOptions, SourceOptions, Texts};
+pub use program_io::{ProgramFault, ReadFault, read_text};
 pub use runs::{
     CheckAnswer, Picks, Report, Show, Side, SimFault, Source, TwinAnswer, TwinFault, View, check,
     cone_text, plain, simulate, twin,

@@ -2,7 +2,7 @@
 use Rattle.std.specs.Prelude.{ℕ, List, map, option_map, Option}
 use Rattle.std.specs.declared.vec.Vec.{Vec}
 use Rattle.std.specs.declared.alloc.Global.{Global}
-use Rattle.orders.specs.declared.input.ReadFault.{ReadFault}
+use Rattle.program_io.specs.declared.input.ReadFault.{ReadFault}
 use Rattle.orders.specs.Readings.{KnownReadings, Reading}
 
 -- a name, and why its text could not be read, if it couldn't

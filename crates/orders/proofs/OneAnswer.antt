@@ -19,11 +19,12 @@ use Rattle.orders.specs.declared.order.Order.TheVariants.{Run, Plain, Cone, Twin
 use Rattle.orders.specs.declared.order.SourceOptions.{SourceOptions}
 use Rattle.runs.specs.declared.twin_run.TwinAnswer.{TwinAnswer}
 use Rattle.runs.specs.declared.twin_run.TwinFault.{TwinFault}
-use Rattle.orders.specs.AnswerText.{twin_text}
-use Rattle.orders.specs.OrderAnswer.{Answer, ForSource, IsAnswer, IsTwinAnswer, answered, just}
+use Rattle.program_io.specs.AnswerText.{twin_text}
+use Rattle.program_io.specs.Answers.{Answer, IsTwinAnswer, answered, just}
+use Rattle.orders.specs.OrderAnswer.{ForSource, IsAnswer}
 use Rattle.runs.specs.ConeText.{IsConeAnswer, IsConeOfNetlist, IsExtractText}
 use Rattle.runs.specs.Faults.{sim_of_bench}
-use Rattle.orders.specs.declared.program_fault.ProgramFault.{ProgramFault}
+use Rattle.program_io.specs.declared.program_fault.ProgramFault.{ProgramFault}
 use Rattle.orders.specs.Options.{IsSourceOf, KnownTexts, all_known, picks_of_options, schedule_file, text_named}
 use Rattle.runs.specs.Source.{SourceView, or_fault}
 use Rattle.runs.specs.Twins.{IsComparison, Twins, twins_of}

@@ -1,28 +1,24 @@
 -- The answer to an order, from the texts that were read.
-use Rattle.std.proofs.Common.{◌≡◌, ℕ, Bool, List, Option, Some, None, Result, Err, IfSome, IsOkAnd, Ok, Bor, Vec, unwrap_or, refl, ap, subst, ◌∙◌}
+use Rattle.std.proofs.Common.{◌≡◌, ℕ, Bool, List, Option, Some, None, Result, IfSome, Bor, Vec, unwrap_or, refl, ap, subst, ◌∙◌}
 use Rattle.std.specs.declared.alloc.Global.{Global}
 use Rattle.netlist.specs.Names.{seen_names}
-use Rattle.runs.specs.declared.check_run.CheckAnswer.{CheckAnswer}
 use Rattle.runs.specs.declared.fault.SimFault.{SimFault}
-use Rattle.runs.specs.declared.twin_run.TwinAnswer.{TwinAnswer}
-use Rattle.runs.specs.declared.twin_run.TwinFault.{TwinFault}
 use Rattle.runs.specs.declared.view.View.{View}
 use Rattle.runs.specs.Checked.{checked}
 use Rattle.runs.specs.ConeText.{IsConeAnswer}
-use Rattle.runs.specs.Simulated.{RunView, run_of_source, simulated}
-use Rattle.runs.specs.Source.{SourceView, dump_of_source}
-use Rattle.runs.specs.Twins.{IsComparison, Twins, twins_of}
-use Rattle.orders.specs.declared.order.Order.{Order}
+use Rattle.runs.specs.Source.{SourceView}
+use Rattle.runs.specs.Twins.{twins_of}
 use Rattle.orders.specs.declared.order.Order.TheVariants as orders
 use Rattle.orders.specs.declared.order.PickOptions.{PickOptions}
 use Rattle.orders.specs.declared.order.PickOptions.TheVariants.{Nothing, File, Seeded}
 use Rattle.orders.specs.declared.order.SourceOptions.{SourceOptions}
-use Rattle.orders.specs.declared.program_fault.ProgramFault.{ProgramFault}
+use Rattle.program_io.specs.declared.program_fault.ProgramFault.{ProgramFault}
 use Rattle.orders.specs.declared.source_texts.SourceTexts.{SourceTexts}
-use Rattle.orders.specs.AnswerText.{check_text, twin_text}
+use Rattle.program_io.specs.AnswerText.{check_text}
 use Rattle.orders.specs.Options.{IsRead, IsSourceOf, KnownTexts, ReadsSource, picks_of_options, schedule_file, source_from, text_named}
-use Rattle.orders.specs.OrderAnswer.{Answer, ForSource, IsAnswer, IsTwinAnswer, answered, just, with_counts}
-use Rattle.orders.proofs.Cut.{cut, cut_picks, cut_source, dump_of_source-cut, netlist_of-cut, run_of_source-cut, simulated-cut, twins_of-cut}
+use Rattle.program_io.specs.Answers.{Answer, IsAnswerOfCone, IsAnswerOfTwin, IsTwinAnswer, answered, check_answer, just, plain_answer, run_answer, with_counts}
+use Rattle.orders.specs.OrderAnswer.{ForSource, IsAnswer}
+use Rattle.program_io.proofs.CallerLemmas.{cut, cut_picks, cut_source, dump_of_source-cut, netlist_of-cut, run_of_source-cut, simulated-cut, twins_of-cut}
 
 pub unwrap_or-known : (known : Option (List ℕ)) (other : List ℕ) → IfSome known (λ all. unwrap_or known other ≡ all)
 unwrap_or-known None other = tt
@@ -81,19 +77,19 @@ module _ (known : KnownTexts) (options : SourceOptions) (texts : SourceTexts) (s
       let source = source_with known options texts in
       (source, IsSourceOf-source_with known options texts, holds source (is ∙ source_from-read known options texts read))
 
-  pub IsAnswer-plain : (view : View) → IsAnswer known (orders.Plain options view) (answered just (dump_of_source seen view))
-  IsAnswer-plain view =
-      ForSource-read _ (λ source is_cut. ap (λ s. answered just (dump_of_source s view)) is_cut ∙ ap (answered just) (dump_of_source-cut source view))
+  pub IsAnswer-plain : (view : View) (answer : Result Answer ProgramFault) → answer ≡ plain_answer seen view → IsAnswer known (orders.Plain options view) answer
+  IsAnswer-plain view answer same =
+      ForSource-read _ (λ source is_cut. same ∙ ap (λ s. plain_answer s view) is_cut ∙ ap (answered just) (dump_of_source-cut source view))
 
-  pub IsAnswer-run : (view : View) (counts : Bool) → IsAnswer known (orders.Run options view counts) (answered (with_counts counts) (simulated seen view))
-  IsAnswer-run view counts =
-      ForSource-read _ (λ source is_cut. ap (λ s. answered (with_counts counts) (simulated s view)) is_cut ∙ ap (answered (with_counts counts)) (simulated-cut source view))
+  pub IsAnswer-run : (view : View) (counts : Bool) (answer : Result Answer ProgramFault) → answer ≡ run_answer seen view counts →
+      IsAnswer known (orders.Run options view counts) answer
+  IsAnswer-run view counts answer same =
+      ForSource-read _ (λ source is_cut. same ∙ ap (λ s. run_answer s view counts) is_cut ∙ ap (answered (with_counts counts)) (simulated-cut source view))
 
-  pub IsAnswer-check : (horizon : ℕ) →
-      IsAnswer known (orders.Check options horizon) (answered (λ run. just (check_text (checked run))) (run_of_source seen horizon))
-  IsAnswer-check horizon =
+  pub IsAnswer-check : (horizon : ℕ) (answer : Result Answer ProgramFault) → answer ≡ check_answer seen horizon → IsAnswer known (orders.Check options horizon) answer
+  IsAnswer-check horizon answer same =
       ForSource-read _
-      (λ source is_cut. ap (λ s. answered (λ run. just (check_text (checked run))) (run_of_source s horizon)) is_cut
+      (λ source is_cut. same ∙ ap (λ s. check_answer s horizon) is_cut
       ∙ ap (answered (λ run. just (check_text (checked run)))) (run_of_source-cut source horizon))
 
 -- so are the two sources of a twin
@@ -101,7 +97,7 @@ module _ (known : KnownTexts) (first second : SourceOptions) (net : Bor (List �
     (read : ReadsSource known first texts) (is : one ≡ source_from first texts)
     (later : KnownTexts) (stays : later ≡ known) (other_texts : SourceTexts) (other : SourceView)
     (other_read : ReadsSource later second other_texts) (other_is : other ≡ source_from second other_texts) where
-  pub IsAnswer-twin : (answer : Result Answer ProgramFault) → IsTwinAnswer (twins_of one other net.now horizon) net.now horizon answer →
+  pub IsAnswer-twin : (answer : Result Answer ProgramFault) → IsAnswerOfTwin one other net.now horizon answer →
       IsAnswer known (orders.Twin first second net horizon) answer
   IsAnswer-twin answer holds =
       let other_known : ReadsSource known second other_texts = subst (λ (k : KnownTexts). ReadsSource k second other_texts) stays other_read in
@@ -120,24 +116,11 @@ IsConeAnswer-cut text names answer is = rw (← netlist_of-cut text) is
 -- the answer to the netlist that was read is that to the order
 pub IsAnswer-cone : (known : KnownTexts) (bench : Bor (List ℕ)) (names : Vec (Bor (List ℕ)) Global) (read bytes : List ℕ) (asked : List (Bor (List ℕ))) →
     IsRead (known bench.now) read → bytes ≡ read → asked ≡ names.items →
-    (found : Result (List ℕ) SimFault) → IsConeAnswer bytes (seen_names asked) found → IsAnswer known (orders.Cone bench names) (answered just found)
-IsAnswer-cone known bench names read bytes asked is_read is_bytes is_asked found is =
+    (answer : Result Answer ProgramFault) → IsAnswerOfCone bytes (seen_names asked) answer → IsAnswer known (orders.Cone bench names) answer
+IsAnswer-cone known bench names read bytes asked is_read is_bytes is_asked answer (found, is, same) =
     let text = unwrap_or (known bench.now) read in
     let of_names : IsConeAnswer bytes (seen_names names.items) found =
     subst (λ (list : List (Bor (List ℕ))). IsConeAnswer bytes (seen_names list) found) is_asked is in
     let of_cut : IsConeAnswer (cut text) (seen_names names.items) found =
     subst (λ (t : List ℕ). IsConeAnswer t (seen_names names.items) found) (is_bytes ∙ is_read) of_names in
-    (text, unwrap_or-known (known bench.now) read, (found, IsConeAnswer-cut text (seen_names names.items) found of_cut, refl))
-
--- the lines of a comparison are the answer of the twin
-pub IsTwinAnswer-done : (twins : Result Twins TwinFault) (name : List ℕ) (horizon : ℕ) (comparison : TwinAnswer) →
-    IsOkAnd twins (λ both. IsComparison both name horizon comparison) → IsTwinAnswer twins name horizon (Ok (just (twin_text comparison)))
-IsTwinAnswer-done (Ok both) name horizon comparison is = (comparison, is, refl)
-IsTwinAnswer-done (Err fault) name horizon comparison is = absurd is
-
--- so are those of a comparison of the two engines
-module _ (known : KnownTexts) (order : Order) where
-  pub IsAnswer-checked : (result : Result RunView SimFault) → IsAnswer known order (answered (λ run. just (check_text (checked run))) result) →
-      (answer : CheckAnswer) → IsOkAnd result (λ run. answer ≡ checked run) → IsAnswer known order (Ok (just (check_text answer)))
-  IsAnswer-checked (Ok run) is answer same = rw same is
-  IsAnswer-checked (Err fault) is answer same = absurd same
+    (text, unwrap_or-known (known bench.now) read, (found, IsConeAnswer-cut text (seen_names names.items) found of_cut, same))

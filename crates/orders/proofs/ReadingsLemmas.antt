@@ -1,14 +1,11 @@
 -- Readings that come one behind the other.
-use Rattle.std.proofs.Common.{◌≡◌, ℕ, List, [], ◌∷◌, ◌++◌, map, Option, None, Some, refl, ap, sym, subst, ◌∙◌, inl, inr, append_assoc}
+use Rattle.std.proofs.Common.{◌≡◌, ℕ, List, [], ◌∷◌, ◌++◌, map, None, Some, refl, ap, sym, subst, ◌∙◌, inl, inr, append_assoc}
 use Rattle.std.proofs.lemmas.List.{append-nil, map-append}
-use Rattle.runs.specs.declared.fault.SimFault.{SimFault}
-use Rattle.runs.specs.declared.fault.SimFault.TheVariants.{Dump, Memory}
-use Rattle.runs.specs.declared.twin_run.Side.{Side}
-use Rattle.orders.specs.declared.input.ReadFault.{ReadFault}
-use Rattle.orders.specs.declared.input.ReadFault.TheVariants as read
-use Rattle.orders.specs.declared.program_fault.ProgramFault.{ProgramFault}
-use Rattle.orders.specs.Ends.{WriteEndsBy}
-use Rattle.orders.specs.ProgramFaults.{fault_of_run}
+use Rattle.program_io.specs.declared.input.ReadFault.{ReadFault}
+use Rattle.program_io.specs.declared.input.ReadFault.TheVariants as read
+use Rattle.program_io.specs.declared.program_fault.ProgramFault.{ProgramFault}
+use Rattle.program_io.specs.declared.program_fault.ProgramFault.TheVariants.{Memory, Read}
+use Rattle.program_io.specs.Answers.{IsNoRead}
 use Rattle.orders.specs.Readings.{AddsReadings, KnownReadings, Reading, ReadsAll, ReadsUntil, StopsAt, StopsBy, well_read, with_more}
 
 with_more-twice : (known : KnownReadings) (first second : List Reading) → with_more (with_more known first) second ≡ with_more known (first ++ second)
@@ -65,15 +62,9 @@ pub ReadsUntil-stopped : (files : List (List ℕ)) (old new : KnownReadings) (fa
 ReadsUntil-stopped files old new fault (name, (read.Read, is, at)) = rw is at
 ReadsUntil-stopped files old new fault (name, (read.Memory, is, at)) = rw is (inr (name.now, at))
 
--- all were read, and then a run ended by a fault
-pub ReadsUntil-run : (files : List (List ℕ)) (old new : KnownReadings) (side : Side) (fault : SimFault) → ReadsAll files old new →
-    ReadsUntil files old new (fault_of_run side fault)
-ReadsUntil-run files old new side (Dump fault) all = all
-ReadsUntil-run files old new side Memory all = inl all
-ReadsUntil-run files old new side fault all = all
-
--- or its text could not be written
-pub ReadsUntil-write : (files : List (List ℕ)) (old new : KnownReadings) (out written : Option (List ℕ)) (text : List ℕ) (fault : ProgramFault) →
-    ReadsAll files old new → WriteEndsBy out written text fault → ReadsUntil files old new fault
-ReadsUntil-write files old new out written text fault all (inl (failed, is, part)) = rw is all
-ReadsUntil-write files old new out written text fault all (inr (is, done)) = rw is all
+-- all were read, and what came behind was no failed read
+pub ReadsUntil-behind : (files : List (List ℕ)) (old new : KnownReadings) → ReadsAll files old new → (fault : ProgramFault) → IsNoRead fault →
+    ReadsUntil files old new fault
+ReadsUntil-behind files old new all (Read name) no_read = absurd no_read
+ReadsUntil-behind files old new all Memory no_read = inl all
+ReadsUntil-behind files old new all fault no_read = all

@@ -1,10 +1,4 @@
-pub mod AnswerText
-pub mod Ends
+pub mod FileNames
 pub mod Options
 pub mod OrderAnswer
-pub mod Place
-pub mod ProgramFaults
-pub mod Reading
 pub mod Readings
-pub mod Report
-pub mod Status

@@ -1,15 +1,15 @@
 -- Which texts were asked for, in order, and how each was read.
 use Rattle.std.specs.Prelude.{◌≡◌, ◌⊎◌, ℕ, List, [], ◌∷◌, ◌++◌, map, option_map, Option, None, Some, IfSome, Result, Ok, Err}
 use denote.Ref.{Bor}
-use Rattle.orders.specs.declared.input.ReadFault.{ReadFault}
-use Rattle.orders.specs.declared.input.ReadFault.TheVariants as read
+use Rattle.program_io.specs.declared.input.ReadFault.{ReadFault}
+use Rattle.program_io.specs.declared.input.ReadFault.TheVariants as read
 use Rattle.orders.specs.declared.order.Order.{Order}
 use Rattle.orders.specs.declared.order.Order.TheVariants.{Run, Plain, Cone, Twin, Check}
 use Rattle.orders.specs.declared.order.SourceOptions.{SourceOptions}
-use Rattle.orders.specs.declared.program_fault.ProgramFault.{ProgramFault}
-use Rattle.orders.specs.declared.program_fault.ProgramFault.TheVariants.{Read, Memory}
+use Rattle.program_io.specs.declared.program_fault.ProgramFault.{ProgramFault}
+use Rattle.program_io.specs.declared.program_fault.ProgramFault.TheVariants.{Read, Memory}
 use Rattle.orders.specs.Options.{schedule_file}
-use Rattle.orders.specs.ProgramFaults.{fault_of_read}
+use Rattle.program_io.specs.ProgramFaults.{fault_of_read}
 
 -- a text that was asked for, and why it could not be read, if it couldn't
 pub record Reading : Type 0 where

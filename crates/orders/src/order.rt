@@ -1,9 +1,10 @@
 //! What the words of the command line ask for.
 ghost use Rattle.std.specs.Prelude.{◌≡◌};
 ghost use Rattle.orders.specs.Options.{schedule_file};
-ghost use Rattle.orders.specs.Place.{called, file_names, names_of};
+ghost use Rattle.program_io.specs.Place.{called};
+ghost use Rattle.orders.specs.FileNames.{file_names, names_of};
 
-use crate::place::TextNames;
+use program_io::TextNames;
 use runs::{Side, View};
 
 /// The files of a run, by their names, and the numbers that go with them.

@@ -4,14 +4,12 @@ ghost use Rattle.orders.specs.declared.order.Order.TheVariants as order;
 ghost use Rattle.orders.specs.OrderAnswer.{Answered, OrderEndsBy};
 ghost use Rattle.orders.specs.Readings.{ReadsAll, ReadsUntil, files_of};
 
-use crate::answer_text::{check_text, twin_text};
 use crate::order::{Order, SourceOptions};
-use crate::output::{flush, write_text};
-use crate::program_fault::ProgramFault;
 use crate::source_texts::{SourceTexts, file_text};
 use crate::texts::Texts;
 use cmb_kernel::Counts;
-use runs::{View, check, cone_text, plain, simulate, twin};
+use program_io::{ProgramFault, write_check, write_cone, write_plain, write_run, write_twin};
+use runs::View;
 use std::alloc::Global;
 use std::io::Write;
 
@@ -78,9 +76,7 @@ fn carry_out_run<'a, T: Texts, W: Write>(
         (ReadsUntil (files_of (order.Run options.now view.now counts)) (T.readings texts.old) (T.readings texts.new)) }
 {
     let read = SourceTexts::read(alloc, options, texts)?;
-    let report = simulate(alloc, &read.source(options), view, out)?;
-    flush(out)?;
-    Ok(counts.then_some(report.total))
+    write_run(alloc, &read.source(options), view, counts, out)
 }
 
 fn carry_out_plain<'a, T: Texts, W: Write>(
@@ -100,9 +96,7 @@ fn carry_out_plain<'a, T: Texts, W: Write>(
         (ReadsUntil (files_of (order.Plain options.now view.now)) (T.readings texts.old) (T.readings texts.new)) }
 {
     let read = SourceTexts::read(alloc, options, texts)?;
-    plain(alloc, &read.source(options), view, out)?;
-    flush(out)?;
-    Ok(None)
+    write_plain(alloc, &read.source(options), view, out)
 }
 
 fn carry_out_cone<'a, T: Texts, W: Write>(
@@ -122,9 +116,7 @@ fn carry_out_cone<'a, T: Texts, W: Write>(
         (ReadsUntil (files_of (order.Cone bench.entry names.now)) (T.readings texts.old) (T.readings texts.new)) }
 {
     let read = file_text(alloc, texts, Some(bench))?;
-    let text = cone_text(alloc, read.as_slice(), names.as_slice())?;
-    write_text(out, text.as_slice())?;
-    Ok(None)
+    write_cone(alloc, read.as_slice(), names.as_slice(), out)
 }
 
 fn carry_out_twin<'a, T: Texts, W: Write>(
@@ -147,16 +139,14 @@ fn carry_out_twin<'a, T: Texts, W: Write>(
 {
     let one = SourceTexts::read(alloc, first, texts)?;
     let other = SourceTexts::read(alloc, second, texts)?;
-    let answer = twin(
+    write_twin(
         alloc,
         &one.source(first),
         &other.source(second),
         net,
         horizon,
-    )?;
-    let text = twin_text(alloc, &answer)?;
-    write_text(out, text.as_str().as_bytes())?;
-    Ok(None)
+        out,
+    )
 }
 
 fn carry_out_check<'a, T: Texts, W: Write>(
@@ -176,8 +166,5 @@ fn carry_out_check<'a, T: Texts, W: Write>(
         (ReadsUntil (files_of (order.Check options.now horizon)) (T.readings texts.old) (T.readings texts.new)) }
 {
     let read = SourceTexts::read(alloc, options, texts)?;
-    let answer = check(alloc, &read.source(options), horizon)?;
-    let text = check_text(alloc, &answer)?;
-    write_text(out, text.as_str().as_bytes())?;
-    Ok(None)
+    write_check(alloc, &read.source(options), horizon, out)
 }

@@ -6,8 +6,8 @@ ghost use Rattle.orders.specs.Readings.{ReadsAll, StopsBy, files_of_options, if_
 ghost use Rattle.runs.specs.Source.{seen_source};
 
 use crate::order::{PickOptions, SourceOptions};
-use crate::program_fault::ProgramFault;
 use crate::texts::Texts;
+use program_io::ProgramFault;
 use runs::{Picks, Source};
 use std::alloc::Global;
 

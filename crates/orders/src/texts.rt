@@ -3,7 +3,7 @@ ghost use Rattle.std.specs.Prelude.{◌≡◌, ◌+◌, ◌≤◌, ℕ, List, []
 ghost use Rattle.text_lines.specs.Text.{longest_text};
 ghost use Rattle.orders.specs.Readings.{AddsReadings, KnownReadings, reading_of};
 
-use crate::input::ReadFault;
+use program_io::ReadFault;
 
 /// The texts that a command line names, as files are.
 pub trait Texts {

@@ -1,5 +1,5 @@
 use Rattle.std.proofs.Common.{inr}
-use Rattle.orders.proofs.CallerLemmas.{AppendsPrefix-either}
+use Rattle.program_io.proofs.CallerLemmas.{AppendsPrefix-either}
 use Rattle.nullsim.proofs.CountsLine.{OrderTold-counts}
 use Rattle.nullsim.proofs.commander.answer_order.Goals as goal
 

@@ -1,6 +1,0 @@
-use Rattle.orders.proofs.Pieces.{AppendsPrefix-either}
-use Rattle.orders.proofs.fault_line.report.Goals as goal
-
-pub returns : goal.returns
-returns g c =
-    (c.status.ensures, AppendsPrefix-either c.write_fault_line.result _ _ _ c.write_fault_line.ensures.ok c.write_fault_line.ensures.err)

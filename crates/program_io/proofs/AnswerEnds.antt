@@ -1,0 +1,155 @@
+-- How the answer to texts ends, from how their runs do.
+use Rattle.std.proofs.Common.{◌≡◌, ◌≢◌, ℕ, Bool, List, Option, None, Result, Ok, Err, IsOkAnd, inl, inr, refl, ap, subst}
+use Rattle.std.specs.Bool.{then_some}
+use Rattle.std.specs.Io.KnownBytes.{Appends, Keeps}
+use Rattle.std.specs.Result.{result_map_both}
+use Rattle.std.proofs.KnownBytes.{Appends-kept, Keeps-refl}
+use Rattle.cmb_kernel.specs.declared.counts.Counts.{Counts}
+use Rattle.runs.specs.declared.fault.SimFault.{SimFault}
+use Rattle.runs.specs.declared.fault.SimFault.TheVariants.{Dump, Memory}
+use Rattle.runs.specs.declared.simulation.Report.{Report}
+use Rattle.runs.specs.declared.twin_run.Side.{Side}
+use Rattle.runs.specs.declared.twin_run.Side.TheVariants.{First}
+use Rattle.runs.specs.declared.twin_run.TwinFault.{TwinFault}
+use Rattle.runs.specs.Ends.{IsRefusal, RunEndsBy}
+use Rattle.runs.specs.declared.check_run.CheckAnswer.{CheckAnswer}
+use Rattle.runs.specs.declared.twin_run.TwinAnswer.{TwinAnswer}
+use Rattle.runs.specs.Checked.{checked}
+use Rattle.runs.specs.Simulated.{RunView}
+use Rattle.runs.specs.Twins.{IsComparison, IsTwinRefusal, Twins, on}
+use Rattle.program_io.specs.AnswerText.{check_text, twin_text}
+use Rattle.vcd_dump.specs.declared.fault.DumpFault.{DumpFault}
+use Rattle.program_io.specs.declared.program_fault.ProgramFault.{ProgramFault}
+use Rattle.program_io.specs.declared.program_fault.ProgramFault.TheVariants.{Flush, Output, Read}
+use Rattle.program_io.specs.declared.program_fault.ProgramFault.TheVariants as program
+use Rattle.program_io.specs.Ends.{WriteEndsBy}
+use Rattle.program_io.specs.Answers.{Answer, AnswerEndsBy, GoesOut, IsNoRead, IsTwinAnswer, answered, just, with_counts}
+use Rattle.program_io.specs.ProgramFaults.{fault_of_run, fault_of_twin}
+
+module _ (P : Result Answer ProgramFault → Type 0) where
+  -- ---- before a byte is written
+
+  -- a fault of the only run, which is the answer unless memory was wanting
+  pub AnswerEndsBy-unwritten : (held : Option (List ℕ)) (fault : SimFault) → ((failed : DumpFault) → fault ≢ Dump failed) →
+      (fault ≢ Memory → P (Err (fault_of_run First fault))) → AnswerEndsBy P held held (fault_of_run First fault)
+  AnswerEndsBy-unwritten held (Dump failed) unwritten refused = absurd (unwritten failed refl)
+  AnswerEndsBy-unwritten held Memory unwritten refused = inl (Keeps-refl held)
+  AnswerEndsBy-unwritten held _ unwritten refused = (refused (λ e. (cc)), Keeps-refl held)
+
+  -- a fault of one of two runs
+  pub AnswerEndsBy-twin : (held : Option (List ℕ)) (twins : Result Twins TwinFault) (name : List ℕ) (horizon : ℕ) (fault : TwinFault) →
+      ((answer : Result Answer ProgramFault) → IsTwinAnswer twins name horizon answer → P answer) → IsTwinRefusal twins fault →
+      AnswerEndsBy P held held (fault_of_twin fault)
+  AnswerEndsBy-twin held twins name horizon fault is refusal = go fault.side fault.fault refusal
+    where
+      stands : (other : TwinFault) → twins ≡ Err other → IsTwinAnswer twins name horizon (Err (fault_of_twin other))
+      stands other refused = rw refused refl
+
+      go : (at : Side) (fault : SimFault) → IsTwinRefusal twins (on at fault) → AnswerEndsBy P held held (fault_of_run at fault)
+      go at (Dump failed) refusal = absurd refusal
+      go at Memory refusal = inl (Keeps-refl held)
+      go at fault refusal = (is _ (stands (on at fault) refusal), Keeps-refl held)
+
+  -- ---- the only run
+
+  module _ {A : Type 0} (answer_of : A → Answer) where
+    abbrev text_in : Result A SimFault → Result (List ℕ) SimFault
+    text_in result = result_map_both (λ value. (answer_of value).text) (λ fault. fault) result
+
+    -- is refused before a byte is written
+    pub AnswerEndsBy-refused : (result : Result A SimFault) → P (answered answer_of result) → (held : Option (List ℕ)) (fault : SimFault) →
+        IsRefusal result fault → AnswerEndsBy P held held (fault_of_run First fault)
+    AnswerEndsBy-refused result is held (Dump failed) refused = absurd refused
+    AnswerEndsBy-refused result is held Memory refused = inl (Keeps-refl held)
+    AnswerEndsBy-refused result is held _ refused = (subst (λ (r : Result A SimFault). P (answered answer_of r)) refused is, Keeps-refl held)
+
+    answered-refused : (result : Result A SimFault) (fault : SimFault) → text_in result ≡ Err fault → answered answer_of result ≡ Err (fault_of_run First fault)
+    answered-refused (Ok value) fault refused = cc
+    answered-refused (Err other) fault refused = ap (answered just) refused
+
+    -- ends by a fault of it
+    pub AnswerEndsBy-run : (result : Result A SimFault) → P (answered answer_of result) → (old new : Option (List ℕ)) (fault : SimFault) →
+        RunEndsBy (text_in result) old new fault → AnswerEndsBy P old new (fault_of_run First fault)
+    AnswerEndsBy-run (Ok value) is old new (Dump failed) part = (answer_of value, is, part)
+    AnswerEndsBy-run (Err fault) is old new (Dump failed) part = absurd part
+    AnswerEndsBy-run (Ok value) is old new Memory part = inr (answer_of value, is, part)
+    AnswerEndsBy-run (Err fault) is old new Memory kept = inl kept
+    AnswerEndsBy-run result is old new fault ends = (subst (P) (answered-refused result fault ends.0) is, ends.1)
+
+  -- the same where the run's answer is a text alone
+  pub AnswerEndsBy-dump : (result : Result (List ℕ) SimFault) → P (answered just result) → (old new : Option (List ℕ)) (fault : SimFault) →
+      RunEndsBy result old new fault → AnswerEndsBy P old new (fault_of_run First fault)
+  AnswerEndsBy-dump result is old new fault ends = AnswerEndsBy-run just result is old new fault (rw (text_in-just result) ends)
+    where
+      text_in-just : (result : Result (List ℕ) SimFault) → text_in just result ≡ result
+      text_in-just (Ok text) = refl
+      text_in-just (Err fault) = refl
+
+  -- ---- behind the last write
+
+  -- the dump of a run went out, and its counts are those asked for
+  pub GoesOut-run : (counts : Bool) (result : Result (List ℕ × Report) SimFault) → P (answered (with_counts counts) result) →
+      (old new : Option (List ℕ)) (report : Report) → IsOkAnd result (λ done. Appends old new done.0 × (report ≡ done.1)) →
+      GoesOut P old new (then_some counts report.total)
+  GoesOut-run counts (Ok done) is old new report went = (with_counts counts done, is, (went.0, ap (λ (r : Report). then_some counts r.total) went.1))
+  GoesOut-run counts (Err fault) is old new report went = absurd went
+
+  -- the same where the run's answer is a text alone
+  pub GoesOut-dump : (result : Result (List ℕ) SimFault) → P (answered just result) → (old new : Option (List ℕ)) →
+      IsOkAnd result (Appends old new) → GoesOut P old new None
+  GoesOut-dump (Ok text) is old new went = (just text, is, (went, refl))
+  GoesOut-dump (Err fault) is old new went = absurd went
+
+  -- a text alone is the answer, and it is written
+  module _ (text written : List ℕ) (is : P (Ok (just text))) (same : written ≡ text) (old new : Option (List ℕ)) where
+    pub GoesOut-text : Appends old new written → GoesOut P old new None
+    GoesOut-text done = (just text, is, (rw (← same) done, refl))
+
+    pub AnswerEndsBy-text : (fault : ProgramFault) → WriteEndsBy old new written fault → AnswerEndsBy P old new fault
+    AnswerEndsBy-text fault (inl (failed, is_output, part)) = rw is_output (just text, is, rw (← same) part)
+    AnswerEndsBy-text fault (inr (is_flush, done)) = rw is_flush (just text, is, rw (← same) done)
+
+  -- a flush keeps what was written
+  module _ (old new flushed : Option (List ℕ)) (counts : Option Counts) (done : GoesOut P old new counts) (kept : Keeps new flushed) where
+    pub GoesOut-flushed : GoesOut P old flushed counts
+    GoesOut-flushed = (done.0, done.1, (Appends-kept old new flushed _ done.2.0 kept, done.2.1))
+
+    pub AnswerEndsBy-flush : (fault : ProgramFault) → fault ≡ Flush → AnswerEndsBy P old flushed fault
+    AnswerEndsBy-flush fault is = rw is (done.0, done.1, Appends-kept old new flushed _ done.2.0 kept)
+
+-- ---- none of these faults is a failed read
+
+pub fault_of_run-no_read : (side : Side) (fault : SimFault) → IsNoRead (fault_of_run side fault)
+fault_of_run-no_read side (Dump failed) = tt
+fault_of_run-no_read side Memory = tt
+fault_of_run-no_read side fault = tt
+
+pub WriteEndsBy-no_read : (old new : Option (List ℕ)) (text : List ℕ) (fault : ProgramFault) → WriteEndsBy old new text fault → IsNoRead fault
+WriteEndsBy-no_read old new text fault (inl (failed, is, part)) = rw is tt
+WriteEndsBy-no_read old new text fault (inr (is, done)) = rw is tt
+
+-- ---- an answer of one kind is one of another
+
+module _ (P Q : Result Answer ProgramFault → Type 0) (turns : (answer : Result Answer ProgramFault) → P answer → Q answer) (old new : Option (List ℕ)) where
+  pub GoesOut-weaker : (counts : Option Counts) → GoesOut P old new counts → GoesOut Q old new counts
+  GoesOut-weaker counts (answer, is, went) = (answer, turns (Ok answer) is, went)
+
+  pub AnswerEndsBy-weaker : (fault : ProgramFault) → AnswerEndsBy P old new fault → AnswerEndsBy Q old new fault
+  AnswerEndsBy-weaker (Read name) ends = ends
+  AnswerEndsBy-weaker program.Memory (inl kept) = inl kept
+  AnswerEndsBy-weaker program.Memory (inr (answer, is, part)) = inr (answer, turns (Ok answer) is, part)
+  AnswerEndsBy-weaker (Output failed) (answer, is, part) = (answer, turns (Ok answer) is, part)
+  AnswerEndsBy-weaker Flush (answer, is, done) = (answer, turns (Ok answer) is, done)
+  AnswerEndsBy-weaker fault ends = (turns (Err fault) ends.0, ends.1)
+
+-- the lines of a comparison are the answer of the twin
+pub IsTwinAnswer-done : (twins : Result Twins TwinFault) (name : List ℕ) (horizon : ℕ) (comparison : TwinAnswer) →
+    IsOkAnd twins (λ both. IsComparison both name horizon comparison) → IsTwinAnswer twins name horizon (Ok (just (twin_text comparison)))
+IsTwinAnswer-done (Ok both) name horizon comparison is = (comparison, is, refl)
+IsTwinAnswer-done (Err fault) name horizon comparison is = absurd is
+
+-- so are those of a check that of the check
+pub answered-checked : (result : Result RunView SimFault) (answer : CheckAnswer) → IsOkAnd result (λ run. answer ≡ checked run) →
+    Ok (just (check_text answer)) ≡ answered (λ run. just (check_text (checked run))) result
+answered-checked (Ok run) answer same = ap (λ (a : CheckAnswer). Ok (just (check_text a))) same
+answered-checked (Err fault) answer same = absurd same

@@ -1,0 +1,5 @@
+mod AnswerEnds
+pub mod CallerLemmas
+mod Cut
+mod Pieces
+mod Readers

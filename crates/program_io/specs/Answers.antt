@@ -1,0 +1,81 @@
+-- The answers to texts: what goes out of a run, a cone, a comparison or a check, and how that ends.
+use Rattle.std.specs.Prelude.{◌≡◌, ℕ, Bool, List, Option, None, Result, Ok, Err}
+use Rattle.std.specs.Bool.{then_some}
+use Rattle.std.specs.Result.{result_map_both}
+use Rattle.std.specs.Io.KnownBytes.{Appends}
+use Rattle.cmb_kernel.specs.declared.counts.Counts.{Counts}
+use Rattle.runs.specs.declared.fault.SimFault.{SimFault}
+use Rattle.runs.specs.declared.simulation.Report.{Report}
+use Rattle.runs.specs.declared.twin_run.Side.TheVariants.{First}
+use Rattle.runs.specs.declared.twin_run.TwinAnswer.{TwinAnswer}
+use Rattle.runs.specs.declared.twin_run.TwinFault.{TwinFault}
+use Rattle.runs.specs.declared.view.View.{View}
+use Rattle.runs.specs.Checked.{checked}
+use Rattle.runs.specs.ConeText.{IsConeAnswer}
+use Rattle.runs.specs.Simulated.{run_of_source, simulated}
+use Rattle.runs.specs.Source.{SourceView, dump_of_source}
+use Rattle.runs.specs.Twins.{IsComparison, Twins, twins_of}
+use Rattle.program_io.specs.declared.program_fault.ProgramFault.{ProgramFault}
+use Rattle.program_io.specs.declared.program_fault.ProgramFault.TheVariants.{Read}
+use Rattle.program_io.specs.AnswerText.{check_text, twin_text}
+use Rattle.program_io.specs.Ends.{ForAnswer, ProgramEndsBy}
+use Rattle.program_io.specs.ProgramFaults.{fault_of_run, fault_of_twin}
+
+-- what goes out, and the counts where they are asked for
+pub record Answer : Type 0 where
+  pub text : List ℕ
+  pub counts : Option Counts
+
+-- a text alone
+abbrev pub just : List ℕ → Answer
+just text = record { text = text; counts = None }
+
+-- the dump of a run, and its counts at the end where they are asked for
+abbrev pub with_counts : Bool → List ℕ × Report → Answer
+with_counts counts done = record { text = done.0; counts = then_some counts (done.1).total }
+
+-- the answer of the only run
+abbrev pub answered : {A : Type 0} → (A → Answer) → Result A SimFault → Result Answer ProgramFault
+answered answer_of result = result_map_both answer_of (fault_of_run First) result
+
+-- ---- the answer to texts, or the first fault
+
+-- the dump of a run by the kernel
+abbrev pub run_answer : SourceView → View → Bool → Result Answer ProgramFault
+run_answer source view counts = answered (with_counts counts) (simulated source view)
+
+-- the dump of a run by the plain engine
+abbrev pub plain_answer : SourceView → View → Result Answer ProgramFault
+plain_answer source view = answered just (dump_of_source source view)
+
+-- the lines of a check
+abbrev pub check_answer : SourceView → ℕ → Result Answer ProgramFault
+check_answer source horizon = answered (λ run. just (check_text (checked run))) (run_of_source source horizon)
+
+-- a netlist of the nets in the cones of these names
+abbrev pub IsAnswerOfCone : List ℕ → List (List ℕ) → Result Answer ProgramFault → Type 0
+IsAnswerOfCone bench names answer = (found : Result (List ℕ) SimFault) × IsConeAnswer bench names found × (answer ≡ answered just found)
+
+-- the lines of a comparison, or the fault of one side
+abbrev pub IsTwinAnswer : Result Twins TwinFault → List ℕ → ℕ → Result Answer ProgramFault → Type 0
+IsTwinAnswer (Ok twins) name horizon answer =
+    (comparison : TwinAnswer) × IsComparison twins name horizon comparison × (answer ≡ Ok (just (twin_text comparison)))
+IsTwinAnswer (Err fault) name horizon answer = answer ≡ Err (fault_of_twin fault)
+
+-- that of two runs
+abbrev pub IsAnswerOfTwin : SourceView → SourceView → List ℕ → ℕ → Result Answer ProgramFault → Type 0
+IsAnswerOfTwin first second name horizon = IsTwinAnswer (twins_of first second name horizon) name horizon
+
+-- ---- how it ends
+
+-- just such an answer went out, and its counts are handed on
+abbrev pub GoesOut : (Result Answer ProgramFault → Type 0) → Option (List ℕ) → Option (List ℕ) → Option Counts → Type 0
+GoesOut IsAnswer old new counts = ForAnswer IsAnswer (λ answer. Appends old new answer.text × (counts ≡ answer.counts))
+
+abbrev pub AnswerEndsBy : (Result Answer ProgramFault → Type 0) → Option (List ℕ) → Option (List ℕ) → ProgramFault → Type 0
+AnswerEndsBy IsAnswer = ProgramEndsBy (λ (answer : Answer). answer.text) IsAnswer
+
+-- a fault behind the reading of all texts
+abbrev pub IsNoRead : ProgramFault → Type 0
+IsNoRead (Read name) = ⊥
+IsNoRead fault = Unit {0}

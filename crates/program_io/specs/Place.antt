@@ -1,0 +1,53 @@
+-- Which text is at fault, or what else is, and what is printed of a fault.
+use Rattle.std.specs.Prelude.{ℕ, List, ◌++◌, codes, decimal}
+use Rattle.vcd_dump.specs.Dump.{line}
+use Rattle.runs.specs.declared.fault.SimFault.{SimFault}
+use Rattle.runs.specs.declared.fault.SimFault.TheVariants.{Setting, Bench, Timing, Stimulus, Schedule, UnknownNet, Dump}
+use Rattle.runs.specs.declared.fault.SimFault.TheVariants as sim
+use Rattle.program_io.specs.declared.place.TextNames.{TextNames}
+use Rattle.program_io.specs.declared.program_fault.ProgramFault.{ProgramFault}
+use Rattle.program_io.specs.declared.program_fault.ProgramFault.TheVariants.{Read, Deck, Run, Output, Memory, Flush}
+use Rattle.program_io.specs.ProgramFaults.{line_of, name_of}
+
+-- what the texts of a run are called
+pub record Names : Type 0 where
+  pub bench : List ℕ
+  pub delays : List ℕ
+  pub stimuli : List ℕ
+  pub schedule : List ℕ
+
+abbrev pub called : TextNames → Names
+called names = record {
+  bench = names.bench.now;
+  delays = names.delays.now;
+  stimuli = names.stimuli.now;
+  schedule = names.schedule.now;
+}
+
+-- the sections of a deck, by their markers' words
+abbrev pub section_names : Names
+section_names = record { bench = codes "bench"; delays = codes "delays"; stimuli = codes "stimuli"; schedule = codes "schedule" }
+
+-- the name of the text for which a run is refused, or what else is at fault
+abbrev pub run_place : Names → SimFault → List ℕ
+run_place names (Setting fault) = codes "options"
+run_place names (Bench fault) = names.bench
+run_place names (Timing fault) = names.delays
+run_place names (Stimulus fault) = names.stimuli
+run_place names (Schedule fault) = names.schedule
+run_place names UnknownNet = names.bench
+run_place names (Dump fault) = codes "stdout"
+run_place names sim.Memory = codes "memory"
+
+-- the same of the program; the names are those of the side at fault
+abbrev pub place_of : Names → ProgramFault → List ℕ
+place_of names (Read name) = name.now
+place_of names (Deck fault) = codes "deck"
+place_of names (Run side fault) = run_place names fault
+place_of names (Output fault) = codes "stdout"
+place_of names Memory = codes "memory"
+place_of names Flush = codes "stdout"
+
+-- the line `WHERE:LINE: NAME`
+abbrev pub fault_line : Names → ProgramFault → List ℕ
+fault_line names fault = line (place_of names fault ++ codes ":" ++ decimal (line_of fault) ++ codes ": " ++ name_of fault)

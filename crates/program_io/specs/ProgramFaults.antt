@@ -1,0 +1,48 @@
+-- What a fault of the program tells, its name and its line, and how a fault of a layer comes out of the program.
+use Rattle.std.specs.Prelude.{ℕ, List, codes}
+use denote.Ref.{Bor}
+use Rattle.deck_text.specs.Faults as of_deck
+use Rattle.vcd_dump.specs.Faults as of_dump
+use Rattle.runs.specs.Faults as of_sim
+use Rattle.runs.specs.declared.fault.SimFault.{SimFault}
+use Rattle.runs.specs.declared.fault.SimFault.TheVariants as sim
+use Rattle.runs.specs.declared.twin_run.Side.{Side}
+use Rattle.runs.specs.declared.twin_run.Side.TheVariants.{First}
+use Rattle.runs.specs.declared.twin_run.TwinFault.{TwinFault}
+use Rattle.program_io.specs.declared.input.ReadFault.{ReadFault}
+use Rattle.program_io.specs.declared.input.ReadFault.TheVariants as read
+use Rattle.program_io.specs.declared.program_fault.ProgramFault.{ProgramFault}
+use Rattle.program_io.specs.declared.program_fault.ProgramFault.TheVariants.{Read, Deck, Run, Output, Memory, Flush}
+
+-- the line that a fault names, and 0 for one without a line
+abbrev pub line_of : ProgramFault → ℕ
+line_of (Deck fault) = of_deck.line_of fault
+line_of (Run side fault) = of_sim.line_of fault
+line_of other = 0
+
+abbrev pub name_of : ProgramFault → List ℕ
+name_of (Read name) = codes "Read"
+name_of (Deck fault) = of_deck.name_of fault
+name_of (Run side fault) = of_sim.name_of fault
+name_of (Output fault) = of_dump.name_of fault
+name_of Memory = codes "Memory"
+name_of Flush = codes "Write"
+
+-- the run that is refused, and the first one for any other fault
+abbrev pub side_of : ProgramFault → Side
+side_of (Run side fault) = side
+side_of other = First
+
+-- a fault of reading the text of a name
+abbrev pub fault_of_read : Bor (List ℕ) → ReadFault → ProgramFault
+fault_of_read name read.Read = Read name
+fault_of_read name read.Memory = Memory
+
+-- a fault of the run on a side
+abbrev pub fault_of_run : Side → SimFault → ProgramFault
+fault_of_run side (sim.Dump fault) = Output fault
+fault_of_run side sim.Memory = Memory
+fault_of_run side fault = Run side fault
+
+abbrev pub fault_of_twin : TwinFault → ProgramFault
+fault_of_twin fault = fault_of_run fault.side fault.fault

@@ -1,0 +1,41 @@
+//! The lines of an answer that is no dump.
+ghost use Rattle.std.specs.Prelude.{◌≡◌, ◌++◌, flat_map, string_bytes, IfOk, OnOk};
+ghost use Rattle.program_io.specs.AnswerText.{check_text, side_line, twin_text};
+
+use logic3::Waveform;
+use runs::{CheckAnswer, TwinAnswer};
+use std::alloc::{AllocError, Global};
+use std::fmt::Write;
+use vcd_dump::value_text;
+
+/// The lines `nets N`, `pins N` and `same N`.
+pub(crate) fn check_text(alloc: Global, answer: &CheckAnswer) -> Result<String, AllocError>
+    ensures { IfOk result (λ text. string_bytes text ≡ check_text answer.now) }
+{
+    let (nets, pins, same) = (answer.nets, answer.pins, answer.same);
+    format!(in alloc; "nets {nets}\npins {pins}\nsame {same}\n")
+}
+
+/// The line `agree yes` or `agree no`, a line `first T V` for each change of the first waveform, and
+/// a line `second T V` for each change of the second one.
+pub(crate) fn twin_text(alloc: Global, answer: &TwinAnswer) -> Result<String, AllocError>
+    ensures { IfOk result (λ text. string_bytes text ≡ twin_text answer.now) }
+{
+    let agree = if answer.agree { "yes" } else { "no" };
+    let mut text = format!(in alloc; "agree {agree}\n")?;
+    push_changes(&mut text, "first", &answer.first)?;
+    push_changes(&mut text, "second", &answer.second)?;
+    Ok(text)
+}
+
+/// Adds a line `SIDE T V` for each change.
+fn push_changes(text: &mut String, side: &str, wave: &Waveform) -> Result<(), AllocError>
+    ensures { OnOk result (string_bytes text.new ≡
+        string_bytes text.old ++ flat_map (side_line side.now) wave.now.changes) }
+{
+    for change in wave.changes() {
+        let (tick, value) = (change.tick, value_text(change.value));
+        write!(text, "{side} {tick} {value}\n")?;
+    }
+    Ok(())
+}

@@ -1,0 +1,128 @@
+//! Answers to texts, written out.
+ghost use Rattle.std.specs.Prelude.{◌≡◌, IfErr, IfOk};
+ghost use Rattle.netlist.specs.Names.{seen_names};
+ghost use Rattle.runs.specs.Source.{seen_source};
+ghost use Rattle.program_io.specs.Answers.{AnswerEndsBy, GoesOut, IsAnswerOfCone, IsAnswerOfTwin, IsNoRead, check_answer, plain_answer, run_answer};
+
+use crate::answer_text::{check_text, twin_text};
+use crate::output::{flush, write_text};
+use crate::program_fault::ProgramFault;
+use cmb_kernel::Counts;
+use runs::{Source, View, check, cone_text, plain, simulate, twin};
+use std::alloc::Global;
+use std::io::Write;
+
+/// Writes the dump of a run by the kernel and flushes once. Answers the counts at its end, where they
+/// are asked for.
+///
+/// # Errors
+/// Where the source or the view is refused nothing is written. After a failed write or a want of
+/// memory a first part of the dump went out, and after a failed flush all of it.
+pub fn write_run<W: Write>(
+    alloc: Global,
+    source: &Source<'_>,
+    view: &View,
+    counts: bool,
+    out: &mut W,
+) -> Result<Option<Counts>, ProgramFault<'static>>
+    ensures ok { IfOk result (GoesOut (λ answer. answer ≡ run_answer (seen_source source.now) view.now counts)
+        (W.contents out.old) (W.contents out.new)) }
+    ensures err { IfErr result (AnswerEndsBy (λ answer. answer ≡ run_answer (seen_source source.now) view.now counts)
+        (W.contents out.old) (W.contents out.new)) }
+    ensures no_read { IfErr result IsNoRead }
+{
+    let report = simulate(alloc, source, view, out)?;
+    flush(out)?;
+    Ok(counts.then_some(report.total))
+}
+
+/// Writes the dump of a run by the plain engine and flushes once. Nothing is picked.
+///
+/// # Errors
+/// As [`write_run`].
+pub fn write_plain<W: Write>(
+    alloc: Global,
+    source: &Source<'_>,
+    view: &View,
+    out: &mut W,
+) -> Result<Option<Counts>, ProgramFault<'static>>
+    ensures ok { IfOk result (GoesOut (λ answer. answer ≡ plain_answer (seen_source source.now) view.now)
+        (W.contents out.old) (W.contents out.new)) }
+    ensures err { IfErr result (AnswerEndsBy (λ answer. answer ≡ plain_answer (seen_source source.now) view.now)
+        (W.contents out.old) (W.contents out.new)) }
+    ensures no_read { IfErr result IsNoRead }
+{
+    plain(alloc, source, view, out)?;
+    flush(out)?;
+    Ok(None)
+}
+
+/// Writes the nets in the fan-in cones of these names as .bench text and flushes once.
+///
+/// # Errors
+/// Where the netlist or a name is refused nothing is written. After a failed write a first part of the
+/// text went out, and after a failed flush all of it.
+pub fn write_cone<W: Write>(
+    alloc: Global,
+    bench: &[u8],
+    names: &[&[u8]],
+    out: &mut W,
+) -> Result<Option<Counts>, ProgramFault<'static>>
+    ensures ok { IfOk result (GoesOut (IsAnswerOfCone bench.now (seen_names names.now))
+        (W.contents out.old) (W.contents out.new)) }
+    ensures err { IfErr result (AnswerEndsBy (IsAnswerOfCone bench.now (seen_names names.now))
+        (W.contents out.old) (W.contents out.new)) }
+    ensures no_read { IfErr result IsNoRead }
+{
+    let text = cone_text(alloc, bench, names)?;
+    write_text(out, text.as_slice())?;
+    Ok(None)
+}
+
+/// Writes whether two runs agree on the fan-in cone of a net, and what the net shows in both, and
+/// flushes once.
+///
+/// # Errors
+/// Where a source or the net's name is refused nothing is written. After a failed write a first part
+/// of the lines went out, and after a failed flush all of them.
+pub fn write_twin<W: Write>(
+    alloc: Global,
+    first: &Source<'_>,
+    second: &Source<'_>,
+    net: &[u8],
+    horizon: u64,
+    out: &mut W,
+) -> Result<Option<Counts>, ProgramFault<'static>>
+    ensures ok { IfOk result (GoesOut (IsAnswerOfTwin (seen_source first.now) (seen_source second.now) net.now horizon)
+        (W.contents out.old) (W.contents out.new)) }
+    ensures err { IfErr result (AnswerEndsBy (IsAnswerOfTwin (seen_source first.now) (seen_source second.now) net.now horizon)
+        (W.contents out.old) (W.contents out.new)) }
+    ensures no_read { IfErr result IsNoRead }
+{
+    let answer = twin(alloc, first, second, net, horizon)?;
+    let text = twin_text(alloc, &answer)?;
+    write_text(out, text.as_str().as_bytes())?;
+    Ok(None)
+}
+
+/// Writes for how many nets the kernel and the plain engine give the same waveform, and flushes once.
+///
+/// # Errors
+/// As [`write_twin`].
+pub fn write_check<W: Write>(
+    alloc: Global,
+    source: &Source<'_>,
+    horizon: u64,
+    out: &mut W,
+) -> Result<Option<Counts>, ProgramFault<'static>>
+    ensures ok { IfOk result (GoesOut (λ answer. answer ≡ check_answer (seen_source source.now) horizon)
+        (W.contents out.old) (W.contents out.new)) }
+    ensures err { IfErr result (AnswerEndsBy (λ answer. answer ≡ check_answer (seen_source source.now) horizon)
+        (W.contents out.old) (W.contents out.new)) }
+    ensures no_read { IfErr result IsNoRead }
+{
+    let answer = check(alloc, source, horizon)?;
+    let text = check_text(alloc, &answer)?;
+    write_text(out, text.as_str().as_bytes())?;
+    Ok(None)
+}

@@ -1,0 +1,60 @@
+//! What the program says and answers where it ended early.
+ghost use Rattle.std.specs.Prelude.{◌≢◌, ◌++◌, IfErr, OnErr, OnOk, codes};
+ghost use Rattle.std.specs.Io.KnownBytes.{Appends};
+ghost use Rattle.vcd_dump.specs.Bytes.{AppendsPrefix};
+ghost use Rattle.vcd_dump.specs.Dump.{line};
+ghost use Rattle.program_io.specs.Place.{called, fault_line};
+ghost use Rattle.program_io.specs.Report.{Reports};
+
+use crate::output::write_pieces;
+use crate::place::{TextNames, place};
+use crate::program_fault::ProgramFault;
+use crate::status::status;
+use itoa::Buffer;
+use std::io::Write;
+use vcd_dump::DumpFault;
+
+/// Writes the line `WHERE:LINE: NAME` of a fault. Takes no memory.
+///
+/// # Errors
+/// `Write` or `WroteNothing`; a first part of the line went out then.
+pub fn write_fault_line<E: Write>(
+    err: &mut E,
+    fault: ProgramFault<'_>,
+    names: TextNames<'_>,
+) -> Result<(), DumpFault>
+    ensures ok { OnOk result (Appends (E.contents err.old) (E.contents err.new)
+        (fault_line (called names.entry) fault.entry)) }
+    ensures err { OnErr result (AppendsPrefix (E.contents err.old) (E.contents err.new)
+        (fault_line (called names.entry) fault.entry)) }
+    ensures no_memory { IfErr result (λ fault. fault ≢ DumpFault.Memory) }
+{
+    let mut buffer = Buffer::new();
+    let number = buffer.format(fault.line());
+    write_line_of(err, place(fault, names), number, fault.name())
+}
+
+/// Writes the line `WHERE:LINE: NAME` of these three.
+fn write_line_of<'a, E: Write>(
+    err: &mut E,
+    place: &'a str,
+    number: &'a str,
+    name: &'a str,
+) -> Result<(), DumpFault>
+    ensures ok { OnOk result (Appends (E.contents err.old) (E.contents err.new)
+        (line (place.now ++ codes ":" ++ number.now ++ codes ": " ++ name.now))) }
+    ensures err { OnErr result (AppendsPrefix (E.contents err.old) (E.contents err.new)
+        (line (place.now ++ codes ":" ++ number.now ++ codes ": " ++ name.now))) }
+    ensures no_memory { IfErr result (λ fault. fault ≢ DumpFault.Memory) }
+{
+    write_pieces(err, &[place, ":", number, ": ", name, "\n"])
+}
+
+/// Writes the line of a fault, or a first part of it where the writer fails, and answers the exit
+/// status. Takes no memory.
+pub fn report<E: Write>(err: &mut E, fault: ProgramFault<'_>, names: TextNames<'_>) -> u8
+    ensures { Reports (called names.entry) fault.entry (E.contents err.old) (E.contents err.new) result }
+{
+    let _ = write_fault_line(err, fault, names);
+    status(fault)
+}

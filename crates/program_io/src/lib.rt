@@ -1,0 +1,19 @@
+//! What the program reads and writes: texts that come in whole, lines of answers, and what it says
+//! where it ended early.
+#![tactic(auto)]
+
+mod answer_text;
+mod answers;
+mod fault_line;
+mod input;
+mod output;
+mod place;
+mod program_fault;
+pub mod status;
+
+pub use answers::{write_check, write_cone, write_plain, write_run, write_twin};
+pub use fault_line::{report, write_fault_line};
+pub use input::{ReadFault, read_text};
+pub use output::{flush, write_pieces, write_text};
+pub use place::{SECTIONS, TextNames};
+pub use program_fault::ProgramFault;

@@ -1,0 +1,53 @@
+//! Texts that go out whole.
+ghost use Rattle.std.specs.Prelude.{◌≡◌, ◌≢◌, map, IfErr, OnErr, OnOk};
+ghost use Rattle.std.specs.List.{concat};
+ghost use Rattle.std.specs.Io.KnownBytes.{Appends, Keeps};
+ghost use Rattle.vcd_dump.specs.Bytes.{AppendsPrefix};
+ghost use Rattle.program_io.specs.Ends.{WriteEndsBy};
+ghost use Rattle.program_io.specs.declared.program_fault.ProgramFault.TheVariants.{Flush};
+
+use crate::program_fault::ProgramFault;
+use std::io::Write;
+use vcd_dump::{DumpFault, write_all_bytes};
+
+/// Writes a text and flushes once.
+///
+/// # Errors
+/// A failed write, when a first part of the text went out, or a failed flush, when all of it did.
+pub fn write_text<W: Write>(out: &mut W, text: &[u8]) -> Result<(), ProgramFault<'static>>
+    ensures ok { OnOk result (Appends (W.contents out.old) (W.contents out.new) text.now) }
+    ensures err { IfErr result (WriteEndsBy (W.contents out.old) (W.contents out.new) text.now) }
+{
+    match write_all_bytes(out, text) {
+        Ok(()) => flush(out),
+        Err(fault) => Err(ProgramFault::Output(fault)),
+    }
+}
+
+/// Writes these texts, one behind the other. Takes no memory.
+///
+/// # Errors
+/// `Write` or `WroteNothing` of the first write that failed; a first part of the texts went out then.
+pub fn write_pieces<W: Write>(out: &mut W, pieces: &[&str]) -> Result<(), DumpFault>
+    ensures ok { OnOk result (Appends (W.contents out.old) (W.contents out.new)
+        (concat (map (λ piece. piece.now) pieces.now))) }
+    ensures err { OnErr result (AppendsPrefix (W.contents out.old) (W.contents out.new)
+        (concat (map (λ piece. piece.now) pieces.now))) }
+    ensures no_memory { IfErr result (λ fault. fault ≢ DumpFault.Memory) }
+{
+    for piece in pieces {
+        write_all_bytes(out, piece.as_bytes())?;
+    }
+    Ok(())
+}
+
+/// Flushes once.
+pub fn flush<W: Write>(out: &mut W) -> Result<(), ProgramFault<'static>>
+    ensures kept { Keeps (W.contents out.old) (W.contents out.new) }
+    ensures err { IfErr result (λ fault. fault ≡ Flush) }
+{
+    match out.flush() {
+        Ok(()) => Ok(()),
+        Err(_) => Err(ProgramFault::Flush),
+    }
+}

@@ -1,0 +1,130 @@
+//! Why the program ended early.
+ghost use Rattle.std.specs.Prelude.{◌≡◌};
+ghost use Rattle.runs.specs.declared.twin_run.Side.TheVariants.{First};
+ghost use Rattle.program_io.specs.declared.program_fault.ProgramFault.TheVariants as program;
+ghost use Rattle.program_io.specs.ProgramFaults.{fault_of_read, fault_of_run, fault_of_twin, line_of, name_of, side_of};
+
+use crate::input::ReadFault;
+use deck_text::DeckTextFault;
+use runs::{Side, SimFault, TwinFault};
+use std::alloc::AllocError;
+use std::fmt;
+use thiserror::Error;
+use vcd_dump::DumpFault;
+
+/// Why the program ended early: its text is the name that the line of a fault ends with.
+#[derive(Clone, Copy, Debug, Error)]
+pub enum ProgramFault<'a> {
+    /// The text of this name could not be read.
+    Read(&'a str),
+    /// The text of a deck is refused.
+    Deck(DeckTextFault),
+    /// A run is refused: the only one, which counts as the first, or one of two.
+    Run { side: Side, fault: SimFault },
+    /// A write of the answer failed.
+    Output(DumpFault),
+    /// A growth was refused.
+    Memory,
+    /// The whole answer was written, and then the writer could not be flushed.
+    Flush,
+}
+
+impl<'a> ProgramFault<'a> {
+    /// The side of the run that is refused, which is the first one for any other fault.
+    pub fn side(&self) -> Side
+        ensures { result ≡ side_of self.now }
+    {
+        match self {
+            ProgramFault::Run { side, .. } => *side,
+            _ => Side::First,
+        }
+    }
+
+    /// The line of the text at fault, from 1, and 0 for a fault without a line.
+    pub fn line(&self) -> u64
+        ensures { result ≡ line_of self.now }
+    {
+        match self {
+            ProgramFault::Deck(fault) => fault.line(),
+            ProgramFault::Run { fault, .. } => fault.line(),
+            ProgramFault::Read(_)
+            | ProgramFault::Output(_)
+            | ProgramFault::Memory
+            | ProgramFault::Flush => 0,
+        }
+    }
+
+    /// The fault's name, which is its text.
+    pub fn name(&self) -> &'static str
+        ensures { result.now ≡ name_of self.now }
+    {
+        match self {
+            ProgramFault::Read(_) => "Read",
+            ProgramFault::Deck(fault) => fault.name(),
+            ProgramFault::Run { fault, .. } => fault.name(),
+            ProgramFault::Output(fault) => fault.name(),
+            ProgramFault::Memory => "Memory",
+            ProgramFault::Flush => "Write",
+        }
+    }
+
+    /// The fault of reading the text of this name.
+    pub fn of_read(fault: ReadFault, name: &'a str) -> ProgramFault<'a>
+        ensures { result ≡ fault_of_read name.entry fault }
+    {
+        match fault {
+            ReadFault::Read => ProgramFault::Read(name),
+            ReadFault::Memory => ProgramFault::Memory,
+        }
+    }
+
+    /// The fault of the run on this side.
+    fn of_run(side: Side, fault: SimFault) -> ProgramFault<'a>
+        ensures { result ≡ fault_of_run side fault }
+    {
+        match fault {
+            SimFault::Dump(fault) => ProgramFault::Output(fault),
+            SimFault::Memory => ProgramFault::Memory,
+            other => ProgramFault::Run { side, fault: other },
+        }
+    }
+}
+
+impl fmt::Display for ProgramFault<'_> {
+    fn fmt<W: fmt::Write>(&self, f: &mut fmt::Formatter<W>) -> Result<(), fmt::Error> {
+        f.write_str(self.name())
+    }
+}
+
+impl From<AllocError> for ProgramFault<'_> {
+    ghost from_gives = { λ _ e. e ≡ program.Memory };
+
+    fn from(_fault: AllocError) -> Self {
+        ProgramFault::Memory
+    }
+}
+
+impl From<DeckTextFault> for ProgramFault<'_> {
+    ghost from_gives = { λ fault e. e ≡ program.Deck fault };
+
+    fn from(fault: DeckTextFault) -> Self {
+        ProgramFault::Deck(fault)
+    }
+}
+
+/// The fault of the only run.
+impl From<SimFault> for ProgramFault<'_> {
+    ghost from_gives = { λ fault e. e ≡ fault_of_run First fault };
+
+    fn from(fault: SimFault) -> Self {
+        ProgramFault::of_run(Side::First, fault)
+    }
+}
+
+impl From<TwinFault> for ProgramFault<'_> {
+    ghost from_gives = { λ fault e. e ≡ fault_of_twin fault };
+
+    fn from(fault: TwinFault) -> Self {
+        ProgramFault::of_run(fault.side, fault.fault)
+    }
+}

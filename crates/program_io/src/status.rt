@@ -1,0 +1,31 @@
+//! Exit statuses.
+ghost use Rattle.std.specs.Prelude.{◌≡◌};
+ghost use Rattle.program_io.specs.Status.{status_of};
+
+use crate::program_fault::ProgramFault;
+
+/// What was asked for is done.
+pub const DONE: u8 = 0;
+
+/// An input is refused.
+pub const REFUSED: u8 = 1;
+
+/// The words are wrong.
+pub const WRONG_WORDS: u8 = 2;
+
+/// A read or a write failed.
+pub const FAILED: u8 = 3;
+
+/// Memory was wanting.
+pub const NO_MEMORY: u8 = 4;
+
+/// The exit status of a fault.
+pub(crate) fn status(fault: ProgramFault<'_>) -> u8
+    ensures { result ≡ status_of fault.entry }
+{
+    match fault {
+        ProgramFault::Deck(_) | ProgramFault::Run { .. } => REFUSED,
+        ProgramFault::Read(_) | ProgramFault::Output(_) | ProgramFault::Flush => FAILED,
+        ProgramFault::Memory => NO_MEMORY,
+    }
+}
