@@ -17,7 +17,7 @@ use std::alloc::{AllocError, Global};
 use text_lines::is_plain;
 
 /// What a line says.
-#[derive(Debug, Drop)]
+#[derive(Drop)]
 pub(crate) enum Statement<'a> {
     /// It defines a net, with the names of the nets at its pins.
     Defines {
@@ -31,7 +31,7 @@ pub(crate) enum Statement<'a> {
 }
 
 /// How a line is written: `K ( W )`, or `W = K ( list )`.
-#[derive(Debug, Drop)]
+#[derive(Drop)]
 enum Form<'a> {
     Port {
         keyword: &'a [u8],

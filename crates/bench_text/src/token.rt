@@ -10,7 +10,7 @@ use std::marker::Model;
 use text_lines::{is_white, white_len};
 
 /// A word, or one of the four marks.
-#[derive(Clone, Copy, Debug)]
+#[derive(Clone, Copy)]
 pub(crate) enum Token<'a> {
     Word(&'a [u8]),
     Left,
@@ -20,7 +20,7 @@ pub(crate) enum Token<'a> {
 }
 
 /// The tokens of a line that are left, in order.
-#[derive(Debug, Drop)]
+#[derive(Drop)]
 pub(crate) struct Tokens<'a> {
     code: &'a [u8],
 }

@@ -12,7 +12,7 @@ use runs::{Picks, Source};
 use std::alloc::Global;
 
 /// The texts of a run's files. One that isn't named is empty.
-#[derive(Debug, Drop)]
+#[derive(Drop)]
 pub(crate) struct SourceTexts {
     bench: Vec<u8>,
     delays: Vec<u8>,

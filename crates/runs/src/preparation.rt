@@ -16,7 +16,7 @@ use std::alloc::Global;
 use timing_text::{Horizon, options};
 
 /// A run that can begin: its horizon, its design, and the events that come before it completes.
-#[derive(Debug, Drop)]
+#[derive(Drop)]
 pub(crate) struct PreparedRun {
     pub(crate) horizon: Horizon,
     pub(crate) design: Design,
