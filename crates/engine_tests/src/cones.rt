@@ -48,18 +48,6 @@ const FLOP: Circuit = Circuit {
 
 const OTHER_FLOP: Circuit = Circuit { period: 4, ..FLOP };
 
-// What `agree` says of a design and a circuit; the proofs of the tests don't look at it.
-fn agreed(
-    alloc: Global,
-    first: &Design,
-    second: Circuit,
-    name: &[u8],
-    horizon: Horizon,
-) -> Result<Option<bool>, Fail> {
-    let second = second.build(alloc)?;
-    Ok(agree(alloc, first, &second, name, horizon)?)
-}
-
 // What `agree` says of two circuits for a name.
 fn agree_so(
     rt: &impl Abort,
@@ -69,10 +57,21 @@ fn agree_so(
     horizon: u64,
     answer: Option<bool>,
 ) -> Result<(), Fail> {
-    let horizon = Horizon::new(horizon)?;
     let first = sides.0.build(alloc)?;
-    let agreed = agreed(alloc, &first, sides.1, name, horizon)?;
-    assert_eq!(rt; agreed, answer);
+    let second = sides.1.build(alloc)?;
+    designs_agree_so(rt, alloc, (&first, &second), name, horizon, answer)
+}
+
+fn designs_agree_so(
+    rt: &impl Abort,
+    alloc: Global,
+    sides: (&Design, &Design),
+    name: &[u8],
+    horizon: u64,
+    answer: Option<bool>,
+) -> Result<(), Fail> {
+    let horizon = Horizon::new(horizon)?;
+    assert_eq!(rt; agree(alloc, sides.0, sides.1, name, horizon)?, answer);
     Ok(())
 }
 
@@ -109,19 +108,6 @@ fn agreement_of_flops(rt: HostRuntime) -> Result<(), Fail> {
     Ok(())
 }
 
-// The cone of the net of this name.
-fn cone_of(
-    rt: &impl Abort,
-    alloc: Global,
-    circuit: Circuit,
-    name: &[u8],
-) -> Result<Vec<u32>, Fail> {
-    let design = circuit.build(alloc)?;
-    let net = design.find(name).expect(rt, "a net of this name");
-    prove!(net < design.nets());
-    Ok(cone(alloc, &design, net)?)
-}
-
 // The cone of the net of this name has just these nets.
 fn has_cone(
     rt: &impl Abort,
@@ -130,7 +116,20 @@ fn has_cone(
     name: &[u8],
     nets: &[u32],
 ) -> Result<(), Fail> {
-    let cone = cone_of(rt, alloc, circuit, name)?;
+    let design = circuit.build(alloc)?;
+    design_has_cone(rt, alloc, &design, name, nets)
+}
+
+fn design_has_cone(
+    rt: &impl Abort,
+    alloc: Global,
+    design: &Design,
+    name: &[u8],
+    nets: &[u32],
+) -> Result<(), Fail> {
+    let net = design.find(name).expect(rt, "a net of this name");
+    prove!(net < design.nets());
+    let cone = cone(alloc, design, net)?;
     assert_eq!(rt; cone.as_slice(), nets);
     Ok(())
 }
@@ -162,25 +161,9 @@ fn misses(rt: &impl Abort, alloc: Global, netlist: &Netlist, names: &[&[u8]], at
 #[test]
 fn unknown_names(rt: HostRuntime) -> Result<(), Fail> {
     let netlist = read(rt.alloc(), S27.bench)?;
-    for (names, at) in [
-        ([b"G0".as_slice(), b"zz".as_slice()], 1),
-        ([b"g0".as_slice(), b"zz".as_slice()], 0),
-    ] {
-        misses(&rt, rt.alloc(), &netlist, names.as_slice(), at);
-    }
+    misses(&rt, rt.alloc(), &netlist, &[b"G0", b"zz"], 1);
+    misses(&rt, rt.alloc(), &netlist, &[b"g0", b"zz"], 0);
     Ok(())
-}
-
-// What is extracted for these names.
-fn cones_of(
-    rt: &impl Abort,
-    alloc: Global,
-    bench: &[u8],
-    names: &[&[u8]],
-) -> Result<Netlist, Fail> {
-    assert!(rt; !names.is_empty());
-    let netlist = read(alloc, bench)?;
-    Ok(extract(alloc, &netlist, names)?)
 }
 
 // What is extracted for these names has this canonical text.
@@ -191,7 +174,19 @@ fn extracts(
     names: &[&[u8]],
     text: &[u8],
 ) -> Result<(), Fail> {
-    let cones = cones_of(rt, alloc, bench, names)?;
+    let netlist = read(alloc, bench)?;
+    netlist_extracts(rt, alloc, &netlist, names, text)
+}
+
+fn netlist_extracts(
+    rt: &impl Abort,
+    alloc: Global,
+    netlist: &Netlist,
+    names: &[&[u8]],
+    text: &[u8],
+) -> Result<(), Fail> {
+    assert!(rt; !names.is_empty());
+    let cones = extract(alloc, netlist, names)?;
     let written = write(alloc, &cones)?;
     assert_eq!(rt; written.as_slice(), text);
     Ok(())

@@ -74,14 +74,6 @@ fn shows_all(
     Ok(())
 }
 
-// Applies the events.
-fn apply(kernel: &mut Kernel<Queues>, events: &[Event]) -> Result<(), Fail>
-    ensures { OnOk result (kernel.new.circuit ≡ kernel.old.circuit) }
-{
-    kernel.apply_all(events)?;
-    Ok(())
-}
-
 // Completes, with these counts.
 fn complete(rt: &impl Abort, kernel: &mut Kernel<Queues>, wanted: Counts) -> Result<(), Fail>
     ensures { OnOk result (kernel.new.circuit ≡ kernel.old.circuit) }
@@ -91,13 +83,8 @@ fn complete(rt: &impl Abort, kernel: &mut Kernel<Queues>, wanted: Counts) -> Res
     Ok(())
 }
 
-fn least_frontier_is(rt: &impl Abort, kernel: &Kernel<Queues>, wanted: u64) {
-    assert!(rt; !kernel.is_failed());
-    assert_eq!(rt; kernel.least_frontier(), wanted);
-}
-
 // Applies the events, with these counts and this least frontier after them.
-fn apply_first(
+fn apply(
     rt: &impl Abort,
     kernel: &mut Kernel<Queues>,
     events: &[Event],
@@ -105,9 +92,10 @@ fn apply_first(
 ) -> Result<(), Fail>
     ensures { OnOk result (kernel.new.circuit ≡ kernel.old.circuit) }
 {
-    apply(kernel, events)?;
+    kernel.apply_all(events)?;
     counts_are(rt, kernel, after.0);
-    least_frontier_is(rt, kernel, after.1);
+    assert!(rt; !kernel.is_failed());
+    assert_eq!(rt; kernel.least_frontier(), after.1);
     Ok(())
 }
 
@@ -152,7 +140,7 @@ fn run_design(
     total: Counts,
 ) -> Result<(), Fail> {
     let mut kernel: Kernel<Queues> = Kernel::new(alloc, design, horizon)?;
-    apply_first(rt, &mut kernel, events, after)?;
+    apply(rt, &mut kernel, events, after)?;
     complete_twice(rt, alloc, design, horizon, &mut kernel, total)
 }
 
@@ -226,25 +214,6 @@ fn refuses(rt: &impl Abort, kernel: &mut Kernel<Queues>, events: &[Event], fault
     assert_eq!(rt; answer, fault);
 }
 
-// The event alone is refused with this fault, which isn't want of memory.
-fn refuses_one(rt: &impl Abort, kernel: &mut Kernel<Queues>, event: Event, fault: KernelFault)
-    ensures { kernel.new.circuit ≡ kernel.old.circuit }
-{
-    let answer = kernel.apply(event).expect_err(rt, "the event is refused");
-    assert!(rt; answer != KernelFault::Memory);
-    assert_eq!(rt; answer, fault);
-}
-
-// Nothing of the first net is known.
-fn knows_nothing(rt: &impl Abort, design: &Design, kernel: &Kernel<Queues>)
-    requires { kernel.now.circuit ≡ design.now.circuit }
-{
-    assert!(rt; !kernel.is_failed());
-    let nets = design.nets();
-    assert!(rt; 0 < nets);
-    assert_eq!(rt; kernel.frontier(0), 0);
-}
-
 // Ten million events are looked at one after the other; a list of one more is refused as it is.
 fn limit_of_events(
     rt: &impl Abort,
@@ -269,21 +238,26 @@ fn first_events(rt: &impl Abort, kernel: &mut Kernel<Queues>) -> Result<(), Fail
     Ok(())
 }
 
-// Events of nets and pins that the inverter doesn't have.
-fn refused_events(rt: &impl Abort, kernel: &mut Kernel<Queues>)
-    ensures { kernel.new.circuit ≡ kernel.old.circuit }
+// Events of nets and pins that the inverter doesn't have are refused, by a fault that isn't want of
+// memory, and nothing of the first net is known after them.
+fn refused_events(rt: &impl Abort, design: &Design, kernel: &mut Kernel<Queues>)
+    requires { kernel.old.circuit ≡ design.now.circuit }
 {
     let no_such_pin = KernelFault::NoSuchPin { at: 0 };
-    refuses_one(rt, kernel, Deliver(1), no_such_pin);
+    let answer = kernel.apply(Deliver(1)).expect_err(rt, "it is refused");
+    assert!(rt; answer != KernelFault::Memory);
+    assert_eq!(rt; answer, no_such_pin);
     let no_such_net = KernelFault::NoSuchNet { at: 1 };
     refuses(rt, kernel, &[Advance(0), Advance(2)], no_such_net);
+    assert!(rt; !kernel.is_failed());
+    assert!(rt; 0 < design.nets());
+    assert_eq!(rt; kernel.frontier(0), 0);
 }
 
 fn use_fresh(rt: &impl Abort, alloc: Global, design: &Design) -> Result<(), Fail> {
     let mut kernel: Kernel<Queues> = Kernel::new(alloc, design, Horizon::new(5)?)?;
     first_events(rt, &mut kernel)?;
-    refused_events(rt, &mut kernel);
-    knows_nothing(rt, design, &kernel);
+    refused_events(rt, design, &mut kernel);
     limit_of_events(rt, alloc, &mut kernel)?;
     counts_are(rt, &kernel, counts(3, 0, 1, 0));
     Ok(())
@@ -303,20 +277,16 @@ fn apply_useful(rt: &impl Abort, kernel: &mut Kernel<Queues>) -> Result<(), Fail
     Ok(())
 }
 
-fn nothing_is_useful(rt: &impl Abort, kernel: &Kernel<Queues>) {
-    assert!(rt; !kernel.is_failed());
-    assert!(rt; kernel.useful().is_none());
-    assert!(rt; kernel.is_complete());
-}
-
-// Seven events are useful, one after the other.
+// Seven events are useful, one after the other, and then none is.
 fn drive(rt: &impl Abort, alloc: Global, design: &Design) -> Result<(), Fail> {
     let mut kernel: Kernel<Queues> = Kernel::new(alloc, design, Horizon::new(3)?)?;
     for _event in 0..7 {
         apply_useful(rt, &mut kernel)?;
     }
-    nothing_is_useful(rt, &kernel);
     counts_are(rt, &kernel, counts(7, 0, 4, 0));
+    assert!(rt; !kernel.is_failed());
+    assert!(rt; kernel.useful().is_none());
+    assert!(rt; kernel.is_complete());
     Ok(())
 }
 
@@ -326,41 +296,27 @@ fn driven_by_useful(rt: HostRuntime) -> Result<(), Fail> {
     drive(&rt, rt.alloc(), &design)
 }
 
-// At the pin so many messages wait, and so many ticks of its source it knows.
-fn pin_has(rt: &impl Abort, design: &Design, kernel: &Kernel<Queues>, pin: u32, wanted: (u64, u64))
-    requires { kernel.now.circuit ≡ design.now.circuit }
-{
-    assert!(rt; !kernel.is_failed());
-    let pins = design.pins();
-    assert!(rt; pin < pins);
-    assert_eq!(rt; kernel.waiting(pin), wanted.0);
-    assert_eq!(rt; kernel.received(pin), wanted.1);
-}
-
-// The same of each pin.
+// At each pin so many messages wait, and so many ticks of its source it knows.
 fn pins_have(rt: &impl Abort, design: &Design, kernel: &Kernel<Queues>, wanted: &[(u64, u64)])
     requires { kernel.now.circuit ≡ design.now.circuit }
 {
+    assert!(rt; !kernel.is_failed());
     assert_eq!(rt; design.pins() as usize, wanted.len());
     for pin in 0..design.pins() {
         let has = wanted.get(pin as usize).expect(rt, "what this pin has");
-        pin_has(rt, design, kernel, pin, *has);
+        assert_eq!(rt; kernel.waiting(pin), has.0);
+        assert_eq!(rt; kernel.received(pin), has.1);
     }
-}
-
-// Does a round, with these counts after it.
-fn round(rt: &impl Abort, kernel: &mut Kernel<Queues>, wanted: Counts) -> Result<(), Fail> {
-    kernel.round()?;
-    counts_are(rt, kernel, wanted);
-    Ok(())
 }
 
 // What the pins have after two events, and a round after them.
 fn wait_and_receive(rt: &impl Abort, alloc: Global, design: &Design) -> Result<(), Fail> {
     let mut kernel: Kernel<Queues> = Kernel::new(alloc, design, Horizon::new(8)?)?;
-    apply(&mut kernel, &[Advance(0), Deliver(1)])?;
+    kernel.apply_all(&[Advance(0), Deliver(1)])?;
     pins_have(rt, design, &kernel, &[(3, 0), (2, 1), (0, 0)]);
-    round(rt, &mut kernel, counts(10, 4, 3, 1))
+    kernel.round()?;
+    counts_are(rt, &kernel, counts(10, 4, 3, 1));
+    Ok(())
 }
 
 #[test]

@@ -4,7 +4,7 @@ use crate::circuits::{
     SAMPLER, SELF_INVERTER, SLOW_INVERTER,
 };
 use Value::{One, Unknown, Zero};
-use design::plain_waves;
+use design::{Design, plain_waves};
 use logic3::{Change, Value, Waveform};
 use std::alloc::Global;
 use std::process::Abort;
@@ -20,9 +20,19 @@ fn shows(
     net: &[u8],
     changes: &[(u64, Value)],
 ) -> Result<(), Fail> {
-    let horizon = Horizon::new(horizon)?;
     let design = circuit.build(alloc)?;
-    let waves = plain_waves(alloc, &design, horizon)?;
+    design_shows(rt, alloc, &design, horizon, net, changes)
+}
+
+fn design_shows(
+    rt: &impl Abort,
+    alloc: Global,
+    design: &Design,
+    horizon: u64,
+    net: &[u8],
+    changes: &[(u64, Value)],
+) -> Result<(), Fail> {
+    let waves = plain_waves(alloc, design, Horizon::new(horizon)?)?;
     let net = design.find(net).expect(rt, "a net of this name");
     let wave = waves.get(net as usize).expect(rt, "a waveform of this net");
     has_changes(rt, wave, changes);

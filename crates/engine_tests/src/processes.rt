@@ -137,29 +137,6 @@ impl Probe {
         self.hear(rt, place, &[told])?;
         self.tells(rt, wanted)
     }
-
-    // What its pins know suffices up to this tick.
-    fn is_safe_to(&self, rt: &impl Abort, wanted: u64) {
-        assert_eq!(rt; self.process(rt).safe(), wanted);
-    }
-
-    // It is known up to this tick.
-    fn is_known_to(&self, rt: &impl Abort, wanted: u64) {
-        assert_eq!(rt; self.process(rt).frontier(), wanted);
-    }
-
-    // The last value that the pin at this place was told.
-    fn has_last(&self, rt: &impl Abort, place: u32, wanted: Value) {
-        assert_eq!(rt; self.last(rt, place), wanted);
-    }
-
-    fn shows(&self, rt: &impl Abort, tick: u64, wanted: Value) {
-        assert_eq!(rt; self.process(rt).waveform().value_at(tick), wanted);
-    }
-
-    fn has_changes(&self, rt: &impl Abort, count: usize) {
-        assert_eq!(rt; self.process(rt).waveform().changes().len(), count);
-    }
 }
 
 fn change(tick: u64, value: Value) -> Message {
@@ -183,11 +160,11 @@ fn told() -> [Message; 3] {
 }
 
 fn input_tells(rt: &impl Abort, input: &mut Probe) -> Result<(), Fail> {
-    input.is_safe_to(rt, 6);
-    input.is_known_to(rt, 0);
+    assert_eq!(rt; input.process(rt).safe(), 6);
+    assert_eq!(rt; input.process(rt).frontier(), 0);
     input.tells(rt, &told())?;
     input.tells(rt, &[])?;
-    input.is_known_to(rt, 6);
+    assert_eq!(rt; input.process(rt).frontier(), 6);
     Ok(())
 }
 
@@ -211,11 +188,11 @@ fn first_messages_of_a_gate(rt: HostRuntime) -> Result<(), Fail> {
 
 // What the first pin of the AND gate is told.
 fn hear_first_pin(rt: &impl Abort, process: &mut Probe) -> Result<(), Fail> {
-    process.has_last(rt, 0, Unknown);
+    assert_eq!(rt; process.last(rt, 0), Unknown);
     process.hear(rt, 0, &[change(0, One), change(4, Zero), Null(7)])?;
-    process.is_safe_to(rt, 0);
+    assert_eq!(rt; process.process(rt).safe(), 0);
     assert_eq!(rt; process.received(rt, 0), 7);
-    process.has_last(rt, 0, Zero);
+    assert_eq!(rt; process.last(rt, 0), Zero);
     Ok(())
 }
 
@@ -224,34 +201,35 @@ fn hear_second_pin(rt: &impl Abort, process: &mut Probe) -> Result<(), Fail> {
     process.tells(rt, &[Null(1)])?;
     process.answers(rt, 1, change(0, Zero), &[change(1, Zero)])?;
     process.hear(rt, 1, &[change(4, One)])?;
-    process.is_safe_to(rt, 5);
+    assert_eq!(rt; process.process(rt).safe(), 5);
     process.tells(rt, &[Null(6)])?;
-    process.answers(rt, 1, Null(7), &[Null(7)])
+    process.answers(rt, 1, Null(7), &[Null(7)])?;
+    let waveform = process.process(rt).waveform();
+    assert_eq!(rt; waveform.value_at(6), Zero);
+    assert_eq!(rt; waveform.changes().len(), 1);
+    Ok(())
 }
 
 #[test]
 fn and_process(rt: HostRuntime) -> Result<(), Fail> {
     let mut process = Probe::new(&rt, rt.alloc(), AND, b"", 10, b"y", 6)?;
     hear_first_pin(&rt, &mut process)?;
-    hear_second_pin(&rt, &mut process)?;
-    process.shows(&rt, 6, Zero);
-    process.has_changes(&rt, 1);
-    Ok(())
+    hear_second_pin(&rt, &mut process)
 }
 
 fn flop_tells(rt: &impl Abort, process: &mut Probe) -> Result<(), Fail> {
     process.tells(rt, &[Null(5)])?;
     process.answers(rt, 0, change(4, One), &[change(5, One), Null(9)])?;
     process.answers(rt, 0, change(5, Zero), &[])?;
-    process.answers(rt, 0, Null(10), &[change(9, Zero)])
+    process.answers(rt, 0, Null(10), &[change(9, Zero)])?;
+    assert_eq!(rt; process.process(rt).waveform().changes().len(), 2);
+    Ok(())
 }
 
 #[test]
 fn flop_process(rt: HostRuntime) -> Result<(), Fail> {
     let mut process = Probe::new(&rt, rt.alloc(), SAMPLER, b"", 4, b"q", 9)?;
-    flop_tells(&rt, &mut process)?;
-    process.has_changes(&rt, 2);
-    Ok(())
+    flop_tells(&rt, &mut process)
 }
 
 // The first pin is told a thousand changes over ten million ticks.

@@ -50,27 +50,15 @@ impl<const MOST: usize> Fabric for Rationed<MOST> {
     }
 }
 
-// A run of the circuit completes where this fabric carries as much as it sends, and else it fails.
-fn runs<F: Fabric>(
-    rt: &impl Abort,
-    alloc: Global,
-    circuit: Circuit,
-    horizon: u64,
-    completes: bool,
-) -> Result<(), Fail> {
-    let horizon = Horizon::new(horizon)?;
-    let design = circuit.build(alloc)?;
-    ends::<F>(rt, alloc, &design, horizon, completes)
-}
-
+// A run of the design completes where this fabric carries as much as it sends, and else it fails.
 fn ends<F: Fabric>(
     rt: &impl Abort,
     alloc: Global,
     design: &Design,
-    horizon: Horizon,
+    horizon: u64,
     completes: bool,
 ) -> Result<(), Fail> {
-    let mut kernel: Kernel<F> = Kernel::new(alloc, design, horizon)?;
+    let mut kernel: Kernel<F> = Kernel::new(alloc, design, Horizon::new(horizon)?)?;
     let answer = kernel.complete();
     assert_eq!(rt; answer == Err(KernelFault::Memory), !completes);
     assert_eq!(rt; answer == Ok(()), completes);
@@ -78,13 +66,22 @@ fn ends<F: Fabric>(
     Ok(())
 }
 
+// A run of the circuit completes over the fabric `F`, and fails over `G`.
+fn needs<F: Fabric, G: Fabric>(
+    rt: &impl Abort,
+    alloc: Global,
+    circuit: Circuit,
+    horizon: u64,
+) -> Result<(), Fail> {
+    let design = circuit.build(alloc)?;
+    ends::<F>(rt, alloc, &design, horizon, true)?;
+    ends::<G>(rt, alloc, &design, horizon, false)
+}
+
 // Each of these runs sends so many changes and null messages.
 #[test]
 fn carries_each_message(rt: HostRuntime) -> Result<(), Fail> {
-    runs::<Rationed<7>>(&rt, rt.alloc(), INVERTER, 5, true)?;
-    runs::<Rationed<6>>(&rt, rt.alloc(), INVERTER, 5, false)?;
-    runs::<Rationed<11>>(&rt, rt.alloc(), GATED_OSCILLATOR, 12, true)?;
-    runs::<Rationed<10>>(&rt, rt.alloc(), GATED_OSCILLATOR, 12, false)?;
-    runs::<Rationed<8>>(&rt, rt.alloc(), RING_COUNTER, 10, true)?;
-    runs::<Rationed<7>>(&rt, rt.alloc(), RING_COUNTER, 10, false)
+    needs::<Rationed<7>, Rationed<6>>(&rt, rt.alloc(), INVERTER, 5)?;
+    needs::<Rationed<11>, Rationed<10>>(&rt, rt.alloc(), GATED_OSCILLATOR, 12)?;
+    needs::<Rationed<8>, Rationed<7>>(&rt, rt.alloc(), RING_COUNTER, 10)
 }
