@@ -6,11 +6,12 @@ use std::test::Fail;
 // The most bytes that are read: one more than a text may have.
 const MOST_READ: usize = 16_777_217;
 
-/// Gives `z`s, at most so many a call: so many and then a fault, or for ever.
+/// Gives `z`s, at most so many a call: so many and then a fault of a kind, or for ever.
 #[derive(Drop)]
 struct Source {
     left: Option<usize>,
     a_call: usize,
+    kind: ErrorKind,
 }
 
 impl Read for Source {
@@ -18,7 +19,7 @@ impl Read for Source {
         let mut count = buf.len().min(self.a_call);
         if let Some(left) = self.left {
             if left == 0 {
-                return Err(io::Error::from(ErrorKind::Interrupted));
+                return Err(io::Error::from(self.kind));
             }
             count = count.min(left);
             self.left = Some(left - count);
@@ -54,6 +55,7 @@ fn a_fault_ends_the_reading(rt: HostRuntime) {
     let mut input = Source {
         left: Some(10),
         a_call: 4,
+        kind: ErrorKind::Interrupted,
     };
     let answer = read_text(rt.alloc(), &mut input);
     assert!(rt; matches!(&answer, Err(ReadFault::Read)));
@@ -65,6 +67,7 @@ fn an_endless_reader_is_left_at_the_limit(rt: HostRuntime) -> Result<(), Fail> {
     let mut input = Source {
         left: None,
         a_call: 5000,
+        kind: ErrorKind::Other,
     };
     let text = read_text(rt.alloc(), &mut input).map_err(|_| "a fault")?;
     assert_eq!(rt; text.len(), MOST_READ);
@@ -126,16 +129,27 @@ fn a_reader_that_fails_once(rt: HostRuntime) {
     }
 }
 
-/// Fails at every call.
-#[derive(Clone, Copy)]
-struct Broken {
-    kind: ErrorKind,
+// Where a deck can't be read to its end, or has none, nothing goes out.
+#[test]
+fn faulty_readers(rt: HostRuntime) {
+    for (left, a_call, status, fault) in [
+        (Some(10), 1, 3, "stdin:0: Read\n"),
+        (None, MOST_READ, 1, "deck:0: TooLong\n"),
+    ] {
+        let kind = ErrorKind::Other;
+        let mut input = Source { left, a_call, kind };
+        let mut out = Vec::new(rt.alloc());
+        let mut err = Vec::new(rt.alloc());
+        assert_eq!(rt; tell(rt.alloc(), &mut input, &mut out, &mut err), status);
+        assert!(rt; out.is_empty());
+        assert!(rt; err.as_slice() == fault.as_bytes());
+    }
 }
 
-impl Read for Broken {
-    fn read(&mut self, _buf: &mut [u8]) -> io::Result<usize> {
-        Err(io::Error::from(self.kind))
-    }
+/// Fails at every call.
+#[derive(Drop)]
+struct Broken {
+    kind: ErrorKind,
 }
 
 impl Write for Broken {
@@ -151,8 +165,12 @@ impl Write for Broken {
 #[test]
 fn a_failed_reader_and_a_failed_writer_of_faults(rt: HostRuntime) {
     for kind in [ErrorKind::Other, ErrorKind::Interrupted] {
-        let broken = Broken { kind };
-        let (mut input, mut err) = (broken, broken);
+        let mut input = Source {
+            left: Some(0),
+            a_call: 1,
+            kind,
+        };
+        let mut err = Broken { kind };
         let mut out = Vec::new(rt.alloc());
         assert_eq!(rt; tell(rt.alloc(), &mut input, &mut out, &mut err), 3);
         assert!(rt; out.is_empty());

@@ -60,7 +60,7 @@ fn noted(
 // The names that a command line asks for, each with a blank behind it, and with a mark before one
 // that could not be read.
 fn names_asked(alloc: Global, line: &str) -> Result<Vec<u8>, Fail> {
-    let words = words_of(alloc, line)?;
+    let words = words_of(alloc, line, "")?;
     let mut ledger = Ledger {
         alloc,
         shelf: Shelf::new(alloc),

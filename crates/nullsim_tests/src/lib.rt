@@ -16,8 +16,12 @@ mod inputs;
 #[cfg(test)]
 mod ledger;
 #[cfg(test)]
+mod plainly;
+#[cfg(test)]
 mod refusals;
 #[cfg(test)]
 mod running;
 #[cfg(test)]
 mod telling;
+#[cfg(test)]
+mod writers;

@@ -20,138 +20,133 @@ fn is_untouched(rt: &impl Abort, out: &Narrow, fault: &str) {
     assert_eq!(rt; out.flushes, 0, "at {fault}");
 }
 
-#[test]
-fn decks(rt: HostRuntime) {
-    for (deck, fault) in [
-        ("", "deck:1: BadDeck\n"),
-        ("nullsim 5", "deck:1: BadDeck\n"),
-        ("\n%nullsim 5\n", "deck:1: BadDeck\n"),
-        ("%nullsim 5 # c\n", "deck:1: BadDeck\n"),
-        ("%nullsim x\n%bench\n", "deck:1: BadDeck\n"),
-        ("%nullsim 5\nwords\n%bench\n", "deck:2: BadDeck\n"),
-        ("%nullsim 5\n\nx\n%bench\n", "deck:3: BadDeck\n"),
-        ("%nullsim 5\n%bench\n%bench\n", "deck:3: BadDeck\n"),
-        (
-            "%nullsim 5\n%bench\n%stimuli\n%bench\n",
-            "deck:4: BadDeck\n",
-        ),
-        (
-            "%nullsim 5\n%schedule\n%bench\nINPUT(a)\n%schedule\n",
-            "deck:5: BadDeck\n",
-        ),
-        (
-            "%nullsim 10000001\n%bench\nx y\n",
-            "options:0: BadHorizon\n",
-        ),
-        ("%nullsim 5", "bench:0: NoNets\n"),
-        ("%nullsim 5\n%bench\nx\n", "bench:1: BadLine\n"),
-        (
-            "%nullsim 5\n%bench\nINPUT(a)\n%delays\n\nzz 1\n",
-            "delays:2: UnknownNet\n",
-        ),
-        (
-            "%nullsim 5\n%bench\nINPUT(a)\n%stimuli\n0 a 2\n",
-            "stimuli:1: BadValue\n",
-        ),
-        (
-            "%nullsim 5\n%schedule\nAdvance y\n%bench\nINPUT(a)\ny = NOT(a)\n",
-            "schedule:1: BadLine\n",
-        ),
-        (
-            "%nullsim 5\n%bench\nINPUT(a)\n%schedule\n%foo\n",
-            "schedule:1: BadLine\n",
-        ),
-        // A fault of the stimuli comes first.
-        (
-            "%nullsim 5\n%schedule\nadvance zz\n%bench\nINPUT(a)\n%stimuli\n0 a 2\n",
-            "stimuli:1: BadValue\n",
-        ),
-    ] {
-        refuses(&rt, rt.alloc(), deck, fault);
-    }
-}
+/// The rest of a deck, and its fault line.
+type Row = (&'static str, &'static str);
 
-#[test]
-fn netlists(rt: HostRuntime) -> Result<(), Fail> {
-    for (bench, fault) in [
-        ("", "bench:0: NoNets\n"),
-        ("INPUT(a)\nINPUT(b\x0B)\n", "bench:2: BadByte\n"),
-        ("\n\nINPUT(a) b\n", "bench:3: BadLine\n"),
-        ("INPUT(a)\ny = MUX(a)\n", "bench:2: UnknownGate\n"),
-        ("INPUT(a)\n\n\ny = NOT(a, a)\n", "bench:4: BadArity\n"),
-        (
-            "INPUT(a)\nb = NOT(a)\na = NOT(b)\n",
-            "bench:3: DefinedTwice\n",
-        ),
-        ("INPUT(a)\ny = NOT(a)\nOUTPUT(z)\n", "bench:3: Undefined\n"),
-        (
-            "INPUT(a)\nOUTPUT(a)\nINPUT(\
+// The parts of a deck, the horizon, and which text is looked at first.
+static DECKS: [Row; 18] = [
+    ("", "deck:1: BadDeck\n"),
+    ("nullsim 5", "deck:1: BadDeck\n"),
+    ("\n%nullsim 5\n", "deck:1: BadDeck\n"),
+    ("%nullsim 5 # c\n", "deck:1: BadDeck\n"),
+    ("%nullsim x\n%bench\n", "deck:1: BadDeck\n"),
+    ("%nullsim 5\nwords\n%bench\n", "deck:2: BadDeck\n"),
+    ("%nullsim 5\n\nx\n%bench\n", "deck:3: BadDeck\n"),
+    ("%nullsim 5\n%bench\n%bench\n", "deck:3: BadDeck\n"),
+    (
+        "%nullsim 5\n%bench\n%stimuli\n%bench\n",
+        "deck:4: BadDeck\n",
+    ),
+    (
+        "%nullsim 5\n%schedule\n%bench\nINPUT(a)\n%schedule\n",
+        "deck:5: BadDeck\n",
+    ),
+    (
+        "%nullsim 10000001\n%bench\nx y\n",
+        "options:0: BadHorizon\n",
+    ),
+    ("%nullsim 5", "bench:0: NoNets\n"),
+    ("%nullsim 5\n%bench\nx\n", "bench:1: BadLine\n"),
+    (
+        "%nullsim 5\n%bench\nINPUT(a)\n%delays\n\nzz 1\n",
+        "delays:2: UnknownNet\n",
+    ),
+    (
+        "%nullsim 5\n%bench\nINPUT(a)\n%stimuli\n0 a 2\n",
+        "stimuli:1: BadValue\n",
+    ),
+    (
+        "%nullsim 5\n%schedule\nAdvance y\n%bench\nINPUT(a)\ny = NOT(a)\n",
+        "schedule:1: BadLine\n",
+    ),
+    (
+        "%nullsim 5\n%bench\nINPUT(a)\n%schedule\n%foo\n",
+        "schedule:1: BadLine\n",
+    ),
+    // A fault of the stimuli comes first.
+    (
+        "%nullsim 5\n%schedule\nadvance zz\n%bench\nINPUT(a)\n%stimuli\n0 a 2\n",
+        "stimuli:1: BadValue\n",
+    ),
+];
+
+// Each fault of a netlist.
+static NETLISTS: [Row; 8] = [
+    ("", "bench:0: NoNets\n"),
+    ("INPUT(a)\nINPUT(b\x0B)\n", "bench:2: BadByte\n"),
+    ("\n\nINPUT(a) b\n", "bench:3: BadLine\n"),
+    ("INPUT(a)\ny = MUX(a)\n", "bench:2: UnknownGate\n"),
+    ("INPUT(a)\n\n\ny = NOT(a, a)\n", "bench:4: BadArity\n"),
+    (
+        "INPUT(a)\nb = NOT(a)\na = NOT(b)\n",
+        "bench:3: DefinedTwice\n",
+    ),
+    ("INPUT(a)\ny = NOT(a)\nOUTPUT(z)\n", "bench:3: Undefined\n"),
+    (
+        "INPUT(a)\nOUTPUT(a)\nINPUT(\
              nnnnnnnnnnnnnnnnnnnnnnnnnnnnnnnnnnnnnnnnnnnnnnnnnnnnnnnnnnnnnnnn\
              nnnnnnnnnnnnnnnnnnnnnnnnnnnnnnnnnnnnnnnnnnnnnnnnnnnnnnnnnnnnnnnn\
              nnnnnnnnnnnnnnnnnnnnnnnnnnnnnnnnnnnnnnnnnnnnnnnnnnnnnnnnnnnnnnnn\
              nnnnnnnnnnnnnnnnnnnnnnnnnnnnnnnnnnnnnnnnnnnnnnnnnnnnnnnnnnnnnnnn)\n",
-            "bench:3: NameTooLong\n",
-        ),
-    ] {
-        let deck = format!(in rt.alloc(); "%nullsim 5\n%bench\n{bench}")?;
-        refuses(&rt, rt.alloc(), deck.as_str(), fault);
-    }
-    Ok(())
-}
+        "bench:3: NameTooLong\n",
+    ),
+];
+
+// Each fault of a text of delays, behind an inverter.
+static DELAYS: [Row; 6] = [
+    ("y 2 3\n", "delays:1: BadLine\n"),
+    ("# none\nzz 2\n", "delays:2: UnknownNet\n"),
+    ("\n\na 2\n", "delays:3: IsInput\n"),
+    ("\ny 0\n", "delays:2: BadTicks\n"),
+    ("y 1000001\n", "delays:1: BadTicks\n"),
+    ("y 2\n\n\ny 2\n", "delays:4: Twice\n"),
+];
+
+// Each fault of a text of stimuli.
+static STIMULI: [Row; 6] = [
+    ("0 a\n", "stimuli:1: BadLine\n"),
+    ("\n0 zz 1\n", "stimuli:2: UnknownNet\n"),
+    ("0 a 1\n\n3 y 1\n", "stimuli:3: NotAnInput\n"),
+    ("0 a 1\n10000001 a 0\n", "stimuli:2: TickTooLarge\n"),
+    ("0 a z\n", "stimuli:1: BadValue\n"),
+    ("3 a 1\n# again\n\n3 a 1\n", "stimuli:4: NotRising\n"),
+];
+
+// Each fault of a schedule.
+static SCHEDULES: [Row; 6] = [
+    ("deliver y 1\n", "schedule:1: BadPin\n"),
+    ("advance y 0\n", "schedule:1: BadLine\n"),
+    ("advance y\nadvance zz\n", "schedule:2: UnknownNet\n"),
+    ("\nadvance y\nadvance zz\n", "schedule:3: UnknownNet\n"),
+    ("\n\ndeliver y 1\n", "schedule:3: BadPin\n"),
+    (
+        "deliver y 9999999999999999999999999999999999999999\n",
+        "schedule:1: BadPin\n",
+    ),
+];
 
 #[test]
-fn delays(rt: HostRuntime) -> Result<(), Fail> {
-    for (delays, fault) in [
-        ("y 2 3\n", "delays:1: BadLine\n"),
-        ("# none\nzz 2\n", "delays:2: UnknownNet\n"),
-        ("\n\na 2\n", "delays:3: IsInput\n"),
-        ("\ny 0\n", "delays:2: BadTicks\n"),
-        ("y 1000001\n", "delays:1: BadTicks\n"),
-        ("y 2\n\n\ny 2\n", "delays:4: Twice\n"),
-    ] {
-        let deck = format!(in rt.alloc();
-            "%nullsim 5\n%bench\nINPUT(a)\ny = NOT(a)\n%delays\n{delays}"
-        )?;
-        refuses(&rt, rt.alloc(), deck.as_str(), fault);
-    }
-    Ok(())
-}
-
-#[test]
-fn stimuli(rt: HostRuntime) -> Result<(), Fail> {
-    for (stimuli, fault) in [
-        ("0 a\n", "stimuli:1: BadLine\n"),
-        ("\n0 zz 1\n", "stimuli:2: UnknownNet\n"),
-        ("0 a 1\n\n3 y 1\n", "stimuli:3: NotAnInput\n"),
-        ("0 a 1\n10000001 a 0\n", "stimuli:2: TickTooLarge\n"),
-        ("0 a z\n", "stimuli:1: BadValue\n"),
-        ("3 a 1\n# again\n\n3 a 1\n", "stimuli:4: NotRising\n"),
-    ] {
-        let deck = format!(in rt.alloc();
-            "%nullsim 5\n%bench\nINPUT(a)\ny = NOT(a)\n%stimuli\n{stimuli}"
-        )?;
-        refuses(&rt, rt.alloc(), deck.as_str(), fault);
-    }
-    Ok(())
-}
-
-#[test]
-fn schedules(rt: HostRuntime) -> Result<(), Fail> {
-    for (schedule, fault) in [
-        ("deliver y 1\n", "schedule:1: BadPin\n"),
-        ("advance y 0\n", "schedule:1: BadLine\n"),
-        ("advance y\nadvance zz\n", "schedule:2: UnknownNet\n"),
-        ("\nadvance y\nadvance zz\n", "schedule:3: UnknownNet\n"),
-        ("\n\ndeliver y 1\n", "schedule:3: BadPin\n"),
+fn faulty_decks(rt: HostRuntime) -> Result<(), Fail> {
+    for (start, table) in [
+        ("", DECKS.as_slice()),
+        ("%nullsim 5\n%bench\n", NETLISTS.as_slice()),
         (
-            "deliver y 9999999999999999999999999999999999999999\n",
-            "schedule:1: BadPin\n",
+            "%nullsim 5\n%bench\nINPUT(a)\ny = NOT(a)\n%delays\n",
+            DELAYS.as_slice(),
+        ),
+        (
+            "%nullsim 5\n%bench\nINPUT(a)\ny = NOT(a)\n%stimuli\n",
+            STIMULI.as_slice(),
+        ),
+        (
+            "%nullsim 5\n%bench\nINPUT(a)\ny = NOT(a)\n%schedule\n",
+            SCHEDULES.as_slice(),
         ),
     ] {
-        let deck = format!(in rt.alloc();
-            "%nullsim 5\n%bench\nINPUT(a)\ny = NOT(a)\n%schedule\n{schedule}"
-        )?;
-        refuses(&rt, rt.alloc(), deck.as_str(), fault);
+        for &(rest, fault) in table {
+            let deck = format!(in rt.alloc(); "{start}{rest}")?;
+            refuses(&rt, rt.alloc(), deck.as_str(), fault);
+        }
     }
     Ok(())
 }

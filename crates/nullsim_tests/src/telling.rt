@@ -1,21 +1,20 @@
-//! Decks through `tell`: dumps byte for byte, faulty streams.
-use cmb_kernel::Counts;
+//! Decks through `tell`: dumps byte for byte, reports, faulty writers.
+use crate::commanding::contains;
 use nullsim::{Report, deck, tell};
 use std::alloc::{AllocError, Global};
-use std::io::{self, ErrorKind, Read};
 use std::process::Abort;
 use std::test::Fail;
 use worked_examples::Narrow;
 use worked_examples::dumps::{CONTROLLED_DUMP, CROSSING_DUMP, INVERTER_DUMP, SLOW_DUMP};
 
-// `tell` carries the deck out: this dump goes out, and nothing to standard error.
-fn tells(rt: &impl Abort, alloc: Global, deck: &[u8], dump: &[u8]) {
+// What goes out for the deck, which is carried out: nothing goes to standard error.
+fn out_of(rt: &impl Abort, alloc: Global, deck: &[u8]) -> Vec<u8> {
     let mut input = deck;
     let mut out = Vec::new(alloc);
     let mut err = Vec::new(alloc);
     assert_eq!(rt; tell(alloc, &mut input, &mut out, &mut err), 0);
-    assert!(rt; out.as_slice() == dump);
     assert!(rt; err.is_empty());
+    out
 }
 
 const INVERTER: &[u8] =
@@ -65,113 +64,79 @@ fn worked_decks(rt: HostRuntime) {
             INVERTER_DUMP,
         ),
     ] {
-        tells(&rt, rt.alloc(), deck, dump);
+        let out = out_of(&rt, rt.alloc(), deck);
+        assert!(rt; out.as_slice() == dump);
     }
 }
 
-// So many events come before the rounds, and then each net is known up to this tick.
-fn comes_before(rt: &impl Abort, report: &Report, events: u64, least: u64) {
+// So many events come before the rounds of the deck, and then each net is known up to this tick.
+fn report_of(
+    rt: &impl Abort,
+    alloc: Global,
+    text: &[u8],
+    out: &mut Vec<u8>,
+    events: u64,
+    least: u64,
+) -> Result<Report, Fail> {
+    let report = deck(alloc, text, out)?;
     assert_eq!(rt; report.after.events, events);
     assert_eq!(rt; report.least, least);
+    Ok(report)
 }
 
-fn total_is(rt: &impl Abort, total: Counts, wanted: [u64; 4]) {
-    let counts = [total.events, total.changes, total.nulls, total.rounds];
-    assert_eq!(rt; counts, wanted);
-}
-
+// Without a schedule, and with one after which the rounds find nothing to do.
 #[test]
-fn report_of_a_deck(rt: HostRuntime) -> Result<(), Fail> {
+fn reports(rt: HostRuntime) -> Result<(), Fail> {
     let mut out = Vec::new(rt.alloc());
-    let report = deck(rt.alloc(), INVERTER, &mut out)?;
+    let total = report_of(&rt, rt.alloc(), INVERTER, &mut out, 0, 0)?.total;
     assert!(rt; out.as_slice() == INVERTER_DUMP);
-    comes_before(&rt, &report, 0, 0);
-    total_is(&rt, report.total, [7, 4, 3, 2]);
-    report_of_a_schedule(&rt, rt.alloc())
-}
-
-fn report_of_a_schedule(rt: &impl Abort, alloc: Global) -> Result<(), Fail> {
+    let counts = [total.events, total.changes, total.nulls, total.rounds];
+    assert_eq!(rt; counts, [7, 4, 3, 2]);
     let scheduled =
         b"%nullsim 5\n%bench\nINPUT(a)\ny = NOT(a)\n%schedule\nadvance a\ndeliver y 0\nadvance y\n";
-    let mut out = Vec::new(alloc);
-    let report = deck(alloc, scheduled, &mut out)?;
-    comes_before(rt, &report, 3, 6);
+    let report = report_of(&rt, rt.alloc(), scheduled, &mut out, 3, 6)?;
     assert_eq!(rt; report.total, report.after);
     Ok(())
 }
 
-// Gives some bytes, one a call, and then fails; or gives bytes for ever.
-#[derive(Drop)]
-struct Faulty {
-    left: Option<usize>,
-}
-
-impl Read for Faulty {
-    fn read(&mut self, buf: &mut [u8]) -> io::Result<usize> {
-        let most = match self.left {
-            None => buf.len(),
-            Some(0) => return Err(io::Error::from(ErrorKind::Other)),
-            Some(left) => {
-                self.left = Some(left - 1);
-                buf.len().min(1)
-            }
-        };
-        for byte in &mut buf[..most] {
-            *byte = b'z';
-        }
-        Ok(most)
-    }
-}
-
-#[test]
-fn faulty_readers(rt: HostRuntime) {
-    for (left, status, fault) in [
-        (Some(10), 3, b"stdin:0: Read\n".as_slice()),
-        (None, 1, b"deck:0: TooLong\n".as_slice()),
-    ] {
-        let mut input = Faulty { left };
-        let mut out = Vec::new(rt.alloc());
-        let mut err = Vec::new(rt.alloc());
-        assert_eq!(rt; tell(rt.alloc(), &mut input, &mut out, &mut err), status);
-        assert!(rt; out.is_empty());
-        assert!(rt; err.as_slice() == fault);
-    }
+// The writer took so much of the inverter's dump, and was flushed so often.
+fn took_part(rt: &impl Abort, out: &Narrow, took: usize, flushes: u32) {
+    assert_eq!(rt; out.taken.len(), took);
+    assert!(rt; INVERTER_DUMP.starts_with(out.taken.as_slice()));
+    assert_eq!(rt; out.flushes, flushes);
 }
 
 // What `tell` answers to the inverter's deck, and the fault line.
-fn tell_inverter(rt: &impl Abort, alloc: Global, out: &mut Narrow, status: u8, fault: &[u8]) {
+fn tell_inverter(rt: &impl Abort, alloc: Global, out: &mut Narrow, status: u8, fault: &str) {
     let mut input = INVERTER;
     let mut err = Vec::new(alloc);
     assert_eq!(rt; tell(alloc, &mut input, out, &mut err), status);
-    assert!(rt; err.as_slice() == fault);
+    assert!(rt; err.as_slice() == fault.as_bytes());
 }
 
+// The room of a writer, how many bytes it takes a call, whether it fails where there is no room or takes
+// nothing, and whether its flush fails; the exit status, the fault line, what it took, and how often
+// it was flushed.
 #[test]
 fn short_writers(rt: HostRuntime) {
-    for most in [1, 7, 1000] {
-        let mut out = Narrow::new(rt.alloc(), 190, most);
-        tell_inverter(&rt, rt.alloc(), &mut out, 0, b"");
-        assert!(rt; out.taken.as_slice() == INVERTER_DUMP);
-        assert_eq!(rt; out.flushes, 1);
-
-        let mut out = Narrow::new(rt.alloc(), 40, most);
-        tell_inverter(&rt, rt.alloc(), &mut out, 3, b"stdout:0: Write\n");
-        assert!(rt; out.taken.as_slice() == &INVERTER_DUMP[..40]);
-
-        let mut out = Narrow::new(rt.alloc(), 40, most);
-        out.fails = false;
-        tell_inverter(&rt, rt.alloc(), &mut out, 3, b"stdout:0: WroteNothing\n");
-        assert!(rt; out.taken.as_slice() == &INVERTER_DUMP[..40]);
+    for (room, most, fails, flush_fails, status, fault, took, flushes) in [
+        (190, 1, true, false, 0, "", 190, 1),
+        (190, 7, true, false, 0, "", 190, 1),
+        (190, 1000, true, false, 0, "", 190, 1),
+        (40, 1, true, false, 3, "stdout:0: Write\n", 40, 0),
+        (40, 7, true, false, 3, "stdout:0: Write\n", 40, 0),
+        (40, 1000, true, false, 3, "stdout:0: Write\n", 40, 0),
+        (40, 1, false, false, 3, "stdout:0: WroteNothing\n", 40, 0),
+        (40, 7, false, false, 3, "stdout:0: WroteNothing\n", 40, 0),
+        (40, 1000, false, false, 3, "stdout:0: WroteNothing\n", 40, 0),
+        (1000, 1000, true, true, 3, "stdout:0: Write\n", 190, 1),
+    ] {
+        let mut out = Narrow::new(rt.alloc(), room, most);
+        out.fails = fails;
+        out.flush_fails = flush_fails;
+        tell_inverter(&rt, rt.alloc(), &mut out, status, fault);
+        took_part(&rt, &out, took, flushes);
     }
-}
-
-#[test]
-fn a_flush_that_fails(rt: HostRuntime) {
-    let mut out = Narrow::new(rt.alloc(), 1000, 1000);
-    out.flush_fails = true;
-    tell_inverter(&rt, rt.alloc(), &mut out, 3, b"stdout:0: Write\n");
-    assert!(rt; out.taken.as_slice() == INVERTER_DUMP);
-    assert_eq!(rt; out.flushes, 1);
 }
 
 // A deck of ninety-six inputs.
@@ -183,23 +148,10 @@ fn deck_of_inputs(alloc: Global) -> Result<String, AllocError> {
     Ok(deck)
 }
 
-// What goes out for the deck, which is carried out.
-fn out_of(rt: &impl Abort, alloc: Global, deck: &str) -> Vec<u8> {
-    let mut input = deck.as_bytes();
-    let mut out = Vec::new(alloc);
-    let mut err = Vec::new(alloc);
-    assert_eq!(rt; tell(alloc, &mut input, &mut out, &mut err), 0);
-    out
-}
-
-fn contains(out: &[u8], line: &[u8]) -> bool {
-    !line.is_empty() && out.windows(line.len()).any(|part| part == line)
-}
-
 #[test]
 fn many_codes(rt: HostRuntime) -> Result<(), Fail> {
     let deck = deck_of_inputs(rt.alloc())?;
-    let out = out_of(&rt, rt.alloc(), deck.as_str());
+    let out = out_of(&rt, rt.alloc(), deck.as_str().as_bytes());
     for line in [
         b"\n$var wire 1 ! n0 $end\n".as_slice(),
         b"\n$var wire 1 ~ n93 $end\n".as_slice(),

@@ -3,40 +3,46 @@ use bench_text::BenchFault;
 use runs::{SimFault, cone_text};
 use std::alloc::{AllocError, Global};
 
-// Adds a gate of this name with so many pins at the input, which has a name of sixteen bytes.
-fn push_gate(text: &mut Vec<u8>, name: &str, pins: u32) -> Result<(), AllocError> {
-    text.extend_from_slice(name.as_bytes())?;
+// Adds the name of the gate of this number.
+fn push_name(text: &mut Vec<u8>, number: u32) -> Result<(), AllocError> {
+    let digits = number.to_string(*text.allocator())?;
+    text.push(b'g')?;
+    text.extend_from_slice(digits.as_bytes())
+}
+
+// Adds the gate of this number with 1,024 pins at the input, which has a name of sixteen bytes.
+fn push_gate(text: &mut Vec<u8>, number: u32) -> Result<(), AllocError> {
+    push_name(text, number)?;
     text.extend_from_slice(b"=AND(")?;
-    for _ in 1..pins {
+    for _ in 1..1024u32 {
         text.extend_from_slice(b"sixteen-bytes-it,")?;
     }
     text.extend_from_slice(b"sixteen-bytes-it)\n")
 }
 
-// An input and so many gates of 1,024 pins at it, and a gate whose pins are those gates.
+// An input and so many gates at it, and a gate whose pins are those gates.
 fn wide(alloc: Global, gates: u32) -> Result<Vec<u8>, AllocError> {
     let mut text = Vec::from_slice(alloc, b"INPUT(sixteen-bytes-it)\n")?;
-    let mut last = Vec::from_slice(alloc, b"y=AND(g0")?;
-    push_gate(&mut text, "g0", 1024)?;
-    for number in 1..gates {
-        let name = format!(in alloc; "g{number}")?;
-        push_gate(&mut text, name.as_str(), 1024)?;
-        last.push(b',')?;
-        last.extend_from_slice(name.as_bytes())?;
+    for number in 0..gates {
+        push_gate(&mut text, number)?;
     }
-    last.push(b')')?;
-    text.extend_from_slice(last.as_slice())?;
+    text.extend_from_slice(b"y=AND(g0")?;
+    for number in 1..gates {
+        text.push(b',')?;
+        push_name(&mut text, number)?;
+    }
+    text.push(b')')?;
     Ok(text)
 }
 
 // The text that is read has no spaces; the one that is written would be too long with them.
 #[test]
 fn too_long_to_write(rt: HostRuntime) -> Result<(), AllocError> {
-    for (gates, too_long) in [(100, false), (960, true)] {
+    let too_long = SimFault::Bench(BenchFault::TooLong);
+    for (gates, fault) in [(100, None), (960, Some(too_long))] {
         let bench = wide(rt.alloc(), gates)?;
         let answer = cone_text(rt.alloc(), bench.as_slice(), &[b"y".as_slice()]);
-        let fault = Some(SimFault::Bench(BenchFault::TooLong));
-        assert_eq!(rt; answer.err(), fault.filter(|_| too_long));
+        assert_eq!(rt; answer.err(), fault);
     }
     Ok(())
 }

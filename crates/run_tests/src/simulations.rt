@@ -61,7 +61,8 @@ const RING_COUNTER: Source<'static> = Source {
     ..INVERTER
 };
 
-fn counts(events: u64, changes: u64, nulls: u64, rounds: u64) -> Counts {
+// The events, changes, null messages and rounds.
+fn counts([events, changes, nulls, rounds]: [u64; 4]) -> Counts {
     Counts {
         events,
         changes,
@@ -87,87 +88,126 @@ fn dumps_plainly(rt: &impl Abort, alloc: Global, source: &Source, view: &View, d
 }
 
 // The run ends with this report and this dump, which is the plain engine's too.
-fn runs(rt: &impl Abort, alloc: Global, source: Source, horizon: u64, report: Report, dump: &[u8]) {
-    let view = all_up_to(horizon);
-    let mut out = Vec::new(alloc);
-    assert_eq!(rt; simulate(alloc, &source, &view, &mut out), Ok(report));
-    assert!(rt; out.as_slice() == dump);
-    dumps_plainly(rt, alloc, &source, &view, dump);
-}
-
-// The same of a run without any events before its rounds.
-fn completes(
+fn runs(
     rt: &impl Abort,
     alloc: Global,
-    source: Source,
+    source: &Source,
     horizon: u64,
-    total: (u64, u64, u64, u64),
+    report: Report,
     dump: &[u8],
 ) {
-    let (events, changes, nulls, rounds) = total;
-    let report = Report {
-        after: counts(0, 0, 0, 0),
-        least: 0,
-        total: counts(events, changes, nulls, rounds),
-    };
-    runs(rt, alloc, source, horizon, report, dump);
+    let view = all_up_to(horizon);
+    let mut out = Vec::new(alloc);
+    assert_eq!(rt; simulate(alloc, source, &view, &mut out), Ok(report));
+    assert!(rt; out.as_slice() == dump);
+    dumps_plainly(rt, alloc, source, &view, dump);
 }
+
+const DELIVERIES: &[u8] = b"deliver b 0\ndeliver y 0\ndeliver y 1\n";
+
+const AHEAD: &[u8] = b"advance a\ndeliver b 0\nadvance b\n";
+
+const FIFTY: &[u8] = b"advance y\nadvance y\nadvance y\nadvance y\nadvance y\n\
+      advance y\nadvance y\nadvance y\nadvance y\nadvance y\n\
+      advance y\nadvance y\nadvance y\nadvance y\nadvance y\n\
+      advance y\nadvance y\nadvance y\nadvance y\nadvance y\n\
+      advance y\nadvance y\nadvance y\nadvance y\nadvance y\n\
+      advance y\nadvance y\nadvance y\nadvance y\nadvance y\n\
+      advance y\nadvance y\nadvance y\nadvance y\nadvance y\n\
+      advance y\nadvance y\nadvance y\nadvance y\nadvance y\n\
+      advance y\nadvance y\nadvance y\nadvance y\nadvance y\n\
+      advance y\nadvance y\nadvance y\nadvance y\nadvance y\n";
+
+/// A run up to a tick, what was counted before its rounds and in all, and its dump.
+type Run = (Source<'static>, u64, [u64; 4], [u64; 4], &'static [u8]);
+
+// What is counted and dumped, without schedules and with them.
+static RUNS: [Run; 11] = [
+    (INVERTER, 5, [0, 0, 0, 0], [7, 4, 3, 2], INVERTER_DUMP),
+    (SLOW_INVERTER, 5, [0, 0, 0, 0], [2, 2, 2, 1], SLOW_DUMP),
+    (EDGE, 8, [0, 0, 0, 0], [19, 7, 6, 3], EDGE_DUMP),
+    // Circuits with memory.
+    (
+        SELF_INVERTER,
+        3,
+        [0, 0, 0, 0],
+        [7, 0, 4, 4],
+        SELF_INVERTER_DUMP,
+    ),
+    (OSCILLATOR, 12, [0, 0, 0, 0], [24, 6, 5, 7], OSCILLATOR_DUMP),
+    (SAMPLER, 9, [0, 0, 0, 0], [7, 4, 2, 2], SAMPLER_DUMP),
+    (
+        RING_COUNTER,
+        10,
+        [0, 0, 0, 0],
+        [21, 0, 8, 7],
+        RING_COUNTER_DUMP,
+    ),
+    // Under schedules.
+    (
+        Source {
+            picks: Picks::Text(b""),
+            ..EDGE
+        },
+        8,
+        [0, 0, 0, 0],
+        [19, 7, 6, 3],
+        EDGE_DUMP,
+    ),
+    (
+        Source {
+            picks: Picks::Text(FIFTY),
+            ..EDGE
+        },
+        8,
+        [50, 0, 1, 0],
+        [69, 7, 6, 3],
+        EDGE_DUMP,
+    ),
+    (
+        Source {
+            picks: Picks::Text(DELIVERIES),
+            ..EDGE
+        },
+        8,
+        [3, 0, 0, 0],
+        [22, 7, 6, 3],
+        EDGE_DUMP,
+    ),
+    (
+        Source {
+            picks: Picks::Text(AHEAD),
+            ..EDGE
+        },
+        8,
+        [3, 3, 1, 0],
+        [17, 7, 3, 2],
+        EDGE_DUMP,
+    ),
+];
 
 #[test]
 fn worked_runs(rt: HostRuntime) {
     assert_eq!(rt; INVERTER_DUMP.len(), 190);
-    for (source, horizon, total, dump) in [
-        (INVERTER, 5, (7, 4, 3, 2), INVERTER_DUMP),
-        (INVERTER, 0, (2, 1, 1, 1), &INVERTER_DUMP[..169]),
-        (SLOW_INVERTER, 5, (2, 2, 2, 1), SLOW_DUMP),
-        (EDGE, 8, (19, 7, 6, 3), EDGE_DUMP),
-    ] {
-        completes(&rt, rt.alloc(), source, horizon, total, dump);
-    }
-}
-
-#[test]
-fn worked_runs_with_memory(rt: HostRuntime) {
-    for (source, horizon, total, dump) in [
-        (SELF_INVERTER, 3, (7, 0, 4, 4), SELF_INVERTER_DUMP),
-        (OSCILLATOR, 12, (24, 6, 5, 7), OSCILLATOR_DUMP),
-        (SAMPLER, 9, (7, 4, 2, 2), SAMPLER_DUMP),
-        (RING_COUNTER, 10, (21, 0, 8, 7), RING_COUNTER_DUMP),
-    ] {
-        completes(&rt, rt.alloc(), source, horizon, total, dump);
-    }
-}
-
-#[test]
-fn schedules(rt: HostRuntime) {
-    let advance_y = [*b"advance y\n"; 50];
-    let deliveries = b"deliver b 0\ndeliver y 0\ndeliver y 1\n";
-    let ahead = b"advance a\ndeliver b 0\nadvance b\n";
-    for (text, after, total) in [
-        (b"".as_slice(), counts(0, 0, 0, 0), counts(19, 7, 6, 3)),
-        (
-            advance_y.as_flattened(),
-            counts(50, 0, 1, 0),
-            counts(69, 7, 6, 3),
-        ),
-        (
-            deliveries.as_slice(),
-            counts(3, 0, 0, 0),
-            counts(22, 7, 6, 3),
-        ),
-        (ahead.as_slice(), counts(3, 3, 1, 0), counts(17, 7, 3, 2)),
-    ] {
-        let source = Source {
-            picks: Picks::Text(text),
-            ..EDGE
-        };
+    for &(source, horizon, after, total, dump) in &RUNS {
         let report = Report {
-            after,
+            after: counts(after),
             least: 0,
-            total,
+            total: counts(total),
         };
-        runs(&rt, rt.alloc(), source, 8, report, EDGE_DUMP);
+        runs(&rt, rt.alloc(), &source, horizon, report, dump);
     }
+}
+
+// Up to tick 0 the inverter's dump ends after the first values.
+#[test]
+fn first_tick(rt: HostRuntime) {
+    let report = Report {
+        after: counts([0, 0, 0, 0]),
+        least: 0,
+        total: counts([2, 1, 1, 1]),
+    };
+    runs(&rt, rt.alloc(), &INVERTER, 0, report, &INVERTER_DUMP[..169]);
 }
 
 #[test]
@@ -279,19 +319,15 @@ fn pieces_of_a_dump(rt: HostRuntime) {
 }
 
 // The dump of the outputs of a circuit, in picoseconds, up to tick 5.
-fn dumps_outputs(rt: &impl Abort, alloc: Global, source: Source, dump: &[u8]) {
+#[test]
+fn outputs_only(rt: HostRuntime) {
+    assert_eq!(rt; OUTPUTS_DUMP.len(), 160);
     let view = View {
         horizon: 5,
         show: Show::Outputs,
         unit: TimeUnit::Ps,
     };
-    dumps_plainly(rt, alloc, &source, &view, dump);
-}
-
-#[test]
-fn outputs_only(rt: HostRuntime) {
-    assert_eq!(rt; OUTPUTS_DUMP.len(), 160);
-    dumps_outputs(&rt, rt.alloc(), INVERTER, OUTPUTS_DUMP);
+    dumps_plainly(&rt, rt.alloc(), &INVERTER, &view, OUTPUTS_DUMP);
     let without_outputs = Source {
         bench: b"INPUT(a)",
         stimuli: b"",
@@ -299,5 +335,5 @@ fn outputs_only(rt: HostRuntime) {
     };
     let dump =
         b"$version nullsim 1 $end\n$timescale 1 ps $end\n$scope module top $end\n$upscope $end\n$enddefinitions $end\n#0\n$dumpvars\n$end\n#5\n";
-    dumps_outputs(&rt, rt.alloc(), without_outputs, dump);
+    dumps_plainly(&rt, rt.alloc(), &without_outputs, &view, dump);
 }

@@ -6,7 +6,6 @@ use runs::{
     CheckAnswer, Picks, Show, Side, SimFault, Source, TwinAnswer, TwinFault, View, check, simulate,
     twin,
 };
-use std::alloc::Global;
 use std::process::Abort;
 use std::test::Fail;
 use timing_text::{DelayFault, OptionFault, StimulusFault};
@@ -35,9 +34,143 @@ const FLOP: Source<'static> = Source {
     ..ONE
 };
 
-fn change(tick: u64, value: Value) -> Change {
-    Change { tick, value }
-}
+const S27: Source<'static> = Source {
+    bench: S27_BENCH,
+    stimuli: S27_STIMULI,
+    ..ONE
+};
+
+// What y shows, and what z does in the first circuit.
+const INVERTED: &[Change] = &[
+    Change {
+        tick: 1,
+        value: Value::One,
+    },
+    Change {
+        tick: 4,
+        value: Value::Zero,
+    },
+];
+
+const BOTH: &[Change] = &[
+    Change {
+        tick: 1,
+        value: Value::Zero,
+    },
+    Change {
+        tick: 4,
+        value: Value::One,
+    },
+];
+
+// y by a gate that takes two ticks.
+const LATE: &[Change] = &[
+    Change {
+        tick: 2,
+        value: Value::One,
+    },
+    Change {
+        tick: 5,
+        value: Value::Zero,
+    },
+];
+
+const SAMPLED: &[Change] = &[
+    Change {
+        tick: 5,
+        value: Value::One,
+    },
+    Change {
+        tick: 9,
+        value: Value::Zero,
+    },
+];
+
+// The output of the flip-flops' circuit, as reckoned by hand.
+const OUTPUT: &[Change] = &[
+    Change {
+        tick: 6,
+        value: Value::One,
+    },
+    Change {
+        tick: 27,
+        value: Value::Zero,
+    },
+];
+
+const DRIVEN_ON: Source<'static> = Source {
+    stimuli: b"0 a 0\n3 a 1\n0 b 1\n6 a 0\n",
+    ..OTHER
+};
+
+const SCHEDULED: Source<'static> = Source {
+    picks: Picks::Text(b"advance y\nadvance a\ndeliver y 0\n"),
+    ..ONE
+};
+
+const PICKED: Source<'static> = Source {
+    picks: Picks::Seeded {
+        seed: 7,
+        picks: 1_000,
+    },
+    ..OTHER
+};
+
+const SLOW_BESIDE: Source<'static> = Source {
+    delays: b"z 7\n",
+    period: 3,
+    ..ONE
+};
+
+const UNDRIVEN_BESIDE: Source<'static> = Source {
+    stimuli: b"0 a 0\n3 a 1\n",
+    ..ONE
+};
+
+const PICKED_S27: Source<'static> = Source {
+    picks: Picks::Seeded {
+        seed: 1,
+        picks: 500,
+    },
+    ..S27
+};
+
+const SLOW: Source<'static> = Source {
+    delays: b"y 2\n",
+    ..ONE
+};
+
+const OTHER_CLOCK: Source<'static> = Source { period: 10, ..FLOP };
+
+/// Two sources, the name of the net and the horizon; whether they agree, and the changes that each shows.
+type Compared = (
+    Source<'static>,
+    Source<'static>,
+    &'static [u8],
+    u64,
+    bool,
+    &'static [Change],
+    &'static [Change],
+);
+
+// One net in two runs.
+static COMPARED: [Compared; 12] = [
+    (ONE, OTHER, b"y", 5, true, INVERTED, INVERTED),
+    (OTHER, ONE, b"y", 5, true, INVERTED, INVERTED),
+    (ONE, OTHER, b"z", 5, false, BOTH, INVERTED),
+    // A change of an input past the horizon plays no part; one at the horizon does.
+    (ONE, DRIVEN_ON, b"y", 5, true, INVERTED, INVERTED),
+    (ONE, DRIVEN_ON, b"y", 6, false, INVERTED, INVERTED),
+    // Neither what is picked nor what is beside the cone plays a part.
+    (ONE, SCHEDULED, b"y", 5, true, INVERTED, INVERTED),
+    (ONE, PICKED, b"y", 5, true, INVERTED, INVERTED),
+    (ONE, SLOW_BESIDE, b"y", 5, true, INVERTED, INVERTED),
+    (ONE, UNDRIVEN_BESIDE, b"y", 5, true, INVERTED, INVERTED),
+    (S27, PICKED_S27, b"G17", 35, true, OUTPUT, OUTPUT),
+    // A delay and a period do.
+    (SLOW, ONE, b"y", 5, false, LATE, INVERTED),
+    (FLOP, OTHER_CLOCK, b"q", 9, false, SAMPLED, &[]),
+];
 
 // The waveform is X before its first change, and has just these changes.
 fn is_wave(rt: &impl Abort, wave: &Waveform, changes: &[Change]) {
@@ -52,78 +185,11 @@ fn says(rt: &impl Abort, answer: &TwinAnswer, agree: bool, first: &[Change], sec
     is_wave(rt, &answer.second, second);
 }
 
-// The same of the net of this name in two sources, up to tick 5.
-fn compares(
-    rt: &impl Abort,
-    alloc: Global,
-    sides: (&Source, &Source),
-    name: &[u8],
-    agree: bool,
-    first: &[Change],
-    second: &[Change],
-) -> Result<(), Fail> {
-    let answer = twin(alloc, sides.0, sides.1, name, 5)?;
-    says(rt, &answer, agree, first, second);
-    Ok(())
-}
-
 #[test]
-fn a_net_of_two_circuits(rt: HostRuntime) -> Result<(), Fail> {
-    let inverted = [change(1, Value::One), change(4, Value::Zero)];
-    let both = [change(1, Value::Zero), change(4, Value::One)];
-    for (sides, name, agree, first) in [
-        ((&ONE, &OTHER), b"y", true, &inverted),
-        ((&OTHER, &ONE), b"y", true, &inverted),
-        ((&ONE, &OTHER), b"z", false, &both),
-    ] {
-        compares(&rt, rt.alloc(), sides, name, agree, first, &inverted)?;
-    }
-    Ok(())
-}
-
-// A change of an input past the horizon plays no part; one at the horizon does.
-#[test]
-fn stimuli_about_the_horizon(rt: HostRuntime) -> Result<(), Fail> {
-    let inverted = [change(1, Value::One), change(4, Value::Zero)];
-    let more = Source {
-        stimuli: b"0 a 0\n3 a 1\n0 b 1\n6 a 0\n",
-        ..OTHER
-    };
-    for (horizon, agree) in [(5, true), (6, false)] {
-        let answer = twin(rt.alloc(), &ONE, &more, b"y", horizon)?;
-        says(&rt, &answer, agree, &inverted, &inverted);
-    }
-    Ok(())
-}
-
-// Neither what is picked nor what is beside the cone plays a part.
-#[test]
-fn what_plays_no_part(rt: HostRuntime) -> Result<(), Fail> {
-    let inverted = [change(1, Value::One), change(4, Value::Zero)];
-    for second in [
-        Source {
-            picks: Picks::Text(b"advance y\nadvance a\ndeliver y 0\n"),
-            ..ONE
-        },
-        Source {
-            picks: Picks::Seeded {
-                seed: 7,
-                picks: 1_000,
-            },
-            ..OTHER
-        },
-        Source {
-            delays: b"z 7\n",
-            period: 3,
-            ..ONE
-        },
-        Source {
-            stimuli: b"0 a 0\n3 a 1\n",
-            ..ONE
-        },
-    ] {
-        let sides = (&ONE, &second);
-        compares(&rt, rt.alloc(), sides, b"y", true, &inverted, &inverted)?;
+fn two_runs(rt: HostRuntime) -> Result<(), Fail> {
+    for (one, other, name, horizon, agree, first, second) in &COMPARED {
+        let answer = twin(rt.alloc(), one, other, name, *horizon)?;
+        says(&rt, &answer, *agree, first, second);
     }
     Ok(())
 }
@@ -144,237 +210,207 @@ fn dumps_of_both(rt: HostRuntime) {
     }
 }
 
-#[test]
-fn what_plays_a_part(rt: HostRuntime) -> Result<(), Fail> {
-    let slower = Source {
-        delays: b"y 2\n",
-        ..ONE
-    };
-    let late = [change(2, Value::One), change(5, Value::Zero)];
-    let inverted = [change(1, Value::One), change(4, Value::Zero)];
-    let sides = (&slower, &ONE);
-    compares(&rt, rt.alloc(), sides, b"y", false, &late, &inverted)?;
-
-    let other_clock = Source { period: 10, ..FLOP };
-    let answer = twin(rt.alloc(), &FLOP, &other_clock, b"q", 9)?;
-    let sampled = [change(5, Value::One), change(9, Value::Zero)];
-    says(&rt, &answer, false, &sampled, &[]);
-    Ok(())
-}
-
-// The comparison ends with this fault of this side.
-fn refuses(rt: &impl Abort, answer: Result<TwinAnswer, TwinFault>, side: Side, fault: SimFault) {
-    match answer {
-        Ok(_) => assert!(rt; false, "compared, without {fault:?}"),
-        Err(other) => assert_eq!(rt; other, TwinFault { side, fault }),
-    }
-}
-
-// A source is refused on both sides, even where no run has a net of the name.
-fn refuses_on_each(rt: &impl Abort, alloc: Global, source: Source<'static>, fault: SimFault) {
-    refuses(rt, twin(alloc, &source, &ONE, b"y", 5), Side::First, fault);
-    refuses(rt, twin(alloc, &ONE, &source, b"y", 5), Side::Second, fault);
-    refuses(
-        rt,
-        twin(alloc, &source, &source, b"y", 5),
-        Side::First,
-        fault,
-    );
-    refuses(
-        rt,
-        twin(alloc, &ONE, &source, b"zz", 5),
-        Side::Second,
-        fault,
-    );
-}
-
-fn refuses_check(rt: &impl Abort, alloc: Global, source: &Source, horizon: u64, fault: SimFault) {
-    assert_eq!(rt; check(alloc, source, horizon), Err(fault));
-}
-
-#[test]
-fn faults_of_settings(rt: HostRuntime) {
-    for (default_delay, period, fault) in [
-        (0, 0, OptionFault::BadDelay),
-        (1_000_001, 10, OptionFault::BadDelay),
-        (1, 0, OptionFault::BadPeriod),
-        (1, 10_000_001, OptionFault::BadPeriod),
-    ] {
-        let source = Source {
-            default_delay,
-            period,
-            bench: b"x y",
-            ..ONE
-        };
-        refuses_on_each(&rt, rt.alloc(), source, SimFault::Setting(fault));
-    }
-}
-
-// The horizon is that of both runs, and is checked with the first.
-#[test]
-fn a_horizon_too_far(rt: HostRuntime) {
-    let fault = SimFault::Setting(OptionFault::BadHorizon);
-    let faulty = Source {
-        bench: b"x y",
-        ..ONE
-    };
-    for horizon in [10_000_001, u64::MAX] {
-        let answer = twin(rt.alloc(), &faulty, &faulty, b"y", horizon);
-        refuses(&rt, answer, Side::First, fault);
-        refuses_check(&rt, rt.alloc(), &faulty, horizon, fault);
-    }
-}
-
-#[test]
-fn faults_of_texts(rt: HostRuntime) {
-    for (source, fault) in [
-        (
-            Source {
-                bench: b"INPUT(a)\nx y\n",
-                ..ONE
-            },
-            SimFault::Bench(BenchFault::BadLine { line: 2 }),
-        ),
-        (
-            Source { bench: b"", ..ONE },
-            SimFault::Bench(BenchFault::NoNets),
-        ),
-        (
-            Source {
-                delays: b"y 2\n\ny 2\n",
-                ..ONE
-            },
-            SimFault::Timing(DelayFault::Twice { line: 3 }),
-        ),
-        (
-            Source {
-                stimuli: b"3 a 1\n3 a 1\n",
-                ..ONE
-            },
-            SimFault::Stimulus(StimulusFault::NotRising { line: 2 }),
-        ),
-        (
-            Source {
-                picks: Picks::Text(b"deliver y 1"),
-                ..ONE
-            },
-            SimFault::Schedule(ScheduleFault::BadPin { line: 1 }),
-        ),
-        (
-            Source {
-                picks: Picks::Seeded {
-                    seed: 7,
-                    picks: 10_000_001,
-                },
-                ..ONE
-            },
-            SimFault::Schedule(ScheduleFault::TooManyEvents),
-        ),
-    ] {
-        refuses_on_each(&rt, rt.alloc(), source, fault);
-        refuses_check(&rt, rt.alloc(), &source, 5, fault);
-    }
-}
-
-// All checks of the first run come before all of the second, and the names after them.
-#[test]
-fn first_side_first(rt: HostRuntime) {
-    let last_check = Source {
-        picks: Picks::Text(b"deliver y 1"),
-        ..ONE
-    };
-    let first_check = Source {
-        default_delay: 0,
-        ..ONE
-    };
-    let fault = SimFault::Schedule(ScheduleFault::BadPin { line: 1 });
-    let answer = twin(rt.alloc(), &last_check, &first_check, b"zz", 5);
-    refuses(&rt, answer, Side::First, fault);
-    let answer = twin(rt.alloc(), &ONE, &last_check, b"zz", 5);
-    refuses(&rt, answer, Side::Second, fault);
-}
-
-// No net of this side has the name.
-fn refuses_name(
-    rt: &impl Abort,
-    alloc: Global,
-    sides: (&Source, &Source),
-    name: &[u8],
-    side: Side,
-) {
-    let answer = twin(alloc, sides.0, sides.1, name, 5);
-    refuses(rt, answer, side, SimFault::UnknownNet);
-}
-
-#[test]
-fn names_that_are_not_there(rt: HostRuntime) {
-    for (sides, name, side) in [
-        ((&ONE, &OTHER), b"m".as_slice(), Side::First),
-        ((&OTHER, &ONE), b"m".as_slice(), Side::Second),
-        ((&ONE, &OTHER), b"zz".as_slice(), Side::First),
-        ((&ONE, &OTHER), b"".as_slice(), Side::First),
-    ] {
-        refuses_name(&rt, rt.alloc(), sides, name, side);
-    }
-}
-
-// The engines give the same waveform for each of so many nets, with so many pins.
-fn checks(
-    rt: &impl Abort,
-    alloc: Global,
-    source: Source<'static>,
-    horizon: u64,
-    sizes: (u32, u32),
-) {
-    let (nets, pins) = sizes;
-    let same = nets;
-    assert_eq!(rt;
-        check(alloc, &source, horizon),
-        Ok(CheckAnswer { nets, pins, same })
-    );
-}
-
-const S27: Source<'static> = Source {
-    bench: S27_BENCH,
-    stimuli: S27_STIMULI,
+const FAULTY_TEXT: Source<'static> = Source {
+    bench: b"x y",
     ..ONE
 };
 
-#[test]
-fn engines_that_agree(rt: HostRuntime) {
-    checks(&rt, rt.alloc(), S27, 35, (17, 21));
-    checks(&rt, rt.alloc(), S27, 0, (17, 21));
-    checks(&rt, rt.alloc(), ONE, 5, (4, 3));
-    checks(&rt, rt.alloc(), OTHER, 5, (7, 5));
-    checks(&rt, rt.alloc(), FLOP, 9, (2, 1));
+const BAD_PIN_PICKED: Source<'static> = Source {
+    picks: Picks::Text(b"deliver y 1"),
+    ..ONE
+};
+
+const BAD_PIN: SimFault = SimFault::Schedule(ScheduleFault::BadPin { line: 1 });
+
+/// A source, and what is wrong with it.
+type Faulty = (Source<'static>, SimFault);
+
+// Faults of the settings, which are looked at before the texts, and of each text.
+static FAULTY: [Faulty; 10] = [
+    (
+        Source {
+            default_delay: 0,
+            period: 0,
+            ..FAULTY_TEXT
+        },
+        SimFault::Setting(OptionFault::BadDelay),
+    ),
+    (
+        Source {
+            default_delay: 1_000_001,
+            period: 10,
+            ..FAULTY_TEXT
+        },
+        SimFault::Setting(OptionFault::BadDelay),
+    ),
+    (
+        Source {
+            default_delay: 1,
+            period: 0,
+            ..FAULTY_TEXT
+        },
+        SimFault::Setting(OptionFault::BadPeriod),
+    ),
+    (
+        Source {
+            default_delay: 1,
+            period: 10_000_001,
+            ..FAULTY_TEXT
+        },
+        SimFault::Setting(OptionFault::BadPeriod),
+    ),
+    (
+        Source {
+            bench: b"INPUT(a)\nx y\n",
+            ..ONE
+        },
+        SimFault::Bench(BenchFault::BadLine { line: 2 }),
+    ),
+    (
+        Source { bench: b"", ..ONE },
+        SimFault::Bench(BenchFault::NoNets),
+    ),
+    (
+        Source {
+            delays: b"y 2\n\ny 2\n",
+            ..ONE
+        },
+        SimFault::Timing(DelayFault::Twice { line: 3 }),
+    ),
+    (
+        Source {
+            stimuli: b"3 a 1\n3 a 1\n",
+            ..ONE
+        },
+        SimFault::Stimulus(StimulusFault::NotRising { line: 2 }),
+    ),
+    (BAD_PIN_PICKED, BAD_PIN),
+    (
+        Source {
+            picks: Picks::Seeded {
+                seed: 7,
+                picks: 10_000_001,
+            },
+            ..ONE
+        },
+        SimFault::Schedule(ScheduleFault::TooManyEvents),
+    ),
+];
+
+// The comparison ends with this fault of this side.
+fn refuses(rt: &impl Abort, answer: Result<TwinAnswer, TwinFault>, side: Side, fault: SimFault) {
+    assert_eq!(rt; answer.err(), Some(TwinFault { side, fault }));
 }
 
+// A source is refused on both sides, even where no run has a net of the name, and by a check.
 #[test]
-fn engines_that_agree_whatever_is_picked(rt: HostRuntime) {
-    for picks in [
-        Picks::Text(b"advance G17\nadvance G0\ndeliver G14 0\n"),
-        Picks::Seeded {
-            seed: 7,
-            picks: 1_000,
-        },
-    ] {
-        let source = Source { picks, ..S27 };
-        checks(&rt, rt.alloc(), source, 35, (17, 21));
+fn faults_of_a_source(rt: HostRuntime) {
+    for (source, fault) in &FAULTY {
+        for (first, second, name, side) in [
+            (source, &ONE, b"y".as_slice(), Side::First),
+            (&ONE, source, b"y".as_slice(), Side::Second),
+            (source, source, b"y".as_slice(), Side::First),
+            (&ONE, source, b"zz".as_slice(), Side::Second),
+        ] {
+            let answer = twin(rt.alloc(), first, second, name, 5);
+            refuses(&rt, answer, side, *fault);
+        }
+        assert_eq!(rt; check(rt.alloc(), source, 5), Err(*fault));
     }
 }
 
-// The output of the flip-flops' circuit, as reckoned by hand.
+const NO_DELAY: Source<'static> = Source {
+    default_delay: 0,
+    ..ONE
+};
+
+const TOO_FAR: SimFault = SimFault::Setting(OptionFault::BadHorizon);
+
+/// Two sources, the name of the net and the horizon; the side and its fault.
+type Refused = (
+    Source<'static>,
+    Source<'static>,
+    &'static [u8],
+    u64,
+    Side,
+    SimFault,
+);
+
+// Which fault comes first.
+static REFUSED: [Refused; 8] = [
+    // The horizon is that of both runs, and is checked with the first.
+    (
+        FAULTY_TEXT,
+        FAULTY_TEXT,
+        b"y",
+        10_000_001,
+        Side::First,
+        TOO_FAR,
+    ),
+    (
+        FAULTY_TEXT,
+        FAULTY_TEXT,
+        b"y",
+        u64::MAX,
+        Side::First,
+        TOO_FAR,
+    ),
+    // All checks of the first run come before all of the second, and the names after them.
+    (BAD_PIN_PICKED, NO_DELAY, b"zz", 5, Side::First, BAD_PIN),
+    (ONE, BAD_PIN_PICKED, b"zz", 5, Side::Second, BAD_PIN),
+    // No net of this side has the name.
+    (ONE, OTHER, b"m", 5, Side::First, SimFault::UnknownNet),
+    (OTHER, ONE, b"m", 5, Side::Second, SimFault::UnknownNet),
+    (ONE, OTHER, b"zz", 5, Side::First, SimFault::UnknownNet),
+    (ONE, OTHER, b"", 5, Side::First, SimFault::UnknownNet),
+];
+
 #[test]
-fn the_output_of_s27(rt: HostRuntime) -> Result<(), Fail> {
-    let output = [change(6, Value::One), change(27, Value::Zero)];
-    let scheduled = Source {
-        picks: Picks::Seeded {
-            seed: 1,
-            picks: 500,
-        },
-        ..S27
-    };
-    let answer = twin(rt.alloc(), &S27, &scheduled, b"G17", 35)?;
-    says(&rt, &answer, true, &output, &output);
-    Ok(())
+fn refused_comparisons(rt: HostRuntime) {
+    for (first, second, name, horizon, side, fault) in &REFUSED {
+        let answer = twin(rt.alloc(), first, second, name, *horizon);
+        refuses(&rt, answer, *side, *fault);
+    }
+    for horizon in [10_000_001, u64::MAX] {
+        assert_eq!(rt; check(rt.alloc(), &FAULTY_TEXT, horizon), Err(TOO_FAR));
+    }
+}
+
+const SCHEDULED_S27: Source<'static> = Source {
+    picks: Picks::Text(b"advance G17\nadvance G0\ndeliver G14 0\n"),
+    ..S27
+};
+
+const OTHERWISE_PICKED_S27: Source<'static> = Source {
+    picks: Picks::Seeded {
+        seed: 7,
+        picks: 1_000,
+    },
+    ..S27
+};
+
+/// A source, the horizon, and the numbers of nets and pins.
+type Checked = (Source<'static>, u64, u32, u32);
+
+// Circuits of several sizes, and what is picked, which plays no part.
+static CHECKED: [Checked; 7] = [
+    (S27, 35, 17, 21),
+    (S27, 0, 17, 21),
+    (ONE, 5, 4, 3),
+    (OTHER, 5, 7, 5),
+    (FLOP, 9, 2, 1),
+    (SCHEDULED_S27, 35, 17, 21),
+    (OTHERWISE_PICKED_S27, 35, 17, 21),
+];
+
+// The engines give the same waveform for each of so many nets, with so many pins.
+#[test]
+fn engines_that_agree(rt: HostRuntime) {
+    for &(source, horizon, nets, pins) in &CHECKED {
+        let same = nets;
+        assert_eq!(rt;
+            check(rt.alloc(), &source, horizon),
+            Ok(CheckAnswer { nets, pins, same })
+        );
+    }
 }

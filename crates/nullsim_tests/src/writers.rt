@@ -1,0 +1,122 @@
+//! Command lines through `command`, on writers that fail at some byte or at the flush.
+use crate::checking::S27_SAME;
+use crate::commanding::end_of;
+use crate::comparing::{BOTH, CONE_OF_Y};
+use crate::running::COUNTS;
+use std::alloc::Global;
+use std::process::Abort;
+use std::test::Fail;
+use worked_examples::Narrow;
+use worked_examples::dumps::INVERTER_DUMP;
+
+/// A command line and the text that it writes.
+type Line = (&'static str, &'static [u8]);
+
+const PLAIN: Line = (
+    "plain --bench inv.bench --stimuli inv.stim --horizon 5",
+    INVERTER_DUMP,
+);
+
+const RUN: Line = (
+    "run --bench inv.bench --stimuli inv.stim --horizon 5",
+    INVERTER_DUMP,
+);
+
+const COUNTED: Line = (
+    "run --bench inv.bench --stimuli inv.stim --horizon 5 --counts",
+    INVERTER_DUMP,
+);
+
+const CHECK: Line = ("check --bench s27.bench --horizon 35", S27_SAME);
+
+const CONE: Line = ("cone --bench one.bench y", CONE_OF_Y);
+
+const TWIN: Line = (
+    "twin --first inv.bench --first-stimuli inv.stim --second inv.bench --second-stimuli inv.stim --net y --horizon 5",
+    BOTH,
+);
+
+// Of help, and of words that are wrong, the text isn't looked at.
+const HELP: Line = ("--help", b"");
+
+const WRONG: Line = ("--halp", b"");
+
+const NOT_WRITTEN: &str = "stdout:0: Write\n";
+
+/// A line; the room for its text, and whether the flush fails; the room on standard error, and how many
+/// bytes that takes a call; the exit status, what standard error took, and how often the text is flushed.
+type Row = (Line, (usize, bool), (usize, usize), u8, &'static str, u32);
+
+// Each command with room for all, and with less; `run` on a standard error with less room than counts.
+static ROWS: [Row; 32] = [
+    (PLAIN, (190, false), (0, 7), 0, "", 1),
+    (PLAIN, (40, false), (99, 7), 3, NOT_WRITTEN, 0),
+    (PLAIN, (190, true), (99, 7), 3, NOT_WRITTEN, 1),
+    (PLAIN, (40, false), (12, 7), 3, "stdout:0: Wr", 0),
+    (PLAIN, (40, false), (3, 7), 3, "std", 0),
+    (RUN, (190, false), (0, 7), 0, "", 1),
+    (COUNTED, (0, true), (99, 1), 3, NOT_WRITTEN, 0),
+    (COUNTED, (1, true), (99, 1), 3, NOT_WRITTEN, 0),
+    (COUNTED, (40, true), (99, 1), 3, NOT_WRITTEN, 0),
+    (COUNTED, (189, true), (99, 1), 3, NOT_WRITTEN, 0),
+    (COUNTED, (190, true), (99, 1), 3, NOT_WRITTEN, 1),
+    // A first part of the counts goes to a standard error that fails, and the run is done all the same.
+    (COUNTED, (190, false), (0, 3), 0, "", 1),
+    (COUNTED, (190, false), (10, 3), 0, "events 7 c", 1),
+    (COUNTED, (190, false), (36, 3), 0, COUNTS, 1),
+    (CHECK, (24, false), (0, 7), 0, "", 1),
+    (CHECK, (0, true), (99, 1), 3, NOT_WRITTEN, 0),
+    (CHECK, (1, true), (99, 1), 3, NOT_WRITTEN, 0),
+    (CHECK, (10, true), (99, 1), 3, NOT_WRITTEN, 0),
+    (CHECK, (24, true), (99, 1), 3, NOT_WRITTEN, 1),
+    (CONE, (30, false), (0, 7), 0, "", 1),
+    (CONE, (0, true), (99, 1), 3, NOT_WRITTEN, 0),
+    (CONE, (1, true), (99, 1), 3, NOT_WRITTEN, 0),
+    (CONE, (10, true), (99, 1), 3, NOT_WRITTEN, 0),
+    (CONE, (30, true), (99, 1), 3, NOT_WRITTEN, 1),
+    (TWIN, (52, false), (0, 7), 0, "", 1),
+    (TWIN, (0, true), (99, 1), 3, NOT_WRITTEN, 0),
+    (TWIN, (1, true), (99, 1), 3, NOT_WRITTEN, 0),
+    (TWIN, (10, true), (99, 1), 3, NOT_WRITTEN, 0),
+    (TWIN, (52, true), (99, 1), 3, NOT_WRITTEN, 1),
+    (HELP, (40, false), (99, 7), 3, NOT_WRITTEN, 0),
+    (HELP, (9999, true), (99, 7), 3, NOT_WRITTEN, 1),
+    (WRONG, (0, false), (6, 7), 2, "error:", 0),
+];
+
+// The writer took what it has room for, unless the text isn't looked at, and was flushed so often.
+fn took(rt: &impl Abort, out: &Narrow, text: &[u8], room: usize, flushes: u32, line: &str) {
+    if !text.is_empty() {
+        assert_eq!(rt; out.taken.len(), room, "at {line}");
+        assert!(rt; text.starts_with(out.taken.as_slice()), "at {line}, {room}");
+    }
+    assert_eq!(rt; out.flushes, flushes, "at {line}, {room}");
+}
+
+// The line ends with this status on this writer of its text, and standard error took this.
+fn ends(
+    rt: &impl Abort,
+    alloc: Global,
+    line: &str,
+    out: &mut Narrow,
+    err: &mut Narrow,
+    status: u8,
+    told: &str,
+) -> Result<(), Fail> {
+    let (got, _) = end_of(alloc, line, "", out, err)?;
+    assert_eq!(rt; got, status, "at {line}");
+    assert!(rt; err.taken.as_slice() == told.as_bytes(), "at {line}");
+    Ok(())
+}
+
+#[test]
+fn faulty_writers(rt: HostRuntime) -> Result<(), Fail> {
+    for &((line, text), (room, flush_fails), (err_room, most), status, told, flushes) in &ROWS {
+        let mut out = Narrow::new(rt.alloc(), room, 7);
+        out.flush_fails = flush_fails;
+        let mut err = Narrow::new(rt.alloc(), err_room, most);
+        ends(&rt, rt.alloc(), line, &mut out, &mut err, status, told)?;
+        took(&rt, &out, text, room, flushes, line);
+    }
+    Ok(())
+}
