@@ -163,7 +163,7 @@ pub(crate) static OTHER_TWINS: [CarriedOut; 2] = [
     ),
 ];
 
-// Both netlists are read, and in some rows a third text.
+// Both netlists are read, and some lines name a third text.
 pub(crate) static REFUSED_TWINS: [Refused; 17] = [
     // The name is looked up in the first run first.
     (
