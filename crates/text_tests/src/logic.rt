@@ -21,16 +21,18 @@ fn negated_gates_are(rt: &impl Abort, pins: [Value; 2], and: Value, or: Value, x
 }
 
 // Entries of Kleene's strong tables, and of XOR, which is X as soon as one pin is.
+static TABLE: [(Value, Value, Value, Value, Value); 6] = [
+    (Zero, Zero, Zero, Zero, Zero),
+    (Zero, One, Zero, One, One),
+    (Zero, Unknown, Zero, Unknown, Unknown),
+    (One, One, One, One, Zero),
+    (One, Unknown, Unknown, One, Unknown),
+    (Unknown, Unknown, Unknown, Unknown, Unknown),
+];
+
 #[test]
 fn gates_are_the_table(rt: HostRuntime) {
-    for (first, second, and, or, xor) in [
-        (Zero, Zero, Zero, Zero, Zero),
-        (Zero, One, Zero, One, One),
-        (Zero, Unknown, Zero, Unknown, Unknown),
-        (One, One, One, One, Zero),
-        (One, Unknown, Unknown, One, Unknown),
-        (Unknown, Unknown, Unknown, Unknown, Unknown),
-    ] {
+    for &(first, second, and, or, xor) in &TABLE {
         for pins in [[first, second], [second, first]] {
             gates_are(&rt, pins, and, or, xor);
             negated_gates_are(&rt, pins, and, or, xor);

@@ -44,62 +44,44 @@ fn names_in_order_of_definition(rt: HostRuntime) -> Result<(), Fail> {
     Ok(())
 }
 
+// Texts, and what they are refused with.
+static REFUSED: [(&[u8], BenchFault); 18] = [
+    (b"", BenchFault::NoNets),
+    (
+        b"INPUT(a)\ny = NOT(a)\ny = BUF(a)",
+        BenchFault::DefinedTwice { line: 3 },
+    ),
+    (
+        b"INPUT(a)\ny = AND(a, zz)",
+        BenchFault::Undefined { line: 2 },
+    ),
+    (
+        b"INPUT(a)\nINPUT(b)\nq = DFF(a, b)",
+        BenchFault::BadArity { line: 3 },
+    ),
+    (b"INPUT(a)\ny = AND()", BenchFault::BadArity { line: 2 }),
+    (b"y = MUX(a)", BenchFault::UnknownGate { line: 1 }),
+    (b"y = MUX()", BenchFault::UnknownGate { line: 1 }),
+    (b"INOUT(a)", BenchFault::BadLine { line: 1 }),
+    // Where there are several faults, one counts.
+    (b"INPUT(a)\nINPUT(a)\nx y", BenchFault::BadLine { line: 3 }),
+    (
+        b"INPUT(a)\nINPUT(a)\nOUTPUT(z)",
+        BenchFault::DefinedTwice { line: 2 },
+    ),
+    (b"INPUT(a)\nOUTPUT(z)", BenchFault::Undefined { line: 2 }),
+    (b"INPUT($end)", BenchFault::BadLine { line: 1 }),
+    (b"$INPUT(a)", BenchFault::BadLine { line: 1 }),
+    (b"y = $AND(a)", BenchFault::UnknownGate { line: 1 }),
+    (b"\xEF\xBB\xBFINPUT(a)", BenchFault::BadByte { line: 1 }),
+    (b"x y \x80", BenchFault::BadByte { line: 1 }),
+    (b"INPUT(a)\x0B", BenchFault::BadByte { line: 1 }),
+    (b"INPUT(a)y=AND(a)", BenchFault::BadLine { line: 1 }),
+];
+
 #[test]
 fn refused_texts(rt: HostRuntime) {
-    for (text, fault) in [
-        (b"".as_slice(), BenchFault::NoNets),
-        (
-            b"INPUT(a)\ny = NOT(a)\ny = BUF(a)".as_slice(),
-            BenchFault::DefinedTwice { line: 3 },
-        ),
-        (
-            b"INPUT(a)\ny = AND(a, zz)".as_slice(),
-            BenchFault::Undefined { line: 2 },
-        ),
-        (
-            b"INPUT(a)\nINPUT(b)\nq = DFF(a, b)".as_slice(),
-            BenchFault::BadArity { line: 3 },
-        ),
-        (
-            b"INPUT(a)\ny = AND()".as_slice(),
-            BenchFault::BadArity { line: 2 },
-        ),
-        (
-            b"y = MUX(a)".as_slice(),
-            BenchFault::UnknownGate { line: 1 },
-        ),
-        (b"y = MUX()".as_slice(), BenchFault::UnknownGate { line: 1 }),
-        (b"INOUT(a)".as_slice(), BenchFault::BadLine { line: 1 }),
-        // Where there are several faults, one counts.
-        (
-            b"INPUT(a)\nINPUT(a)\nx y".as_slice(),
-            BenchFault::BadLine { line: 3 },
-        ),
-        (
-            b"INPUT(a)\nINPUT(a)\nOUTPUT(z)".as_slice(),
-            BenchFault::DefinedTwice { line: 2 },
-        ),
-        (
-            b"INPUT(a)\nOUTPUT(z)".as_slice(),
-            BenchFault::Undefined { line: 2 },
-        ),
-        (b"INPUT($end)".as_slice(), BenchFault::BadLine { line: 1 }),
-        (b"$INPUT(a)".as_slice(), BenchFault::BadLine { line: 1 }),
-        (
-            b"y = $AND(a)".as_slice(),
-            BenchFault::UnknownGate { line: 1 },
-        ),
-        (
-            b"\xEF\xBB\xBFINPUT(a)".as_slice(),
-            BenchFault::BadByte { line: 1 },
-        ),
-        (b"x y \x80".as_slice(), BenchFault::BadByte { line: 1 }),
-        (b"INPUT(a)\x0B".as_slice(), BenchFault::BadByte { line: 1 }),
-        (
-            b"INPUT(a)y=AND(a)".as_slice(),
-            BenchFault::BadLine { line: 1 },
-        ),
-    ] {
+    for &(text, fault) in &REFUSED {
         assert_eq!(rt; read(rt.alloc(), text).err(), Some(fault));
     }
 }
@@ -111,30 +93,33 @@ fn is_written(rt: &impl Abort, alloc: Global, text: &[u8], canonical: &[u8]) -> 
     Ok(())
 }
 
+// Texts, and their canonical texts.
+static WRITTEN: [(&[u8], &[u8]); 5] = [
+    (
+        b"input(a)\r\n\toutput ( y ) # \xC3\xA9\r\noutput(y)\r\ny = and( a )",
+        b"INPUT(a)\ny = AND(a)\nOUTPUT(y)\n",
+    ),
+    (
+        b"OUTPUT(y)\ny = NOT(n)\nn = NOT(a)\nINPUT(a)\n",
+        b"y = NOT(n)\nn = NOT(a)\nINPUT(a)\nOUTPUT(y)\n",
+    ),
+    (
+        b"INPUT(INPUT)\nNOT = not(INPUT)",
+        b"INPUT(INPUT)\nNOT = NOT(INPUT)\n",
+    ),
+    (
+        b"INPUT(a)\nb=nand(a,a)\nc=or(a)\nd=Nor(c,b,a)\ne=xor(a)\nf=xnor(a)",
+        b"INPUT(a)\nb = NAND(a, a)\nc = OR(a)\nd = NOR(c, b, a)\ne = XOR(a)\nf = XNOR(a)\n",
+    ),
+    (
+        b"INPUT(a)\ng=inv(a)\nh=buff(a)\ni=dff(h)",
+        b"INPUT(a)\ng = NOT(a)\nh = BUF(a)\ni = DFF(h)\n",
+    ),
+];
+
 #[test]
 fn canonical_texts(rt: HostRuntime) -> Result<(), Fail> {
-    for (text, canonical) in [
-        (
-            b"input(a)\r\n\toutput ( y ) # \xC3\xA9\r\noutput(y)\r\ny = and( a )".as_slice(),
-            b"INPUT(a)\ny = AND(a)\nOUTPUT(y)\n".as_slice(),
-        ),
-        (
-            b"OUTPUT(y)\ny = NOT(n)\nn = NOT(a)\nINPUT(a)\n".as_slice(),
-            b"y = NOT(n)\nn = NOT(a)\nINPUT(a)\nOUTPUT(y)\n".as_slice(),
-        ),
-        (
-            b"INPUT(INPUT)\nNOT = not(INPUT)".as_slice(),
-            b"INPUT(INPUT)\nNOT = NOT(INPUT)\n".as_slice(),
-        ),
-        (
-            b"INPUT(a)\nb=nand(a,a)\nc=or(a)\nd=Nor(c,b,a)\ne=xor(a)\nf=xnor(a)".as_slice(),
-            b"INPUT(a)\nb = NAND(a, a)\nc = OR(a)\nd = NOR(c, b, a)\ne = XOR(a)\nf = XNOR(a)\n".as_slice(),
-        ),
-        (
-            b"INPUT(a)\ng=inv(a)\nh=buff(a)\ni=dff(h)".as_slice(),
-            b"INPUT(a)\ng = NOT(a)\nh = BUF(a)\ni = DFF(h)\n".as_slice(),
-        ),
-    ] {
+    for &(text, canonical) in &WRITTEN {
         is_written(&rt, rt.alloc(), text, canonical)?;
     }
     Ok(())

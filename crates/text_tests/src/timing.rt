@@ -22,27 +22,21 @@ fn is_refused(rt: &impl Abort, answer: Result<Design, BuildFault>, fault: BuildF
     assert_eq!(rt; answer.err(), Some(fault));
 }
 
+// Stimulus texts, and what they are refused with.
+static FAULTY_STIMULI: [(&[u8], StimulusFault); 8] = [
+    (b"3 y 1", StimulusFault::NotAnInput { line: 1 }),
+    (b"3 a 1\n3 a 1", StimulusFault::NotRising { line: 2 }),
+    (b"10000001 a 1", StimulusFault::TickTooLarge { line: 1 }),
+    (b"0 a z", StimulusFault::BadValue { line: 1 }),
+    (b"0 zz 1", StimulusFault::UnknownNet { line: 1 }),
+    (b"# fine\n0 a", StimulusFault::BadLine { line: 2 }),
+    (b"x a 1", StimulusFault::BadLine { line: 1 }),
+    (b"0 a 1 \x0B", StimulusFault::BadLine { line: 1 }),
+];
+
 #[test]
 fn faulty_stimuli(rt: HostRuntime) -> Result<(), Fail> {
-    for (text, fault) in [
-        (b"3 y 1".as_slice(), StimulusFault::NotAnInput { line: 1 }),
-        (
-            b"3 a 1\n3 a 1".as_slice(),
-            StimulusFault::NotRising { line: 2 },
-        ),
-        (
-            b"10000001 a 1".as_slice(),
-            StimulusFault::TickTooLarge { line: 1 },
-        ),
-        (b"0 a z".as_slice(), StimulusFault::BadValue { line: 1 }),
-        (b"0 zz 1".as_slice(), StimulusFault::UnknownNet { line: 1 }),
-        (
-            b"# fine\n0 a".as_slice(),
-            StimulusFault::BadLine { line: 2 },
-        ),
-        (b"x a 1".as_slice(), StimulusFault::BadLine { line: 1 }),
-        (b"0 a 1 \x0B".as_slice(), StimulusFault::BadLine { line: 1 }),
-    ] {
+    for &(text, fault) in &FAULTY_STIMULI {
         let answer = build(rt.alloc(), b"", text, 1, 10)?;
         is_refused(&rt, answer, BuildFault::Stimulus(fault));
     }
@@ -65,24 +59,24 @@ fn gate_has_delay(rt: &impl Abort, built: &Design, delay: u64) {
     assert_eq!(rt; built.period(1), 10);
 }
 
+// Delay texts, and what they are refused with.
+static FAULTY_DELAYS: [(&[u8], DelayFault); 8] = [
+    (b"y 0", DelayFault::BadTicks { line: 1 }),
+    (b"y 1000001", DelayFault::BadTicks { line: 1 }),
+    (b"y 2\ny 2", DelayFault::Twice { line: 2 }),
+    (b"a 2", DelayFault::IsInput { line: 1 }),
+    (b"zz 2\ny", DelayFault::UnknownNet { line: 1 }),
+    (b"y", DelayFault::BadLine { line: 1 }),
+    (b"timing version 2", DelayFault::BadLine { line: 1 }),
+    (
+        b"y 9999999999999999999999999999999999999999999999999999999999999999999999999999999999999999999999999999",
+        DelayFault::BadTicks { line: 1 },
+    ),
+];
+
 #[test]
 fn faulty_delays(rt: HostRuntime) -> Result<(), Fail> {
-    for (text, fault) in [
-        (b"y 0".as_slice(), DelayFault::BadTicks { line: 1 }),
-        (b"y 1000001".as_slice(), DelayFault::BadTicks { line: 1 }),
-        (b"y 2\ny 2".as_slice(), DelayFault::Twice { line: 2 }),
-        (b"a 2".as_slice(), DelayFault::IsInput { line: 1 }),
-        (b"zz 2\ny".as_slice(), DelayFault::UnknownNet { line: 1 }),
-        (b"y".as_slice(), DelayFault::BadLine { line: 1 }),
-        (
-            b"timing version 2".as_slice(),
-            DelayFault::BadLine { line: 1 },
-        ),
-        (
-            b"y 9999999999999999999999999999999999999999999999999999999999999999999999999999999999999999999999999999".as_slice(),
-            DelayFault::BadTicks { line: 1 },
-        ),
-    ] {
+    for &(text, fault) in &FAULTY_DELAYS {
         let answer = build(rt.alloc(), text, b"", 1, 10)?;
         is_refused(&rt, answer, BuildFault::Timing(fault));
     }
