@@ -1,5 +1,5 @@
 -- Channels from nets to pins.
-use Rattle.std.specs.Prelude.{◌≡◌, ℕ, suc, ◌==◌, if◌then◌else◌, List, [], ◌∷◌, length, map, Vec}
+use Rattle.std.specs.Prelude.{◌≡◌, ℕ, suc, Bool, true, false, ◌==◌, if◌then◌else◌, List, [], ◌∷◌, length, map, Vec}
 use Rattle.std.specs.List.{range_with_len}
 use Rattle.cmb_channels.specs.declared.message.Message.{Message}
 
@@ -19,12 +19,25 @@ pins_fed net (source ∷ sources) =
 abbrev pub all_fed : ℕ → List ℕ → List (List ℕ)
 all_fed nets sources = map (λ net. pins_fed net sources) (range_with_len 0 nets)
 
+-- a pin is one of these
+abbrev pub is_among : ℕ → List ℕ → Bool
+is_among pin [] = false
+is_among pin (first ∷ pins) = if first == pin then true else is_among pin pins
+
+-- the net that feeds a pin, given the pins that each net feeds
+abbrev pub source_in : List (List ℕ) → ℕ → ℕ
+source_in [] pin = 0
+source_in (pins ∷ fed) pin = if is_among pin pins then 0 else suc (source_in fed pin)
+
+-- the net that feeds each of so many pins
+abbrev pub sources_in : List (List ℕ) → ℕ → List ℕ
+sources_in fed pins = map (source_in fed) (range_with_len 0 pins)
+
 module _ {A : Type 0} where
   -- the pins that are stored for each net
   abbrev pub pins_in : List (Vec ℕ A) → List (List ℕ)
   pins_in fed = map (λ pins. pins.items) fed
 
--- the pins of each net are those whose source it is, and each pin has one list
-pub record IsWired (sources : List ℕ) (pins_of : List (List ℕ)) (lists : List (List Message)) : Type 0 where
-  pub fed : pins_of ≡ all_fed (length pins_of) sources
-  pub one_list_each : length lists ≡ length sources
+-- each net feeds the pins whose source it is, of so many
+abbrev pub IsWired : List (List ℕ) → ℕ → Type 0
+IsWired fed pins = fed ≡ all_fed (length fed) (sources_in fed pins)

@@ -1,7 +1,9 @@
 pub mod Kinds
 pub mod Lists
+pub mod Packing
 pub mod Channels
 pub mod Waiting
+pub mod Logs
 pub use Rattle.logic3.specs.Gate
 pub use Rattle.logic3.specs.Wave
 pub use Rattle.design.specs.Circuit

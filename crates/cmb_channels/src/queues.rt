@@ -3,7 +3,8 @@ mod filling;
 
 use crate::fabric::Fabric;
 use crate::message::Message;
-use building::{empty_queues, fed_pins, pin_sources};
+use crate::packed::Packed;
+use building::{empty_queues, fed_pins};
 use design::Design;
 use filling::{push_at_all, reserve_places};
 use std::alloc::{AllocError, Global};
@@ -16,29 +17,26 @@ use std::marker::Model;
 /// time.
 #[derive(Debug, Drop)]
 pub struct Queues {
-    // The net that feeds each pin.
-    sources: Vec<u32>,
-    // The pins that each net feeds, in order: `sources` the other way round.
+    // The pins that each net feeds, in order.
     fed: Vec<Vec<u32>>,
     // What waits at each pin.
-    queues: Vec<VecDeque<Message>>,
+    queues: Vec<VecDeque<Packed>>,
 }
 
 impl Model for Queues {
     ghost use Rattle.std.specs.Prelude.{length};
-    ghost use Rattle.cmb_channels.specs.Channels.{Channels, IsWired, pins_in};
+    ghost use Rattle.cmb_channels.specs.Channels.{Channels, IsWired, pins_in, sources_in};
     ghost use Rattle.cmb_channels.specs.Waiting.{lists_in};
 
     ghost Value = { Channels };
 
     ghost view = { λ q. record {
       lists = lists_in q.queues.items;
-      sources = q.sources.items;
+      sources = sources_in (pins_in q.fed.items) (length q.queues.items);
       nets = length q.fed.items;
     } };
 
-    ghost invariant = { λ q.
-        IsWired q.sources.items (pins_in q.fed.items) (lists_in q.queues.items) };
+    ghost invariant = { λ q. IsWired (pins_in q.fed.items) (length q.queues.items) };
 }
 
 impl Fabric for Queues {
@@ -52,7 +50,6 @@ impl Fabric for Queues {
 
     fn empty_for(alloc: Global, design: &Design) -> Result<Self, AllocError> {
         Ok(Queues {
-            sources: pin_sources(alloc, design)?,
             fed: fed_pins(alloc, design)?,
             queues: empty_queues(alloc, design.pins())?,
         })
@@ -66,7 +63,8 @@ impl Fabric for Queues {
     }
 
     fn take(&mut self, pin: u32) -> Option<Message> {
-        self.queues[pin as usize].pop_front()
+        let message = self.queues[pin as usize].pop_front()?;
+        Some(message.message())
     }
 
     fn waiting(&self, pin: u32) -> u64 {

@@ -3,7 +3,7 @@ use Rattle.std.proofs.Common.{◌≡◌, ℕ, zero, suc, ◌+◌, ◌*◌, ◌<�
 use Rattle.std.specs.Option.{option_map_or}
 use Rattle.std.proofs.lemmas.Bool.{eqb-true, eqb-false}
 use Rattle.std.proofs.lemmas.List.{map-set, set-get_or}
-use Rattle.std.proofs.lemmas.List.Elements.{All-set}
+use Rattle.std.proofs.lemmas.List.Elements.{All-nil, All-cons, All-set}
 use Rattle.std.proofs.lemmas.List.Sums.{sum_by-cons, sum_by-le}
 use Rattle.std.proofs.lemmas.Option.{slice_get-get_or}
 use Rattle.std.proofs.Math.Dec.{eqb-suc-zero}
@@ -20,11 +20,12 @@ use Rattle.cmb_channels.specs.declared.message.Message.{Message}
 use Rattle.cmb_channels.specs.declared.message.Message.TheVariants.{Change as Changes, Null}
 use Rattle.cmb_channels.specs.Kinds.{is_change, is_null}
 use Rattle.cmb_channels.specs.Lists.{update, sent, taken}
+use Rattle.cmb_channels.specs.Packing.{tick_of, Fits}
 use Rattle.cmb_channels.proofs.CallerLemmas.{update-set, taken_at}
 use Rattle.gate_process.specs.Knowledge.{news_of, Tells}
 use Rattle.gate_process.specs.Step.{ProcessState, ProcessView, running, safe_of, next_frontier, reckoned, advanced, news, heard}
 use Rattle.gate_process.specs.Truth.{CanHear}
-use Rattle.gate_process.proofs.CallerLemmas.{frontier-end, news_true}
+use Rattle.gate_process.proofs.CallerLemmas.{frontier-end, news_true, Tells-le}
 use Rattle.cmb_kernel.specs.declared.counts.Counts.{Counts}
 use Rattle.cmb_events.specs.declared.event.Event.{Event}
 use Rattle.cmb_events.specs.declared.event.Event.TheVariants.{Deliver, Advance}
@@ -53,6 +54,18 @@ length-Tells signal from to (Null bound ∷ messages) tells =
     let first = tells.0 in
     let rest = length-Tells signal bound to messages tells.2 in
     omega arith
+
+-- no message tells of a tick past the last that is told
+Tells-within : (signal : ℕ → Value) (from to : ℕ) (messages : List Message) → Tells signal from to messages →
+    All (λ message. tick_of message ≤ to) messages
+Tells-within signal from to [] tells = All-nil (λ message. tick_of message ≤ to)
+Tells-within signal from to (Changes change ∷ messages) tells =
+    All-cons (λ message. tick_of message ≤ to) (Changes change) messages
+    (let later = Tells-le signal (change.tick + 1) to messages tells.2 in omega arith)
+    (Tells-within signal (change.tick + 1) to messages tells.2)
+Tells-within signal from to (Null bound ∷ messages) tells =
+    All-cons (λ message. tick_of message ≤ to) (Null bound) messages (Tells-le signal bound to messages tells.2)
+    (Tells-within signal bound to messages tells.2)
 
 -- a message is a change or a null
 all_counted : (messages : List Message) → count_by is_change messages + count_by is_null messages ≡ length messages
@@ -94,17 +107,36 @@ pub record IsApplied (design : DesignView) (end : ℕ) (processes : List Process
 
 module _ {design : DesignView} {end : ℕ} {processes : List ProcessView} {sources : List ℕ} {nets : ℕ} {lists : List (List Message)}
     {counts : Counts} (all : IsRunning design end processes sources nets (state_of processes lists counts)) where
+  -- what a net tells is true
+  news_tell : (net : ℕ) (process : ProcessView) → net < length design.circuit → process ≡ slice_index_or processes net process →
+      Tells (value_of design.circuit net) process.state.known.frontier (next_frontier process.state) (news process.state)
+  news_tell net process below is =
+      let at = (runs_at all net process below is).at in
+      let ok = circuit_ok all in
+      news_true (value_of design.circuit) net process.state
+      (meets_at design.circuit ok net process.state.net (net_at design.circuit ok end (state_of processes lists counts) all.sound net process.state at))
+      (all.sound.processes net process.state at)
+
   -- each message that a net tells raises its frontier
   news_raise : (net : ℕ) (process : ProcessView) → net < length design.circuit → process ≡ slice_index_or processes net process →
       process.state.known.frontier + length (news process.state) ≤ next_frontier process.state
   news_raise net process below is =
-      let state = state_of processes lists counts in
-      let at = (runs_at all net process below is).at in
-      let ok = circuit_ok all in
       length-Tells (value_of design.circuit net) process.state.known.frontier (next_frontier process.state) (news process.state)
-      (news_true (value_of design.circuit) net process.state
-      (meets_at design.circuit ok net process.state.net (net_at design.circuit ok end (state_of processes lists counts) all.sound net process.state at))
-      (all.sound.processes net process.state at))
+      (news_tell net process below is)
+
+  -- no net tells of a tick past the end
+  next_within : (net : ℕ) (process : ProcessView) → net < length design.circuit → process ≡ slice_index_or processes net process →
+      next_frontier process.state ≤ end
+  next_within net process below is =
+      let at = (runs_at all net process below is).at in
+      omega (arith, frontier-end process.state.net process.state.end (safe_of process.state), all.sound.ends net process.state at)
+
+  -- so channels carry what a net tells
+  pub news_fit : (net : ℕ) (process : ProcessView) → net < length design.circuit → process ≡ slice_index_or processes net process →
+      All Fits (news process.state)
+  news_fit net process below is = λ k d h.
+      let told = Tells-within _ _ _ (news process.state) (news_tell net process below is) k d h in
+      omega (arith, told, next_within net process below is, all.within)
 
   -- all messages are no more than the ticks of all nets
   message_bound : counts.changes + counts.nulls ≤ 100_000 * end
@@ -126,14 +158,7 @@ module _ {design : DesignView} {end : ℕ} {processes : List ProcessView} {sourc
   pub few_messages : (net : ℕ) (process : ProcessView) → net < length design.circuit → process ≡ slice_index_or processes net process →
       counts.changes + counts.nulls + length (news process.state) < 18_446_744_073_709_551_616
   few_messages net process below is =
-      let raised = news_raise net process below is in
-      let at = (runs_at all net process below is).at in
-      let next : next_frontier process.state ≤ process.state.end =
-      frontier-end process.state.net process.state.end (safe_of process.state) in
-      let last = all.sound.ends net process.state at in
-      let bound = message_bound in
-      let within = all.within in
-      omega (arith, raised, next, last, bound, within)
+      omega (arith, news_raise net process below is, next_within net process below is, message_bound, all.within)
 
   module _ (net : ℕ) (process : ProcessView) (below : net < length design.circuit) (is : process ≡ slice_index_or processes net process)
       (change : ProcessState → ProcessState) where

@@ -5,7 +5,7 @@ use crate::circuits::built;
 use Message::Null;
 use Step::{Sends, Takes, Waits};
 use Value::{One, Zero};
-use cmb_channels::{Fabric, Message, Queues};
+use cmb_channels::{Fabric, Logs, Message, Queues};
 use design::Design;
 use logic3::{Change, Value};
 use std::alloc::{AllocError, Global};
@@ -42,9 +42,15 @@ impl<F: Fabric> Channels<F> {
 
     fn step(&mut self, rt: &impl Abort, step: Step) -> Result<(), AllocError> {
         match step {
-            Sends(net, message) => {
+            Sends(net, Message::Change(change)) => {
                 assert!(rt; net < self.nets);
-                self.fabric.send(net, message)?;
+                assert!(rt; change.tick < 100);
+                self.fabric.send(net, Message::Change(change))?;
+            }
+            Sends(net, Null(bound)) => {
+                assert!(rt; net < self.nets);
+                assert!(rt; bound < 100);
+                self.fabric.send(net, Null(bound))?;
             }
             Waits(pin, wanted) => {
                 assert!(rt; pin < self.pins);
@@ -56,6 +62,14 @@ impl<F: Fabric> Channels<F> {
             }
         }
         Ok(())
+    }
+}
+
+impl Channels<Logs> {
+    // The log of a net holds so many messages.
+    fn keeps(&self, rt: &impl Abort, net: u32, wanted: u64) {
+        assert!(rt; net < self.nets);
+        assert_eq!(rt; self.fabric.kept(net), wanted);
     }
 }
 
@@ -118,8 +132,51 @@ const AT_TWO_GATES: [Step; 14] = [
     Takes(0, Some(Null(9))),
 ];
 
+const HIGH: Message = Message::Change(Change {
+    tick: 0,
+    value: One,
+});
+
+// Three pins of one net: one has taken both messages, one the first, and one nothing.
+const AT_THREE_PINS: [Step; 9] = [
+    Sends(0, HIGH),
+    Sends(0, Null(6)),
+    Sends(1, Null(9)),
+    Takes(0, Some(HIGH)),
+    Takes(0, Some(Null(6))),
+    Takes(1, Some(HIGH)),
+    Waits(0, 0),
+    Waits(1, 1),
+    Waits(2, 2),
+];
+
+// Steps over logs, and how many messages the first net's log holds after each part of them; the
+// second net feeds no pin.
+fn keep(rt: &impl Abort, alloc: Global, design: &Design) -> Result<(), Fail> {
+    let mut channels: Channels<Logs> = Channels::empty_for(alloc, design)?;
+    for (steps, kept) in [
+        (AT_THREE_PINS.as_slice(), 2),
+        ([Takes(2, Some(HIGH))].as_slice(), 1),
+        ([Takes(0, None)].as_slice(), 1),
+    ] {
+        for step in steps {
+            channels.step(rt, *step)?;
+        }
+        channels.keeps(rt, 0, kept);
+        channels.keeps(rt, 1, 0);
+    }
+    Ok(())
+}
+
 #[test]
-fn queues(rt: HostRuntime) -> Result<(), Fail> {
+fn one_log(rt: HostRuntime) -> Result<(), Fail> {
+    let bench = b"INPUT(a)\ny = AND(a, a, a)\n";
+    let design = built(rt.alloc(), bench, b"", b"", 10)?;
+    keep(&rt, rt.alloc(), &design)
+}
+
+#[test]
+fn steps_of_channels(rt: HostRuntime) -> Result<(), Fail> {
     let two_gates = b"INPUT(a)\nINPUT(b)\ny = AND(b, a)\nz = NOT(a)\n";
     for (bench, joined, steps) in [
         (
@@ -131,6 +188,7 @@ fn queues(rt: HostRuntime) -> Result<(), Fail> {
     ] {
         let design = built(rt.alloc(), bench, b"", b"", 10)?;
         follows::<Queues>(&rt, rt.alloc(), &design, joined, steps)?;
+        follows::<Logs>(&rt, rt.alloc(), &design, joined, steps)?;
     }
     Ok(())
 }

@@ -1,4 +1,4 @@
-//! The kernel on worked circuits, over queues.
+//! The kernel on worked circuits, over both fabrics.
 ghost use Rattle.std.specs.Prelude.{◌≡◌, OnOk};
 
 use crate::circuits::{
@@ -6,7 +6,7 @@ use crate::circuits::{
     SLOW_INVERTER,
 };
 use Event::{Advance, Deliver};
-use cmb_channels::Queues;
+use cmb_channels::{Fabric, Logs, Queues};
 use cmb_events::Event;
 use cmb_kernel::{Counts, Kernel, KernelFault};
 use design::{Design, plain_waves};
@@ -25,16 +25,16 @@ fn counts(events: u64, changes: u64, nulls: u64, rounds: u64) -> Counts {
     }
 }
 
-fn counts_are(rt: &impl Abort, kernel: &Kernel<Queues>, wanted: Counts) {
+fn counts_are<F: Fabric>(rt: &impl Abort, kernel: &Kernel<F>, wanted: Counts) {
     assert!(rt; !kernel.is_failed());
     assert_eq!(rt; kernel.counts(), wanted);
 }
 
 // The net shows this up to a tick, and is known up to there.
-fn shows(
+fn shows<F: Fabric>(
     rt: &impl Abort,
     design: &Design,
-    kernel: &Kernel<Queues>,
+    kernel: &Kernel<F>,
     net: u32,
     wanted: &Waveform,
     end: u64,
@@ -48,19 +48,19 @@ fn shows(
     assert_eq!(rt; kernel.frontier(net), end);
 }
 
-fn is_complete(rt: &impl Abort, kernel: &Kernel<Queues>, end: u64) {
+fn is_complete<F: Fabric>(rt: &impl Abort, kernel: &Kernel<F>, end: u64) {
     assert!(rt; !kernel.is_failed());
     assert!(rt; kernel.is_complete());
     assert_eq!(rt; kernel.least_frontier(), end);
 }
 
 // The kernel is complete, and each net shows what the plain engine says.
-fn shows_all(
+fn shows_all<F: Fabric>(
     rt: &impl Abort,
     alloc: Global,
     design: &Design,
     horizon: Horizon,
-    kernel: &Kernel<Queues>,
+    kernel: &Kernel<F>,
 ) -> Result<(), Fail>
     requires { kernel.now.circuit ≡ design.now.circuit }
 {
@@ -75,7 +75,7 @@ fn shows_all(
 }
 
 // Completes, with these counts.
-fn complete(rt: &impl Abort, kernel: &mut Kernel<Queues>, wanted: Counts) -> Result<(), Fail>
+fn complete<F: Fabric>(rt: &impl Abort, kernel: &mut Kernel<F>, wanted: Counts) -> Result<(), Fail>
     ensures { OnOk result (kernel.new.circuit ≡ kernel.old.circuit) }
 {
     kernel.complete()?;
@@ -84,9 +84,9 @@ fn complete(rt: &impl Abort, kernel: &mut Kernel<Queues>, wanted: Counts) -> Res
 }
 
 // Applies the events, with these counts and this least frontier after them.
-fn apply(
+fn apply<F: Fabric>(
     rt: &impl Abort,
-    kernel: &mut Kernel<Queues>,
+    kernel: &mut Kernel<F>,
     events: &[Event],
     after: (Counts, u64),
 ) -> Result<(), Fail>
@@ -100,12 +100,12 @@ fn apply(
 }
 
 // Completes, shows what the plain engine says, and stays as it is.
-fn complete_twice(
+fn complete_twice<F: Fabric>(
     rt: &impl Abort,
     alloc: Global,
     design: &Design,
     horizon: Horizon,
-    kernel: &mut Kernel<Queues>,
+    kernel: &mut Kernel<F>,
     total: Counts,
 ) -> Result<(), Fail>
     requires { kernel.old.circuit ≡ design.now.circuit }
@@ -116,7 +116,7 @@ fn complete_twice(
 }
 
 // Applies the events and completes, with these counts and least frontier in between and at the end.
-fn run(
+fn run<F: Fabric>(
     rt: &impl Abort,
     alloc: Global,
     circuit: Circuit,
@@ -127,10 +127,11 @@ fn run(
 ) -> Result<(), Fail> {
     let horizon = Horizon::new(horizon)?;
     let design = circuit.build(alloc)?;
-    run_design(rt, alloc, &design, horizon, events, after, total)
+    run_design::<F>(rt, alloc, &design, horizon, events, after, total)
 }
 
-fn run_design(
+// The same for a design.
+fn run_design<F: Fabric>(
     rt: &impl Abort,
     alloc: Global,
     design: &Design,
@@ -139,9 +140,23 @@ fn run_design(
     after: (Counts, u64),
     total: Counts,
 ) -> Result<(), Fail> {
-    let mut kernel: Kernel<Queues> = Kernel::new(alloc, design, horizon)?;
+    let mut kernel: Kernel<F> = Kernel::new(alloc, design, horizon)?;
     apply(rt, &mut kernel, events, after)?;
     complete_twice(rt, alloc, design, horizon, &mut kernel, total)
+}
+
+// The same run over both fabrics.
+fn run_both(
+    rt: &impl Abort,
+    alloc: Global,
+    circuit: Circuit,
+    horizon: u64,
+    events: &[Event],
+    after: (Counts, u64),
+    total: Counts,
+) -> Result<(), Fail> {
+    run::<Queues>(rt, alloc, circuit, horizon, events, after, total)?;
+    run::<Logs>(rt, alloc, circuit, horizon, events, after, total)
 }
 
 #[test]
@@ -156,7 +171,7 @@ fn by_rounds(rt: HostRuntime) -> Result<(), Fail> {
         (SLOW_INVERTER, 5, counts(2, 2, 2, 1)),
     ] {
         let after = (counts(0, 0, 0, 0), 0);
-        run(&rt, rt.alloc(), circuit, horizon, &[], after, total)?;
+        run_both(&rt, rt.alloc(), circuit, horizon, &[], after, total)?;
     }
     Ok(())
 }
@@ -180,7 +195,7 @@ fn schedules(rt: HostRuntime) -> Result<(), Fail> {
         (mixed.as_slice(), counts(3, 3, 1, 0), counts(17, 7, 3, 2)),
         (&[], counts(0, 0, 0, 0), counts(19, 7, 6, 3)),
     ] {
-        run(&rt, rt.alloc(), LATE_PIN, 8, events, (after, 0), total)?;
+        run_both(&rt, rt.alloc(), LATE_PIN, 8, events, (after, 0), total)?;
     }
     Ok(())
 }
@@ -191,9 +206,9 @@ fn missing_pins(alloc: Global, count: usize) -> Result<Vec<Event>, AllocError> {
 }
 
 // Applies an event that is useful, or one that is not.
-fn applies(
+fn applies<F: Fabric>(
     rt: &impl Abort,
-    kernel: &mut Kernel<Queues>,
+    kernel: &mut Kernel<F>,
     event: Event,
     useful: bool,
 ) -> Result<(), Fail>
@@ -204,7 +219,7 @@ fn applies(
 }
 
 // The list is refused with this fault, which isn't want of memory.
-fn refuses(rt: &impl Abort, kernel: &mut Kernel<Queues>, events: &[Event], fault: KernelFault)
+fn refuses<F: Fabric>(rt: &impl Abort, kernel: &mut Kernel<F>, events: &[Event], fault: KernelFault)
     ensures { kernel.new.circuit ≡ kernel.old.circuit }
 {
     let answer = kernel
@@ -215,10 +230,10 @@ fn refuses(rt: &impl Abort, kernel: &mut Kernel<Queues>, events: &[Event], fault
 }
 
 // Ten million events are looked at one after the other; a list of one more is refused as it is.
-fn limit_of_events(
+fn limit_of_events<F: Fabric>(
     rt: &impl Abort,
     alloc: Global,
-    kernel: &mut Kernel<Queues>,
+    kernel: &mut Kernel<F>,
 ) -> Result<(), AllocError> {
     let mut events = missing_pins(alloc, 10_000_001)?;
     refuses(rt, kernel, &events, KernelFault::TooManyEvents);
@@ -228,7 +243,7 @@ fn limit_of_events(
 }
 
 // The first events of a kernel of the inverter: one of them is useful.
-fn first_events(rt: &impl Abort, kernel: &mut Kernel<Queues>) -> Result<(), Fail>
+fn first_events<F: Fabric>(rt: &impl Abort, kernel: &mut Kernel<F>) -> Result<(), Fail>
     ensures { OnOk result (kernel.new.circuit ≡ kernel.old.circuit) }
 {
     applies(rt, kernel, Deliver(0), false)?;
@@ -240,7 +255,7 @@ fn first_events(rt: &impl Abort, kernel: &mut Kernel<Queues>) -> Result<(), Fail
 
 // Events of nets and pins that the inverter doesn't have are refused, by a fault that isn't want of
 // memory, and nothing of the first net is known after them.
-fn refused_events(rt: &impl Abort, design: &Design, kernel: &mut Kernel<Queues>)
+fn refused_events<F: Fabric>(rt: &impl Abort, design: &Design, kernel: &mut Kernel<F>)
     requires { kernel.old.circuit ≡ design.now.circuit }
 {
     let no_such_pin = KernelFault::NoSuchPin { at: 0 };
@@ -254,8 +269,8 @@ fn refused_events(rt: &impl Abort, design: &Design, kernel: &mut Kernel<Queues>)
     assert_eq!(rt; kernel.frontier(0), 0);
 }
 
-fn use_fresh(rt: &impl Abort, alloc: Global, design: &Design) -> Result<(), Fail> {
-    let mut kernel: Kernel<Queues> = Kernel::new(alloc, design, Horizon::new(5)?)?;
+fn use_fresh<F: Fabric>(rt: &impl Abort, alloc: Global, design: &Design) -> Result<(), Fail> {
+    let mut kernel: Kernel<F> = Kernel::new(alloc, design, Horizon::new(5)?)?;
     first_events(rt, &mut kernel)?;
     refused_events(rt, design, &mut kernel);
     limit_of_events(rt, alloc, &mut kernel)?;
@@ -266,11 +281,12 @@ fn use_fresh(rt: &impl Abort, alloc: Global, design: &Design) -> Result<(), Fail
 #[test]
 fn fresh_kernel(rt: HostRuntime) -> Result<(), Fail> {
     let design = INVERTER.build(rt.alloc())?;
-    use_fresh(&rt, rt.alloc(), &design)
+    use_fresh::<Queues>(&rt, rt.alloc(), &design)?;
+    use_fresh::<Logs>(&rt, rt.alloc(), &design)
 }
 
 // Applies the event that the kernel calls useful.
-fn apply_useful(rt: &impl Abort, kernel: &mut Kernel<Queues>) -> Result<(), Fail> {
+fn apply_useful<F: Fabric>(rt: &impl Abort, kernel: &mut Kernel<F>) -> Result<(), Fail> {
     assert!(rt; !kernel.is_failed());
     let event = kernel.useful().expect(rt, "a useful event");
     assert!(rt; kernel.apply(event)?);
@@ -278,8 +294,8 @@ fn apply_useful(rt: &impl Abort, kernel: &mut Kernel<Queues>) -> Result<(), Fail
 }
 
 // Seven events are useful, one after the other, and then none is.
-fn drive(rt: &impl Abort, alloc: Global, design: &Design) -> Result<(), Fail> {
-    let mut kernel: Kernel<Queues> = Kernel::new(alloc, design, Horizon::new(3)?)?;
+fn drive<F: Fabric>(rt: &impl Abort, alloc: Global, design: &Design) -> Result<(), Fail> {
+    let mut kernel: Kernel<F> = Kernel::new(alloc, design, Horizon::new(3)?)?;
     for _event in 0..7 {
         apply_useful(rt, &mut kernel)?;
     }
@@ -293,11 +309,12 @@ fn drive(rt: &impl Abort, alloc: Global, design: &Design) -> Result<(), Fail> {
 #[test]
 fn driven_by_useful(rt: HostRuntime) -> Result<(), Fail> {
     let design = SELF_INVERTER.build(rt.alloc())?;
-    drive(&rt, rt.alloc(), &design)
+    drive::<Queues>(&rt, rt.alloc(), &design)?;
+    drive::<Logs>(&rt, rt.alloc(), &design)
 }
 
 // At each pin so many messages wait, and so many ticks of its source it knows.
-fn pins_have(rt: &impl Abort, design: &Design, kernel: &Kernel<Queues>, wanted: &[(u64, u64)])
+fn pins_have<F: Fabric>(rt: &impl Abort, design: &Design, kernel: &Kernel<F>, wanted: &[(u64, u64)])
     requires { kernel.now.circuit ≡ design.now.circuit }
 {
     assert!(rt; !kernel.is_failed());
@@ -310,8 +327,12 @@ fn pins_have(rt: &impl Abort, design: &Design, kernel: &Kernel<Queues>, wanted: 
 }
 
 // What the pins have after two events, and a round after them.
-fn wait_and_receive(rt: &impl Abort, alloc: Global, design: &Design) -> Result<(), Fail> {
-    let mut kernel: Kernel<Queues> = Kernel::new(alloc, design, Horizon::new(8)?)?;
+fn wait_and_receive<F: Fabric>(
+    rt: &impl Abort,
+    alloc: Global,
+    design: &Design,
+) -> Result<(), Fail> {
+    let mut kernel: Kernel<F> = Kernel::new(alloc, design, Horizon::new(8)?)?;
     kernel.apply_all(&[Advance(0), Deliver(1)])?;
     pins_have(rt, design, &kernel, &[(3, 0), (2, 1), (0, 0)]);
     kernel.round()?;
@@ -322,7 +343,8 @@ fn wait_and_receive(rt: &impl Abort, alloc: Global, design: &Design) -> Result<(
 #[test]
 fn waits_and_receives(rt: HostRuntime) -> Result<(), Fail> {
     let design = LATE_PIN.build(rt.alloc())?;
-    wait_and_receive(&rt, rt.alloc(), &design)
+    wait_and_receive::<Queues>(&rt, rt.alloc(), &design)?;
+    wait_and_receive::<Logs>(&rt, rt.alloc(), &design)
 }
 
 #[test]

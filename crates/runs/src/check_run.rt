@@ -12,10 +12,8 @@ ghost use Rattle.runs.specs.declared.fault.SimFault.TheVariants.{Memory};
 
 use crate::fault::SimFault;
 use crate::preparation::{PreparedRun, prepare_run};
-use crate::simulation::complete;
+use crate::simulation::{RunKernel, complete};
 use crate::source::Source;
-use cmb_channels::Queues;
-use cmb_kernel::Kernel;
 use design::plain_waves;
 use logic3::Waveform;
 use std::alloc::Global;
@@ -63,7 +61,7 @@ fn check_prepared(alloc: Global, run: &PreparedRun) -> Result<CheckAnswer, SimFa
 }
 
 /// For how many nets the kernel gives the same waveform.
-fn same_waves(kernel: &Kernel<'_, Queues>, waves: &[Waveform]) -> u32
+fn same_waves(kernel: &RunKernel<'_>, waves: &[Waveform]) -> u32
     requires running { kernel.now.failed ≡ false }
     requires known { IsKnown kernel.now }
     requires few { length kernel.now.circuit < 2 ^ 32 }

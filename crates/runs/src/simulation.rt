@@ -17,12 +17,15 @@ use crate::fault::SimFault;
 use crate::preparation::{PreparedRun, prepare_run};
 use crate::source::Source;
 use crate::view::View;
-use cmb_channels::Queues;
+use cmb_channels::Logs;
 use cmb_events::Event;
 use cmb_kernel::{Counts, Kernel, KernelFault};
 use logic3::Waveform;
 use std::alloc::{AllocError, Global};
 use std::io::Write;
+
+/// The kernel of every run, and the channels that its messages go through.
+pub(crate) type RunKernel<'r> = Kernel<'r, Logs>;
 
 /// How much happened in a run.
 #[derive(Clone, Copy, Debug, PartialEq, Eq)]
@@ -89,7 +92,7 @@ fn dump_by_kernel<W: Write>(
 /// Writes the dump of what a kernel knows at the end of a run.
 fn write_known<W: Write>(
     alloc: Global,
-    kernel: &Kernel<'_, Queues>,
+    kernel: &RunKernel<'_>,
     run: &PreparedRun,
     view: &View,
     out: &mut W,
@@ -113,7 +116,7 @@ fn write_known<W: Write>(
 pub(crate) fn complete<'r>(
     alloc: Global,
     run: &'r PreparedRun,
-) -> Result<(Kernel<'r, Queues>, Report), SimFault>
+) -> Result<(RunKernel<'r>, Report), SimFault>
     requires exist { All (Exists run.now.design.circuit) run.now.schedule }
     requires few { length run.now.schedule ≤ most_events }
     ensures running { IfOk result (λ done. (done.0).failed ≡ false) }
@@ -123,13 +126,13 @@ pub(crate) fn complete<'r>(
     ensures report { IfOk result (λ done. done.1 ≡ report_of (seen_run run.now)) }
     ensures err { IfErr result (λ fault. fault ≡ SimFault.Memory) }
 {
-    let mut kernel = Kernel::<Queues>::new(alloc, &run.design, run.horizon)?;
+    let mut kernel = RunKernel::new(alloc, &run.design, run.horizon)?;
     let report = run_to_end(&mut kernel, run.schedule.events())?;
     Ok((kernel, report))
 }
 
 /// Applies the events, and then completes the run.
-fn run_to_end(kernel: &mut Kernel<'_, Queues>, events: &[Event]) -> Result<Report, KernelFault>
+fn run_to_end(kernel: &mut RunKernel<'_>, events: &[Event]) -> Result<Report, KernelFault>
     requires running { kernel.old.failed ≡ false }
     requires exist { All (Exists kernel.old.circuit) events.now }
     requires few { length events.now ≤ most_events }
@@ -156,7 +159,7 @@ fn run_to_end(kernel: &mut Kernel<'_, Queues>, events: &[Event]) -> Result<Repor
 /// Copies of the waveforms of these nets.
 fn known_waves(
     alloc: Global,
-    kernel: &Kernel<'_, Queues>,
+    kernel: &RunKernel<'_>,
     nets: &[u32],
 ) -> Result<Vec<Waveform>, AllocError>
     requires running { kernel.now.failed ≡ false }

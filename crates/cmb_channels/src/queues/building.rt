@@ -1,30 +1,19 @@
 //! What empty channels are made of.
-ghost use Rattle.std.specs.Prelude.{◌≡◌, [], length, replicate, IfOk};
+ghost use Rattle.std.specs.Prelude.{◌≡◌, ◌<◌, [], All, length, replicate, IfOk, OnOk};
 ghost use Rattle.design.specs.Pins.{sources_of};
 ghost use Rattle.cmb_channels.specs.Channels.{all_fed, pins_in};
 ghost use Rattle.cmb_channels.specs.Waiting.{lists_in};
 
-use crate::message::Message;
+use crate::packed::Packed;
 use design::Design;
 use std::alloc::{AllocError, Global};
 use std::collections::VecDeque;
 
-/// The net that feeds each pin.
-pub(super) fn pin_sources(alloc: Global, design: &Design) -> Result<Vec<u32>, AllocError>
-    ensures { IfOk result (λ sources. sources.items ≡ sources_of design.now.circuit) }
-{
-    let pins = design.pins();
-    let mut sources = Vec::with_capacity(alloc, pins as usize)?;
-    for pin in 0..pins {
-        sources.push(design.pin_source(pin))?;
-    }
-    Ok(sources)
-}
-
 /// The pins that each net feeds, in order.
 pub(super) fn fed_pins(alloc: Global, design: &Design) -> Result<Vec<Vec<u32>>, AllocError>
-    ensures { IfOk result (λ fed.
+    ensures fed { IfOk result (λ fed.
         pins_in fed.items ≡ all_fed (length design.now.circuit) (sources_of design.now.circuit)) }
+    ensures within { OnOk result (All (λ source. source < length design.now.circuit) (sources_of design.now.circuit)) }
 {
     let mut fed = no_pins(alloc, design.nets())?;
     for pin in 0..design.pins() {
@@ -45,7 +34,7 @@ fn no_pins(alloc: Global, nets: u32) -> Result<Vec<Vec<u32>>, AllocError>
 }
 
 /// An empty queue for each of so many pins.
-pub(super) fn empty_queues(alloc: Global, pins: u32) -> Result<Vec<VecDeque<Message>>, AllocError>
+pub(super) fn empty_queues(alloc: Global, pins: u32) -> Result<Vec<VecDeque<Packed>>, AllocError>
     ensures { IfOk result (λ queues. lists_in queues.items ≡ replicate pins []) }
 {
     let mut queues = Vec::with_capacity(alloc, pins as usize)?;

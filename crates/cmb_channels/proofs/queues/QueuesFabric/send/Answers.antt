@@ -1,68 +1,97 @@
-use Rattle.std.proofs.Common.{◌≡◌, [], ◌∷◌, length, slice_index_or, ap, ◌∙◌, arith}
+use Rattle.std.proofs.Common.{◌≡◌, ℕ, List, [], ◌∷◌, length, slice_index_or, ap, sym, ◌∙◌, arith}
 use Rattle.std.proofs.lemmas.List.{length-map}
+use Rattle.std.proofs.lemmas.List.FromFn.{length-map-range_with_len}
 use Rattle.cmb_channels.specs.Lists.{sent}
-use Rattle.cmb_channels.specs.Channels.{Channels, pins_fed}
+use Rattle.cmb_channels.specs.Channels.{Channels, pins_fed, all_fed, pins_in, source_in, sources_in}
 use Rattle.cmb_channels.specs.Waiting.{appended, lists_in}
 use Rattle.cmb_channels.proofs.FedPins.{stored_pins, pins_fed-within, pins_fed-rising, appended-fed}
 use Rattle.cmb_channels.proofs.WaitingLemmas.{length-appended}
 use Rattle.cmb_channels.proofs.queues.QueuesFabric.send.Goals as goal
 use Rattle.cmb_channels.proofs.queues.QueuesFabric.send.Goals.{After-as_slice-pins, After-push_at_all}
 
-fed : (c : After-as_slice-pins) → c.as_slice-pins.result.now ≡ pins_fed c.args.net c.self.inside.sources.items
+abbrev sources : (c : After-as_slice-pins) → List ℕ
+sources c = sources_in (pins_in c.self.inside.fed.items) (length c.self.inside.queues.items)
+
+fed : (c : After-as_slice-pins) → c.as_slice-pins.result.now ≡ pins_fed c.args.net (sources c)
 fed c =
     let nets = ap (λ (channels : Channels). channels.nets) c.self.view_is in
     let long = length-map c.self.inside.fed.items (λ pins. pins.items) in
     c.as_slice-pins.ensures.value
-    ∙ stored_pins c.self.inside.fed.items _ c.args.net _ _ c.self.invariant.fed (omega (arith, c.requires, nets, long)) c.index.ensures
+    ∙ stored_pins c.self.inside.fed.items _ c.args.net _ _ c.self.invariant (omega (arith, c.requires.net, nets, long)) c.index.ensures
+
+-- there is a source for each queue
+long : (c : After-as_slice-pins) → length (sources c) ≡ length c.self.inside.queues.items
+long c = length-map-range_with_len (source_in (pins_in c.self.inside.fed.items)) 0 (length c.self.inside.queues.items)
 
 pub reserve_places-requires : goal.reserve_places-requires
 reserve_places-requires c = λ k d within.
-    let same = fed (goal.at.reserve_places-requires c).After-as_slice-pins in
-    let at = ap (λ pins. slice_index_or pins k d) same in
-    let below = pins_fed-within c.args.net c.self.inside.sources.items k d (omega (arith, within, ap length same)) in
-    let lists = length-map c.self.inside.queues.items (λ queue. queue.items) in
-    omega (arith, at, below, lists, c.self.invariant.one_list_each, c.self.inside.queues.ok.0)
+    let at = goal.at.reserve_places-requires c in
+    let same = fed at.After-as_slice-pins in
+    let below = pins_fed-within c.args.net (sources at.After-as_slice-pins) k d (omega (arith, within, ap length same)) in
+    omega (arith, ap (λ pins. slice_index_or pins k d) same, below, long at.After-as_slice-pins, c.self.inside.queues.ok.0)
 
 pub push_at_all-requires-clause-rising : goal.push_at_all-requires-clause-rising
 push_at_all-requires-clause-rising c = λ i j d before within.
-    let same = fed (goal.at.push_at_all-requires-clause-rising c).After-as_slice-pins in
+    let at = goal.at.push_at_all-requires-clause-rising c in
+    let same = fed at.After-as_slice-pins in
     let first = ap (λ pins. slice_index_or pins i d) same in
     let second = ap (λ pins. slice_index_or pins j d) same in
     omega
-    (arith, first, second, pins_fed-rising c.args.net c.self.inside.sources.items i j d before (omega (arith, within, ap length same)))
+    (arith, first, second, pins_fed-rising c.args.net (sources at.After-as_slice-pins) i j d before (omega (arith, within, ap length same)))
 
 pub push_at_all-requires-clause-exist : goal.push_at_all-requires-clause-exist
 push_at_all-requires-clause-exist c = λ k d within.
-    let same = fed (goal.at.push_at_all-requires-clause-exist c).After-as_slice-pins in
-    let at = ap (λ pins. slice_index_or pins k d) same in
-    let below = pins_fed-within c.args.net c.self.inside.sources.items k d (omega (arith, within, ap length same)) in
-    let lists = length-map c.reserve_places.new.queues.items (λ queue. queue.items) in
-    omega
-    (arith, at, below, lists, ap length c.reserve_places.ensures.lists, c.self.invariant.one_list_each, c.reserve_places.new.queues.ok.0)
+    let at = goal.at.push_at_all-requires-clause-exist c in
+    let same = fed at.After-as_slice-pins in
+    let below = pins_fed-within c.args.net (sources at.After-as_slice-pins) k d (omega (arith, within, ap length same)) in
+    let old = length-map c.self.inside.queues.items (λ queue. queue.items) in
+    let new = length-map c.reserve_places.new.queues.items (λ queue. queue.items) in
+    omega (
+      arith,
+      ap (λ pins. slice_index_or pins k d) same,
+      below,
+      old,
+      new,
+      ap length c.reserve_places.ensures.lists,
+      long at.After-as_slice-pins,
+      c.reserve_places.new.queues.ok.0,
+    )
 
-same_pins : (c : After-push_at_all) → length (lists_in c.push_at_all.new.queues.items) ≡ length (lists_in c.self.inside.queues.items)
-same_pins c =
+same_lists : (c : After-push_at_all) → length (lists_in c.push_at_all.new.queues.items) ≡ length (lists_in c.self.inside.queues.items)
+same_lists c =
     ap length c.push_at_all.ensures
     ∙ length-appended c.args.message c.as_slice-pins.result.now (lists_in c.reserve_places.new.queues.items)
     ∙ ap length c.reserve_places.ensures.lists
 
+same_queues : (c : After-push_at_all) → length c.push_at_all.new.queues.items ≡ length c.self.inside.queues.items
+same_queues c =
+    sym (length-map c.push_at_all.new.queues.items (λ queue. queue.items))
+    ∙ same_lists c
+    ∙ length-map c.self.inside.queues.items (λ queue. queue.items)
+
 pub invariant_of-self-2 : goal.invariant_of-self-2
-invariant_of-self-2 c = record {
-  fed = c.self.invariant.fed;
-  one_list_each = same_pins (goal.at.invariant_of-self-2 c).After-push_at_all ∙ c.self.invariant.one_list_each;
-}
+invariant_of-self-2 c =
+    c.self.invariant
+    ∙ ap (λ pins. all_fed (length (pins_in c.self.inside.fed.items)) (sources_in (pins_in c.self.inside.fed.items) pins))
+    (sym (same_queues (goal.at.invariant_of-self-2 c).After-push_at_all))
 
 pub returns-clause-ok : goal.returns-clause-ok
 returns-clause-ok c =
-    let sources = c.self.inside.sources.items in
+    let at = (goal.at.returns-clause-ok c).After-as_slice-pins in
     let lists = lists_in c.self.inside.queues.items in
     c.push_at_all.ensures
     ∙ ap (appended c.args.message c.as_slice-pins.result.now) c.reserve_places.ensures.lists
-    ∙ ap (λ pins. appended c.args.message pins lists) (fed (goal.at.returns-clause-ok c).After-as_slice-pins)
-    ∙ appended-fed c.args.message c.args.net sources lists c.self.invariant.one_list_each
+    ∙ ap (λ pins. appended c.args.message pins lists) (fed at)
+    ∙ appended-fed c.args.message c.args.net (sources at) lists
+    (length-map c.self.inside.queues.items (λ queue. queue.items) ∙ sym (long at))
     ∙ ap (λ (channels : Channels). sent c.args.net (c.args.message ∷ []) channels.sources channels.lists) c.self.view_is
 
 pub returns-clause-pins : goal.returns-clause-pins
 returns-clause-pins c =
-    same_pins (goal.at.returns-clause-pins c).After-push_at_all
+    same_lists (goal.at.returns-clause-pins c).After-push_at_all
     ∙ ap (λ (channels : Channels). length channels.lists) c.self.view_is
+
+pub returns-clause-sources : goal.returns-clause-sources
+returns-clause-sources c =
+    ap (sources_in (pins_in c.self.inside.fed.items)) (same_queues (goal.at.returns-clause-sources c).After-push_at_all)
+    ∙ ap (λ (channels : Channels). channels.sources) c.self.view_is

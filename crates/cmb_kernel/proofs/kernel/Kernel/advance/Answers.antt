@@ -1,8 +1,9 @@
-use Rattle.std.proofs.Common.{◌≡◌, true, ◌==◌, not, length, slice_set, refl, ap, ◌∙◌, sym, subst, ◌+◌, ◌<◌}
+use Rattle.std.proofs.Common.{◌≡◌, true, ◌==◌, not, All, length, slice_set, refl, ap, ◌∙◌, sym, subst, ◌+◌, ◌<◌}
 use Rattle.cmb_events.specs.declared.event.Event.TheVariants.{Advance}
+use Rattle.cmb_channels.specs.Packing.{Fits}
 use Rattle.cmb_kernel.proofs.Refused.{OnErr_always}
 use Rattle.cmb_kernel.proofs.Running.{runs_at, goes_on}
-use Rattle.cmb_kernel.proofs.Applied.{IsApplied, few_messages, farther_useful, telling_useful, net_advanced}
+use Rattle.cmb_kernel.proofs.Applied.{IsApplied, few_messages, news_fit, farther_useful, telling_useful, net_advanced}
 use Rattle.cmb_kernel.specs.Running.{state_of}
 use Rattle.cmb_kernel.specs.Useful.{is_useful}
 use Rattle.cmb_kernel.proofs.kernel.Kernel.advance.Given.{Over}
@@ -22,6 +23,12 @@ add_event-requires g c =
     subst (λ (ms : _). c.self.inside.counts.changes + c.self.inside.counts.nulls + length ms < 18_446_744_073_709_551_616)
     (sym (c.as_slice-2.ensures.value ∙ c.in_ok-news.ensures.news))
     (few_messages all c.args.net c.index_mut.result.now (rw (← c.self.view_is) at c.requires.exists) c.index_mut.ensures.value)
+
+pub send_all-requires-clause-fit : goal.send_all-requires-clause-fit
+send_all-requires-clause-fit g c =
+    let all = c.self.invariant (rw (← c.self.view_is) at c.requires.running) in
+    subst (All Fits) (sym (c.as_slice.ensures.value ∙ c.in_ok-news.ensures.news))
+    (news_fit all c.args.net c.index_mut.result.now (rw (← c.self.view_is) at c.requires.exists) c.index_mut.ensures.value)
 
 -- what the event makes of the parts
 applied : (g : Over) (c : After-add_event g) →

@@ -1,18 +1,9 @@
-use Rattle.std.proofs.Common.{◌≡◌, ℕ, ◌+◌, ◌<◌, ◌==◌, Bool, true, false, cond, List, [], ◌∷◌, ◌++◌, length, take, get_or, refl, ap, sym, ◌∙◌, arith}
-use Rattle.std.proofs.lemmas.List.{take_more, append-nil}
+use Rattle.std.proofs.Common.{◌≡◌, ℕ, ◌+◌, ◌<◌, List, [], ◌∷◌, ◌++◌, length, take, get_or, refl, ap, sym, ◌∙◌, arith}
+use Rattle.std.proofs.lemmas.List.{take_more}
 use Rattle.cmb_channels.specs.declared.message.Message.{Message}
 use Rattle.cmb_channels.specs.Lists.{sent}
-use Rattle.cmb_channels.proofs.CallerLemmas.{sent-append}
+use Rattle.cmb_channels.proofs.CallerLemmas.{sent-append, sent-none}
 use Rattle.cmb_kernel.proofs.kernel.events.send_all.Goals as goal
-
-sent-none : (net : ℕ) (sources : List ℕ) (lists : List (List Message)) → sent net [] sources lists ≡ lists
-sent-none net [] lists = refl
-sent-none net (source ∷ sources) [] = refl
-sent-none net (source ∷ sources) (list ∷ lists) = go (source == net) (sent-none net sources lists)
-  where
-    go : (same : Bool) → sent net [] sources lists ≡ lists → cond same (list ++ []) list ∷ sent net [] sources lists ≡ list ∷ lists
-    go true rest = rw (rest, append-nil) refl
-    go false rest = rw rest refl
 
 -- one more message is sent after those before it
 sent_more : (net index : ℕ) (sources old : List ℕ) (messages : List Message) (start before after : List (List Message)) (d : Message) →

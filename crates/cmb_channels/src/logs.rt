@@ -1,0 +1,95 @@
+ghost use Rattle.std.specs.Prelude.{◌≡◌, ◌<◌};
+ghost use Rattle.cmb_channels.specs.Lists.{most_waiting};
+
+mod building;
+mod log;
+
+use crate::fabric::Fabric;
+use crate::message::Message;
+use building::{no_counts, pin_sources, read_logs};
+use design::Design;
+use log::Log;
+use std::alloc::{AllocError, Global};
+use std::marker::Model;
+
+/// Channels as a log for each net, of the messages that it sent, and a count for each pin, of those
+/// that it has taken. What every pin of the net has taken is cut away.
+///
+/// Sending, taking and counting take constant time on the whole, however many pins the net feeds. A
+/// message takes eight bytes, for all pins together.
+#[derive(Debug, Drop)]
+pub struct Logs {
+    // The net that feeds each pin.
+    sources: Vec<u32>,
+    // How many messages each pin has taken, modulo 2^64.
+    counts: Vec<u64>,
+    // What each net sent.
+    logs: Vec<Log>,
+}
+
+impl Model for Logs {
+    ghost use Rattle.std.specs.Prelude.{length};
+    ghost use Rattle.cmb_channels.specs.Channels.{Channels};
+    ghost use Rattle.cmb_channels.specs.Logs.{AreLogs, unread_lists};
+
+    ghost Value = { Channels };
+
+    ghost view = { λ l. record {
+      lists = unread_lists l.logs.items l.sources.items l.counts.items;
+      sources = l.sources.items;
+      nets = length l.logs.items;
+    } };
+
+    ghost invariant = { λ l. AreLogs l.logs.items l.sources.items l.counts.items };
+}
+
+impl Logs {
+    /// How many messages the log of a net holds: as many as wait at the pin, of those that the net
+    /// feeds, where most wait, and 0 where it feeds none. Takes no memory.
+    pub fn kept(&self, net: u32) -> u64
+        requires { net < self.now.nets }
+        ensures { result ≡ most_waiting net self.now.sources self.now.lists }
+    {
+        self.logs[net as usize].len()
+    }
+}
+
+impl Fabric for Logs {
+    ghost use Rattle.cmb_channels.specs.Channels.{Channels};
+
+    ghost lists = { λ l. l.lists };
+
+    ghost sources = { λ l. l.sources };
+
+    ghost nets = { λ l. l.nets };
+
+    fn empty_for(alloc: Global, design: &Design) -> Result<Self, AllocError> {
+        let pins = design.pins();
+        let counts = no_counts(alloc, pins)?;
+        let sources = pin_sources(alloc, design)?;
+        let logs = read_logs(alloc, design.nets(), sources.as_slice())?;
+        Ok(Logs {
+            sources,
+            counts,
+            logs,
+        })
+    }
+
+    fn send(&mut self, net: u32, message: Message) -> Result<(), AllocError> {
+        self.logs[net as usize].write(message)?;
+        Ok(())
+    }
+
+    fn take(&mut self, pin: u32) -> Option<Message> {
+        let count = self.counts[pin as usize];
+        let source = self.sources[pin as usize];
+        let message = self.logs[source as usize].read(count)?;
+        self.counts[pin as usize] = count.wrapping_add(1);
+        Some(message)
+    }
+
+    fn waiting(&self, pin: u32) -> u64 {
+        let source = self.sources[pin as usize];
+        self.logs[source as usize].unread(self.counts[pin as usize])
+    }
+}

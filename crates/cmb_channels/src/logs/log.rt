@@ -1,0 +1,130 @@
+//! The log of one net.
+ghost use Rattle.std.specs.Prelude.{◌≡◌, ◌+◌, ◌-◌, ◌<◌, ◌≤◌, ◌^◌, length, map, Some, slice_get, OnOk, OnErr, IfSome, OnSome, IfNone};
+ghost use Rattle.std.specs.Option.{option_map};
+ghost use Rattle.cmb_channels.specs.declared.logs.log.Entry.{Entry};
+ghost use Rattle.cmb_channels.specs.Packing.{Fits};
+ghost use Rattle.cmb_channels.specs.Logs.{past, empty_log, written, trimmed, read_at};
+
+use crate::message::Message;
+use crate::packed::Packed;
+use std::alloc::{AllocError, Global};
+use std::collections::VecDeque;
+use std::marker::Model;
+
+/// A message that some pin hasn't taken yet, in eight bytes.
+#[derive(Debug, Drop)]
+pub struct Entry {
+    message: Packed,
+    // How many pins haven't taken it.
+    left: u32,
+}
+
+/// What a net sent, as far as some pin that it feeds hasn't taken it.
+#[derive(Debug, Drop)]
+pub struct Log {
+    // How many pins read it.
+    readers: u32,
+    // How many messages were cut away, modulo 2^64.
+    cut: u64,
+    entries: VecDeque<Entry>,
+}
+
+impl Model for Log {
+    ghost use Rattle.cmb_channels.specs.Logs.{LogView};
+
+    ghost Value = { LogView };
+
+    ghost view = { λ l. record { readers = l.readers; cut = l.cut; entries = l.entries.items } };
+}
+
+impl Log {
+    /// A log that no pin reads yet.
+    pub fn new(alloc: Global) -> Log
+        ensures { result ≡ empty_log 0 }
+    {
+        Log {
+            readers: 0,
+            cut: 0,
+            entries: VecDeque::new(alloc),
+        }
+    }
+
+    /// One pin more reads it.
+    pub fn add_reader(&mut self)
+        requires { self.old.readers < 4_294_967_295 }
+        ensures { self.new ≡ record self.old { readers = self.old.readers + 1 } }
+    {
+        self.readers += 1;
+    }
+
+    /// How many messages it holds.
+    pub fn len(&self) -> u64
+        ensures { result ≡ length self.now.entries }
+    {
+        self.entries.len() as u64
+    }
+
+    /// How many messages a pin hasn't taken that has taken so many.
+    pub fn unread(&self, count: u64) -> u64
+        requires { past self.now.cut count ≤ length self.now.entries }
+        ensures { result ≡ length self.now.entries - past self.now.cut count }
+    {
+        self.len() - count.wrapping_sub(self.cut)
+    }
+
+    /// Writes a message at its end. A log that no pin reads keeps nothing, and takes no memory.
+    ///
+    /// An `AllocError` changes nothing.
+    pub fn write(&mut self, message: Message) -> Result<(), AllocError>
+        requires { Fits message }
+        ensures ok { OnOk result (self.new ≡ written message self.old) }
+        ensures err { OnErr result (self.new ≡ self.old) }
+    {
+        if self.readers > 0 {
+            self.entries.push_back(Entry {
+                message: Packed::of(message),
+                left: self.readers,
+            })?;
+        }
+        Ok(())
+    }
+
+    /// The first message that a pin hasn't taken that has taken so many. Takes no memory.
+    pub fn read(&mut self, count: u64) -> Option<Message>
+        requires { IfSome (slice_get self.old.entries (past self.old.cut count)) (λ entry. 0 < entry.left) }
+        ensures message { result ≡ option_map (λ (entry : Entry). entry.message) (slice_get self.old.entries (past self.old.cut count)) }
+        ensures some { OnSome result (self.new ≡ read_at (past self.old.cut count) self.old) }
+        ensures none { IfNone result (self.new ≡ self.old) }
+        ensures few { length self.old.entries < 2 ^ 63 }
+    {
+        let entry = self.entries.get_mut(count.wrapping_sub(self.cut) as usize)?;
+        entry.left -= 1;
+        let message = entry.message.message();
+        self.trim();
+        Some(message)
+    }
+
+    /// Cuts the first message away where every pin has taken it.
+    fn trim(&mut self)
+        ensures { self.new ≡ trimmed self.old self.old.entries }
+    {
+        match self.entries.front() {
+            Some(entry) if entry.left == 0 => {}
+            _ => return,
+        }
+        self.entries.pop_front();
+        self.cut = self.cut.wrapping_add(1);
+        give_back(&mut self.entries);
+    }
+}
+
+/// Gives back half of a queue's memory where it is larger than a few messages and less than a quarter
+/// full.
+fn give_back(entries: &mut VecDeque<Entry>)
+    ensures { entries.new.items ≡ entries.old.items }
+{
+    let room = entries.capacity();
+    if room > 16 && entries.len() < room / 4 {
+        entries.shrink_to(room / 2);
+    }
+}
