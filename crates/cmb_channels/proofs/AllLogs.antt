@@ -10,6 +10,7 @@ use Rattle.std.specs.List.{range_with_len}
 use Rattle.std.specs.Option.{option_map_or}
 use Rattle.cmb_channels.specs.declared.message.Message.{Message}
 use Rattle.cmb_channels.specs.declared.logs.log.Entry.{Entry}
+use Rattle.cmb_channels.specs.Channels.{pins_fed}
 use Rattle.cmb_channels.specs.Lists.{sent, taken, most_waiting}
 use Rattle.cmb_channels.specs.Logs.{two_to_64, next_count, past, LogView, empty_log, logs_read_by, written, read_at, unread, IsLog, unread_of, unread_lists, counts_of, AreLogs}
 use Rattle.cmb_channels.proofs.Counts.{IsReplaced, replaced-held, replaced-here, replaced-later, count_cons}
@@ -61,6 +62,20 @@ counts_elsewhere net source (first ∷ sources) (count ∷ counts) (suc pin) new
         cond same (count ∷ counts_of net sources (slice_set counts pin new)) (counts_of net sources (slice_set counts pin new))
         ≡ cond same (count ∷ counts_of net sources counts) (counts_of net sources counts)
     go true rest = ap (λ cs. count ∷ cs) rest
+    go false rest = rest
+
+-- there is one for each pin that the net feeds
+pub length-counts : (net : ℕ) (sources counts : List ℕ) → length counts ≡ length sources →
+    length (counts_of net sources counts) ≡ length (pins_fed net sources)
+length-counts net [] counts e = refl
+length-counts net (source ∷ sources) [] e = absurd (omega (arith, e))
+length-counts net (source ∷ sources) (count ∷ counts) e =
+    go (source == net) (length-counts net sources counts (omega (arith, e)) ∙ sym (length-map (pins_fed net sources) suc))
+  where
+    go : (same : Bool) → length (counts_of net sources counts) ≡ length (map suc (pins_fed net sources)) →
+        length (cond same (count ∷ counts_of net sources counts) (counts_of net sources counts))
+        ≡ length (cond {A = List ℕ} same (0 ∷ map suc (pins_fed net sources)) (map suc (pins_fed net sources)))
+    go true rest = ap suc rest
     go false rest = rest
 
 -- at first each is 0, one for each pin of the net

@@ -1,5 +1,7 @@
-ghost use Rattle.std.specs.Prelude.{◌≡◌, ◌<◌};
-ghost use Rattle.cmb_channels.specs.Lists.{most_waiting};
+ghost use Rattle.std.specs.Prelude.{◌≡◌, ◌<◌, [], ◌∷◌, length, OnOk, OnErr};
+ghost use Rattle.cmb_channels.specs.Channels.{pins_fed};
+ghost use Rattle.cmb_channels.specs.Lists.{sent, most_waiting};
+ghost use Rattle.cmb_channels.specs.Packing.{Fits};
 
 mod building;
 mod log;
@@ -75,7 +77,17 @@ impl Fabric for Logs {
         })
     }
 
-    fn send(&mut self, net: u32, message: Message) -> Result<(), AllocError> {
+    fn send(&mut self, net: u32, message: Message) -> Result<(), AllocError>
+        requires net { net < self.old.nets }
+        requires fits { Fits message }
+        ensures ok { OnOk result (self.new.lists ≡ sent net (message ∷ []) self.old.sources self.old.lists) }
+        ensures err { OnErr result (self.new.lists ≡ self.old.lists) }
+        ensures pins { length self.new.lists ≡ length self.old.lists }
+        ensures sources { self.new.sources ≡ self.old.sources }
+        ensures nets { self.new.nets ≡ self.old.nets }
+        // What a net sends that feeds no pin takes none.
+        ensures memory { OnErr result (0 < length (pins_fed net self.old.sources)) }
+    {
         self.logs[net as usize].write(message)?;
         Ok(())
     }

@@ -1,5 +1,5 @@
 -- What it tells that a list of events is refused or not.
-use Rattle.std.proofs.Common.{◌≡◌, ◌≢◌, ℕ, ◌+◌, nat_lt, Bool, true, false, cond, List, [], ◌∷◌, length, Option, None, Some, Result, Ok, Err, OnErr, All, refl, ltb-true}
+use Rattle.std.proofs.Common.{◌≡◌, ◌≢◌, ℕ, ◌+◌, nat_lt, Bool, true, false, cond, List, [], ◌∷◌, length, Option, None, Some, Result, Ok, Err, All, refl, ltb-true}
 use Rattle.std.specs.Option.{option_or}
 use Rattle.std.proofs.lemmas.List.Elements.{All-nil, All-cons}
 use Rattle.design.specs.Circuit.{Circuit, pin_count}
@@ -9,11 +9,6 @@ use Rattle.cmb_kernel.specs.declared.fault.KernelFault.{KernelFault}
 use Rattle.cmb_kernel.specs.declared.fault.KernelFault.TheVariants.{NoSuchPin, NoSuchNet, TooManyEvents, Memory}
 use Rattle.cmb_kernel.specs.Refusals.{first_fault, list_fault, answer}
 use Rattle.cmb_events.specs.Schedule.{most_events, Exists}
-
--- what holds anyway holds of an error
-pub OnErr_always : {A F P : Type 0} (result : Result A F) → P → OnErr result P
-OnErr_always (Ok value) holds = tt
-OnErr_always (Err fault) holds = holds
 
 -- no list is refused for want of memory
 first_fault-memory : (circuit : Circuit) (at : ℕ) (events : List Event) → first_fault circuit at events ≢ Some Memory

@@ -79,6 +79,7 @@ impl Log {
         requires { Fits message }
         ensures ok { OnOk result (self.new ≡ written message self.old) }
         ensures err { OnErr result (self.new ≡ self.old) }
+        ensures memory { OnErr result (0 < self.old.readers) }
     {
         if self.readers > 0 {
             self.entries.push_back(Entry {

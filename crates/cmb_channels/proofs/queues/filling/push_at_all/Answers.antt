@@ -14,7 +14,7 @@ loop-pin-preserved c =
       rest =
           ap (appended c.args.message (drop (at + 1) pins))
           (lists_in-push queues (slice_index_or pins at 0) c.args.message c.index_mut.result.now c.push_back_reserved.new.self
-          (omega (arith, exists, c.loop-pin.invariant.same_length, c.args.queues.now.ok.0)) c.index_mut.ensures.value 
+          (omega (arith, exists, c.loop-pin.invariant.same_length, c.args.queues.now.ok.0)) c.index_mut.ensures.value
           (subst (λ m. c.push_back_reserved.new.self.items ≡ c.index_mut.result.now.items ++ m ∷ []) c.of.ensures c.push_back_reserved.ensures.items))
           ∙ ap (λ left. appended c.args.message left (lists_in queues)) (sym (drop_more pins at 0 c.loop-pin-test.true))
           ∙ c.loop-pin.invariant.rest;
