@@ -1,5 +1,6 @@
 -- What crates above may cite of the lemmas of this one.
-pub use Rattle.gate_process.proofs.Events.{advanced_knows, drained_knows, drained_true, get_of_map, heard_knows}
+pub use Rattle.gate_process.proofs.Drained.{drained_knows, drained_true}
+pub use Rattle.gate_process.proofs.Events.{advanced_knows, get_of_map, heard_knows}
 pub use Rattle.gate_process.proofs.Frontiers.{frontier-end, frontier-farther, frontier-mono, least-bound, least-le, least_greatest}
 pub use Rattle.gate_process.proofs.Heard.{can_hear_change, can_hear_null}
 pub use Rattle.gate_process.proofs.Kept.{get_of_kept, length-all_kept}

@@ -2,17 +2,16 @@
 use Rattle.std.proofs.Common.{◌≡◌, ℕ, zero, suc, ◌+◌, ◌<◌, ◌≤◌, List, [], ◌∷◌, map, Some, slice_get, refl, ap, sym, subst, ◌∙◌, arith, inl, inr}
 use Rattle.std.proofs.lemmas.List.{length-map}
 use Rattle.logic3.specs.declared.value.Value.{Value}
-use Rattle.logic3.specs.Wave.{value_at, changes_between, wave_of}
-use Rattle.logic3.proofs.CallerLemmas.{value_at-wave_of, changes_between-same}
+use Rattle.logic3.specs.Wave.{value_at}
 use Rattle.design.specs.Circuit.{Net}
 use Rattle.timing_text.specs.Ranges.{most_ticks}
 use Rattle.cmb_channels.specs.declared.message.Message.{Message}
 use Rattle.cmb_channels.proofs.CallerLemmas.{length-update, IsUpdated, get_of_update}
 use Rattle.gate_process.specs.Knowledge.{Knowledge, nothing_known, knowledge_of, told, forgetting, Tells}
-use Rattle.gate_process.specs.Step.{ProcessState, least, safe_of, frontier_of, next_frontier, started_process, reckoned, kept_from, kept, extended, advanced, heard, drained, drained_changes}
+use Rattle.gate_process.specs.Step.{ProcessState, least, safe_of, frontier_of, next_frontier, started_process, reckoned, kept_from, kept, extended, advanced, heard}
 use Rattle.gate_process.specs.Truth.{Meets, KnowsTruth, IsNet, IsProcess}
 use Rattle.gate_process.proofs.Kept.{length-all_kept, frontiers-all_kept, get_of_kept, kept_farther}
-use Rattle.gate_process.proofs.Told.{before_kept, forgetting_truth, kept_truth, HeardTruth, heard_truth}
+use Rattle.gate_process.proofs.Told.{forgetting_truth, kept_truth, HeardTruth, heard_truth}
 use Rattle.gate_process.proofs.Frontiers.{least-update, frontier-mono, asked-kept}
 use Rattle.gate_process.proofs.Reckoned.{advanced_true}
 
@@ -90,32 +89,10 @@ heard_knows signals number process place source to received message rest meets h
         (sym from) now.kept_known))
     go place' source' received' a (inr other) = h.heard place' source' received' a other.1
 
--- taking out changes keeps the truth
-pub drained_knows : (signals : ℕ → ℕ → Value) (number bound : ℕ) (process : ProcessState) → KnowsTruth signals number process →
-    process.floor ≤ bound → bound ≤ process.known.frontier → KnowsTruth signals number (drained bound process)
-drained_knows signals number bound process h a b = record {
-  pins = h.pins;
-  floor = b;
-  ahead = h.ahead;
-  asked = h.asked;
-  known = ap (λ k. forgetting bound k) h.known ∙ forgetting_truth (signals number) process.floor bound process.known.frontier a b;
-  heard = h.heard;
-}
-
--- what is taken out is true
-pub drained_true : (signals : ℕ → ℕ → Value) (number bound : ℕ) (process : ProcessState) → KnowsTruth signals number process →
-    process.floor ≤ bound → bound ≤ process.known.frontier →
-    drained_changes bound process ≡ changes_between (signals number) process.floor bound
-drained_true signals number bound process h a b =
-    ap (λ (k : Knowledge). changes_between (value_at k.wave) process.floor bound) h.known
-    ∙ changes_between-same (value_at (wave_of (signals number) process.floor process.known.frontier)) (signals number) process.floor bound
-    (before_kept (signals number) process.floor process.known.frontier process.floor (omega arith) (omega arith))
-    (λ tick x y. value_at-wave_of (signals number) process.floor process.known.frontier tick x (omega arith))
-
 -- ---- processes without any truth
 
 -- forgetting once is enough
-forgetting_again : (tick : ℕ) (known : Knowledge) → tick ≤ known.frontier → forgetting tick (forgetting tick known) ≡ forgetting tick known
+pub forgetting_again : (tick : ℕ) (known : Knowledge) → tick ≤ known.frontier → forgetting tick (forgetting tick known) ≡ forgetting tick known
 forgetting_again tick known h = forgetting_truth (value_at known.wave) tick tick known.frontier (omega arith) h
 
 pub kept_again : (process : ProcessState) (place : ℕ) (known : Knowledge) → kept process place (kept process place known) ≡ kept process place known

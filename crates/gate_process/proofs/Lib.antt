@@ -1,5 +1,6 @@
 mod Advanced
 pub mod CallerLemmas
+mod Drained
 mod Events
 mod Forgets
 mod Frontiers

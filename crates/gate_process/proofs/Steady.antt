@@ -1,6 +1,5 @@
 -- Between the changes at its pins a net changes nothing, so a walk over these changes finds all of its own.
-use Rattle.std.proofs.Common.{◌≡◌, ℕ, zero, suc, ◌+◌, ◌-◌, ◌<◌, ◌≤◌, nat_le, true, false, cond, List, [], ◌∷◌, ◌++◌, length, slice_index_or, flat_map, Option, None, Some, option_map, refl, ap, sym, ◌∙◌, arith, ◌⊎◌, inl, inr, leb-true}
-use Rattle.std.specs.List.{range_with_len}
+use Rattle.std.proofs.Common.{◌≡◌, ℕ, ◌<◌, ◌≤◌, nat_le, true, false, List, length, slice_index_or, Option, None, Some, option_map, refl, ap, sym, ◌∙◌, arith, ◌⊎◌, inl, inr, leb-true}
 use Rattle.std.specs.List.Sorted.{IsPartitionPoint}
 use Rattle.std.specs.Option.{option_map_or}
 use Rattle.std.proofs.lemmas.Bool.{cases_lt, le-leb, lt-leb}
@@ -9,9 +8,8 @@ use Rattle.logic3.specs.declared.value.Value.{Value}
 use Rattle.logic3.specs.declared.value.Value.TheVariants.{Unknown}
 use Rattle.logic3.specs.declared.change.Change.{Change}
 use Rattle.logic3.specs.Gate.{value_of_gate, only_pin}
-use Rattle.logic3.specs.Value.{is_same, is_same_equiv}
 use Rattle.logic3.specs.Rising.{TicksRise}
-use Rattle.logic3.specs.Wave.{value_after, value_before, change_at, changes_between}
+use Rattle.logic3.specs.Wave.{value_after}
 use Rattle.logic3.proofs.CallerLemmas.{value_after-partition, RisesBy-ascends}
 use Rattle.netlist.specs.declared.part.Part.{Part}
 use Rattle.netlist.specs.declared.part.Part.TheVariants.{Input, Gate, Flop}

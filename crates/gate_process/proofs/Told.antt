@@ -6,7 +6,7 @@ use Rattle.logic3.specs.declared.value.Value.{Value}
 use Rattle.logic3.specs.declared.change.Change.{Change}
 use Rattle.logic3.specs.Value.{is_same}
 use Rattle.logic3.specs.Wave.{value_at, value_before, change_at, changes_between, wave_of, IsWave}
-use Rattle.logic3.proofs.CallerLemmas.{value_at-wave_of, value_after-later, changes_between-split, changes_between-same, IsWave-wave_of}
+use Rattle.logic3.proofs.CallerLemmas.{value_at-wave_of, value_after-later, changes_between-split, changes_between-same, IsWave-wave_of, one_change}
 use Rattle.cmb_channels.specs.declared.message.Message.{Message}
 use Rattle.cmb_channels.specs.declared.message.Message.TheVariants.{Change as Changes, Null}
 use Rattle.gate_process.specs.Knowledge.{Knowledge, knowledge_of, told, told_all, forgetting, news_of, Tells}

@@ -7,7 +7,7 @@ use Rattle.logic3.specs.declared.value.Value.{Value}
 use Rattle.logic3.specs.declared.change.Change.{Change}
 use Rattle.logic3.specs.Value.{is_same, is_same_equiv}
 use Rattle.logic3.specs.Wave.{Wave, value_before, change_at, changes_between, last_value, joined}
-use Rattle.logic3.proofs.CallerLemmas.{changes_between-split, change_at-some, value_in_the_end-append, All-wave_of}
+use Rattle.logic3.proofs.CallerLemmas.{changes_between-split, change_at-some, value_in_the_end-append, All-wave_of, one_change, quiet}
 use Rattle.cmb_channels.specs.declared.message.Message.{Message}
 use Rattle.cmb_channels.specs.declared.message.Message.TheVariants.{Change as Changes, Null}
 use Rattle.gate_process.specs.Knowledge.{news_of}

@@ -1,5 +1,5 @@
 -- The state of a net's process and its steps.
-use Rattle.std.specs.Prelude.{ℕ, Bool, false, ◌+◌, ◌-◌, nat_lt, ◌==◌, if◌then◌else◌, min, List, [], ◌∷◌, map, slice_get, Option, option_map}
+use Rattle.std.specs.Prelude.{ℕ, Bool, false, ◌+◌, ◌-◌, nat_lt, ◌==◌, if◌then◌else◌, min, max, List, [], ◌∷◌, map, slice_get, Option, option_map}
 use Rattle.std.specs.Option.{option_map_or}
 use Rattle.logic3.specs.declared.value.Value.{Value}
 use Rattle.logic3.specs.declared.change.Change.{Change}
@@ -114,9 +114,10 @@ heard place message process =
       received = update (λ (known : Knowledge). kept process place (told known message)) place process.received;
     }
 
--- the process after its changes before a tick were taken out
+-- the process after its changes before a tick were taken out: it is known from there on, unless it was already from a later tick on alone
 abbrev pub drained : ℕ → ProcessState → ProcessState
-drained bound process = record process { floor = bound; known = forgetting bound process.known }
+drained bound process =
+    let floor = max process.floor bound in record process { floor = floor; known = forgetting floor process.known }
 
 -- the changes that are taken out
 abbrev pub drained_changes : ℕ → ProcessState → List Change

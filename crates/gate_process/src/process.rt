@@ -1,6 +1,6 @@
-ghost use Rattle.std.specs.Prelude.{◌≡◌, ℕ, ◌+◌, ◌<◌, Bool, true, false, length, slice_get, Some, IfOk, IfSome, OnOk, OnErr};
+ghost use Rattle.std.specs.Prelude.{◌≡◌, ℕ, ◌+◌, ◌<◌, ◌≤◌, Bool, true, false, length, slice_get, Some, IfOk, IfSome, OnOk, OnErr};
 ghost use Rattle.cmb_channels.specs.Kinds.{is_change};
-ghost use Rattle.gate_process.specs.Step.{running, started_process, pin_frontier, pin_last, heard, safe_of, next_frontier, advanced, news};
+ghost use Rattle.gate_process.specs.Step.{running, started_process, pin_frontier, pin_last, heard, safe_of, next_frontier, advanced, news, drained, drained_changes};
 ghost use Rattle.gate_process.specs.Truth.{IsProcess, CanHear};
 
 use crate::advance::{extend, keep_all};
@@ -8,7 +8,7 @@ use crate::net_copy::NetCopy;
 use crate::received::{Received, least_frontier, nothing_received};
 use cmb_channels::Message;
 use design::Design;
-use logic3::{Value, Waveform};
+use logic3::{Change, Value, Waveform};
 use std::alloc::{AllocError, Global};
 use std::marker::Model;
 use timing_text::Horizon;
@@ -137,6 +137,23 @@ impl Process {
         Ok(messages)
     }
 
+    /// Takes out the net's changes before a tick up to which it is known, in order, and forgets what it
+    /// showed before that tick.
+    ///
+    /// An `AllocError` leaves the process as it was.
+    pub fn drain_below(&mut self, bound: u64) -> Result<Vec<Change>, AllocError>
+        requires running { self.old.failed ≡ false }
+        requires known { bound ≤ self.old.state.known.frontier }
+        ensures changes { IfOk result (λ changes. changes.items ≡ drained_changes bound self.old.state) }
+        ensures ok { OnOk result (self.new ≡ running (drained bound self.old.state)) }
+        ensures err { OnErr result (self.new ≡ self.old) }
+        ensures memory { OnErr result (0 < length (drained_changes bound self.old.state)) }
+    {
+        let changes = self.wave.split_below(bound)?;
+        self.floor = self.floor.max(bound);
+        Ok(changes)
+    }
+
     /// How many ticks are known of all pins: the least of their frontiers, and for an input all
     /// ticks up to the horizon.
     pub fn safe(&self) -> u64
@@ -172,7 +189,8 @@ impl Process {
         self.received[place as usize].last()
     }
 
-    /// What the net shows at the ticks that are known.
+    /// What the net shows at the ticks that are known, from the latest tick on before which changes
+    /// were taken out.
     pub fn waveform(&self) -> &Waveform
         requires running { self.now.failed ≡ false }
         ensures { result.now ≡ self.now.state.known.wave }

@@ -1,0 +1,78 @@
+use Rattle.std.proofs.Common.{◌≡◌, ◌<◌, ◌≤◌, length, ap, sym, subst, ◌∙◌}
+use Rattle.logic3.specs.Wave.{changes_below}
+use Rattle.logic3.proofs.CallerLemmas.{OnErr_always}
+use Rattle.gate_process.specs.Step.{ProcessState, ProcessView, drained, drained_changes}
+use Rattle.gate_process.specs.Truth.{IsProcess}
+use Rattle.gate_process.proofs.Drained.{taken_out, left, drained_is_process}
+use Rattle.gate_process.proofs.process.Process.drain_below.Goals as goal
+use Rattle.gate_process.proofs.process.Process.drain_below.Goals.{After-split_below}
+
+before : After-split_below → ProcessState
+before c = record {
+  net = c.self.inside.net;
+  end = c.self.inside.end;
+  floor = c.self.inside.floor;
+  known = record { wave = c.self.inside.wave; frontier = c.self.inside.frontier };
+  received = c.self.inside.received.items;
+}
+
+view_is : (c : After-split_below) → before c ≡ c.args.self.now.state
+unfolding before
+view_is c = ap (λ (view : ProcessView). view.state) c.self.view_is
+
+is_process : (c : After-split_below) → IsProcess (before c)
+unfolding before
+is_process c = c.self.invariant (ap (λ (view : ProcessView). view.failed) c.self.view_is ∙ c.requires.running)
+
+within : (c : After-split_below) → c.args.bound ≤ (before c).known.frontier
+unfolding before
+within c = subst (λ (p : ProcessState). c.args.bound ≤ p.known.frontier) (sym (view_is c)) c.requires.known
+
+taken : (c : After-split_below) → changes_below c.args.bound c.self.inside.wave.changes ≡ drained_changes c.args.bound c.args.self.now.state
+unfolding before
+taken c = taken_out (before c) c.args.bound (is_process c) (within c) ∙ ap (drained_changes c.args.bound) (view_is c)
+
+pub returns-in_err-changes-clause-memory : goal.returns-in_err-changes-clause-memory
+returns-in_err-changes-clause-memory c =
+    let at = (goal.at.returns-in_err-changes-clause-memory c).After-split_below in
+    OnErr_always _ (subst (λ (cs : _). 0 < length cs) (taken at) c.in_err-changes.ensures.memory)
+
+after : goal.After-self-1 → ProcessState
+after c = record {
+  net = c.self.inside.net;
+  end = c.self.inside.end;
+  floor = c.max-self-inside.result;
+  known = record { wave = c.split_below.new.self; frontier = c.self.inside.frontier };
+  received = c.self.inside.received.items;
+}
+
+is_drained : (c : goal.After-self-1) → after c ≡ drained c.args.bound (before (goal.at.invariant_of-self-2 c).After-split_below)
+unfolding before after
+is_drained c =
+    let at = (goal.at.invariant_of-self-2 c).After-split_below in
+    let wave = c.in_ok-changes.ensures.rest ∙ left (before at) c.args.bound (is_process at) (within at) in
+    λ i. record {
+      net = c.self.inside.net;
+      end = c.self.inside.end;
+      floor = c.max-self-inside.ensures i;
+      known = record { wave = wave i; frontier = c.self.inside.frontier };
+      received = c.self.inside.received.items;
+    }
+
+pub invariant_of-self-2 : goal.invariant_of-self-2
+unfolding after
+invariant_of-self-2 c = λ running.
+    let at = (goal.at.invariant_of-self-2 c).After-split_below in
+    subst IsProcess (sym (is_drained c)) (drained_is_process (before at) c.args.bound (is_process at) (within at))
+
+pub returns-clause-changes : goal.returns-clause-changes
+returns-clause-changes c =
+    let at = (goal.at.returns-clause-changes c).After-split_below in c.in_ok-changes.ensures.below ∙ taken at
+
+pub returns-clause-ok : goal.returns-clause-ok
+unfolding after
+returns-clause-ok c =
+    let at = (goal.at.returns-clause-ok c).After-split_below in
+    let failed = ap (λ (view : ProcessView). view.failed) c.self.view_is ∙ c.requires.running in
+    let state = is_drained c ∙ ap (drained c.args.bound) (view_is at) in
+    λ i. record { failed = failed i; state = state i }
