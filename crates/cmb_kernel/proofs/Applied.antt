@@ -163,28 +163,20 @@ module _ {design : DesignView} {end : ℕ} {processes : List ProcessView} {sourc
   module _ (net : ℕ) (process : ProcessView) (below : net < length design.circuit) (is : process ≡ slice_index_or processes net process)
       (change : ProcessState → ProcessState) where
     -- the process of a net changed
-    changed : map (λ (p : ProcessView). p.state) (slice_set processes net (running (change process.state)))
+    pub changed : map (λ (p : ProcessView). p.state) (slice_set processes net (running (change process.state)))
         ≡ update change net (map (λ (p : ProcessView). p.state) processes)
     changed =
         map-set (λ (p : ProcessView). p.state) processes net (running (change process.state))
         ∙ sym (update-set change net (map (λ (p : ProcessView). p.state) processes) process.state (runs_at all net process below is).at)
 
-    changed_runs : slice_set processes net (running (change process.state))
+    pub changed_runs : slice_set processes net (running (change process.state))
         ≡ map running (map (λ (p : ProcessView). p.state) (slice_set processes net (running (change process.state))))
     changed_runs =
         ap (λ ps. slice_set ps net (running (change process.state))) all.all_run
         ∙ sym (map-set running (map (λ (p : ProcessView). p.state) processes) net (change process.state))
         ∙ ap (map running) (sym (map-set (λ (p : ProcessView). p.state) processes net (running (change process.state))))
 
-    changed_floors : (change process.state).floor ≡ process.state.floor →
-        All (λ (p : ProcessState). p.floor ≡ 0) (map (λ (p : ProcessView). p.state) (slice_set processes net (running (change process.state))))
-    changed_floors same =
-        let at = (runs_at all net process below is).at in
-        let old = All-slice_get (λ (p : ProcessState). p.floor ≡ 0) (map (λ (p : ProcessView). p.state) processes) net process.state all.undrained at in
-        subst (All (λ (p : ProcessState). p.floor ≡ 0)) (sym (map-set (λ (p : ProcessView). p.state) processes net (running (change process.state))))
-        (All-set (λ (p : ProcessState). p.floor ≡ 0) (map (λ (p : ProcessView). p.state) processes) net (change process.state) (same ∙ old) all.undrained)
-
-    changed_frontiers : sum_by (λ (p : ProcessState). p.known.frontier)
+    pub changed_frontiers : sum_by (λ (p : ProcessState). p.known.frontier)
         (map (λ (p : ProcessView). p.state) (slice_set processes net (running (change process.state)))) + process.state.known.frontier
         ≡ sum_by (λ (p : ProcessState). p.known.frontier) (map (λ (p : ProcessView). p.state) processes) + (change process.state).known.frontier
     changed_frontiers =
@@ -212,7 +204,6 @@ module _ {design : DesignView} {end : ℕ} {processes : List ProcessView} {sourc
       all_run = all.all_run;
       feeds = all.feeds;
       all_nets = all.all_nets;
-      undrained = all.undrained;
       messages = let sum = all.messages in omega arith;
       sound = subst (IsSound design.circuit end) (sym after)
           (step_sound design.circuit (circuit_ok all) end (state_of processes lists counts) (Deliver pin) all.sound exists);
@@ -259,7 +250,6 @@ module _ {design : DesignView} {end : ℕ} {processes : List ProcessView} {sourc
         all_run = changed_runs net process net_below is (heard place message);
         feeds = all.feeds;
         all_nets = all.all_nets;
-        undrained = changed_floors net process net_below is (heard place message) refl;
         messages = let sum = all.messages in let same = changed_frontiers net process net_below is (heard place message) in omega (arith, sum, same);
         sound = subst (IsSound design.circuit end) (sym after)
             (step_sound design.circuit (circuit_ok all) end (state_of processes lists counts) (Deliver pin) all.sound exists);
@@ -295,7 +285,6 @@ module _ {design : DesignView} {end : ℕ} {processes : List ProcessView} {sourc
       all_run = changed_runs net process below is advanced;
       feeds = all.feeds;
       all_nets = all.all_nets;
-      undrained = changed_floors net process below is advanced refl;
       messages =
           let sum = all.messages in
           let frontiers = changed_frontiers net process below is advanced in

@@ -16,11 +16,6 @@ use Rattle.cmb_kernel.proofs.Soundness.{started_sound}
 abbrev pub no_counts : Counts
 no_counts = record { events = 0; changes = 0; nulls = 0; rounds = 0 }
 
-started_floors : (end : ℕ) (circuit : Circuit) → All (λ (process : ProcessState). process.floor ≡ 0) (map (started_process end) circuit)
-started_floors end [] = All-nil (λ (process : ProcessState). process.floor ≡ 0)
-started_floors end (net ∷ nets) =
-    All-cons (λ (process : ProcessState). process.floor ≡ 0) (started_process end net) (map (started_process end) nets) refl (started_floors end nets)
-
 module _ (design : DesignView) (end : ℕ) (processes : List ProcessView) (lists : List (List Message))
     (given : processes ≡ map (λ net. running (started_process end net)) design.circuit)
     (empty : lists ≡ replicate (pin_count design.circuit) []) where
@@ -41,7 +36,6 @@ module _ (design : DesignView) (end : ℕ) (processes : List ProcessView) (lists
         all_run = given ∙ sym (map-map running (started_process end) design.circuit);
         feeds = feeds;
         all_nets = all_nets;
-        undrained = started_floors end design.circuit;
         messages = omega arith;
         sound = started_sound design.circuit end;
       })

@@ -4,7 +4,7 @@ use Rattle.std.specs.List.{range_with_len}
 use Rattle.std.specs.Option.{option_map, option_map_or, ForSome}
 use Rattle.std.proofs.lemmas.List.{length-map}
 use Rattle.std.proofs.lemmas.Option.{slice_get-map, slice_get-get_or, get_or_from_slice_get, same_Some}
-use Rattle.logic3.specs.Wave.{wave_of}
+use Rattle.logic3.specs.Wave.{Wave, wave_of}
 use Rattle.design.specs.Circuit.{Net, Circuit, IsCircuit, pin_count}
 use Rattle.design.specs.Design.{DesignView}
 use Rattle.design.specs.Equations.{value_of, waves_of}
@@ -15,8 +15,9 @@ use Rattle.cmb_channels.proofs.CallerLemmas.{view_at}
 use Rattle.gate_process.specs.Knowledge.{Knowledge}
 use Rattle.gate_process.specs.Step.{ProcessState, ProcessView, running}
 use Rattle.cmb_kernel.specs.declared.counts.Counts.{Counts}
-use Rattle.cmb_kernel.specs.State.{State, KernelView, nets_of, frontier_at, received_of, received_at, IsComplete, waves_in}
+use Rattle.cmb_kernel.specs.State.{State, KernelView, nets_of, frontier_at, floor_at, IsUndrained, received_of, received_at, IsComplete, waves_in}
 use Rattle.cmb_kernel.specs.Running.{state_of, IsRunning}
+use Rattle.cmb_kernel.specs.Sound.{waves_kept}
 use Rattle.cmb_kernel.proofs.Soundness.{net_at}
 use Rattle.cmb_kernel.proofs.LeastFrontier.{net_count}
 use Rattle.cmb_kernel.proofs.Completion.{frontier_within}
@@ -82,15 +83,26 @@ module _ {design : DesignView} {end : ℕ} {processes : List ProcessView} {sourc
       let within = frontier_within design.circuit end net (state_of processes lists counts) process.state all.sound (runs_at net process exists is).at in
       omega (arith, within, known)
 
+  pub floor_is : (net : ℕ) (process : ProcessView) → net < length design.circuit → process ≡ slice_index_or processes net process →
+      process.state.floor ≡ floor_at (state_of processes lists counts) net
+  floor_is net process exists is =
+      sym (view_at (λ (p : ProcessState). p.floor) (map (λ (p : ProcessView). p.state) processes) net process.state
+      (runs_at net process exists is).at)
+
+  pub floor_in_time : (net : ℕ) (process : ProcessView) (floor : ℕ) → net < length design.circuit → process ≡ slice_index_or processes net process →
+      floor ≡ process.state.floor → floor ≤ frontier_at (state_of processes lists counts) net
+  floor_in_time net process floor exists is same =
+      let knows = all.sound.processes net process.state (runs_at net process exists is).at in
+      omega (arith, knows.floor, same, frontier_is net process exists is)
+
   pub wave_is : (net : ℕ) (process : ProcessView) → net < length design.circuit → process ≡ slice_index_or processes net process →
-      process.state.known.wave ≡ wave_of (value_of design.circuit net) 0 (frontier_at (state_of processes lists counts) net)
+      process.state.known.wave
+      ≡ wave_of (value_of design.circuit net) (floor_at (state_of processes lists counts) net) (frontier_at (state_of processes lists counts) net)
   wave_is net process exists is =
       let there = (runs_at net process exists is).at in
       let knows = knows_net design.circuit end (state_of processes lists counts) all.sound net process.state there in
-      let floor = All-slice_get (λ (p : ProcessState). p.floor ≡ 0) (map (λ (p : ProcessView). p.state) processes) net process.state
-      all.undrained there in
-      knows.wave ∙ ap (λ from. wave_of (value_of design.circuit net) from process.state.known.frontier) floor
-      ∙ ap (wave_of (value_of design.circuit net) 0) (frontier_is net process exists is)
+      knows.wave ∙ ap (λ from. wave_of (value_of design.circuit net) from process.state.known.frontier) (floor_is net process exists is)
+      ∙ ap (wave_of (value_of design.circuit net) (floor_at (state_of processes lists counts) net)) (frontier_is net process exists is)
 
   -- the place of a pin is among those of its net's process
   pub place_within : (pin net : ℕ) (process : ProcessView) → pin < pin_count design.circuit → net ≡ net_of_pin design.circuit pin →
@@ -158,7 +170,6 @@ with_rounds rounds all = record {
   all_run = all.all_run;
   feeds = all.feeds;
   all_nets = all.all_nets;
-  undrained = all.undrained;
   messages = all.messages;
   sound = record {
     nets = all.sound.nets;
@@ -181,19 +192,26 @@ map-numbered view at (x ∷ xs) from same =
     λ i. first i ∷ rest i
 
 pub waves_are : {design : DesignView} {end : ℕ} {processes : List ProcessView} {sources : List ℕ} {nets : ℕ} {state : State} →
-    IsRunning design end processes sources nets state → IsComplete state → waves_in state ≡ waves_of design.circuit end
-unfolding waves_of
+    IsRunning design end processes sources nets state → IsComplete state → waves_in state ≡ waves_kept design.circuit end state
 waves_are {design} {end} {state = state} all complete =
-    map-numbered (λ (p : ProcessState). p.known.wave) (λ net. wave_of (value_of design.circuit net) 0 end) state.processes 0 known
-    ∙ ap (λ n. map (λ net. wave_of (value_of design.circuit net) 0 end) (range_with_len 0 n)) (net_count design.circuit end state all.sound)
+    map-numbered (λ (p : ProcessState). p.known.wave) (λ net. wave_of (value_of design.circuit net) (floor_at state net) end) state.processes 0 known
+    ∙ ap (λ n. map (λ net. wave_of (value_of design.circuit net) (floor_at state net) end) (range_with_len 0 n))
+    (net_count design.circuit end state all.sound)
   where
     known : (number : ℕ) (process : ProcessState) → slice_get state.processes number ≡ Some process →
-        process.known.wave ≡ wave_of (value_of design.circuit (0 + number)) 0 end
+        process.known.wave ≡ wave_of (value_of design.circuit (0 + number)) (floor_at state (0 + number)) end
     known number process at =
         let knows = knows_net design.circuit end state all.sound number process at in
-        let floor = All-slice_get (λ (p : ProcessState). p.floor ≡ 0) state.processes number process all.undrained at in
+        let floor = sym (view_at (λ (p : ProcessState). p.floor) state.processes number process at) in
         let done = All-slice_get (λ (p : ProcessState). p.known.frontier ≡ p.end) state.processes number process complete at in
         let last = all.sound.ends number process at in
         knows.wave ∙ ap (λ from. wave_of (value_of design.circuit number) from process.known.frontier) floor
-        ∙ ap (wave_of (value_of design.circuit number) 0) (done ∙ last)
-        ∙ ap (λ n. wave_of (value_of design.circuit n) 0 end) (sym (zero-add number))
+        ∙ ap (wave_of (value_of design.circuit number) (floor_at state number)) (done ∙ last)
+        ∙ ap (λ n. wave_of (value_of design.circuit n) (floor_at state n) end) (sym (zero-add number))
+
+-- where no changes were taken out they are whole
+pub waves_whole : (circuit : Circuit) (end : ℕ) (state : State) → IsUndrained state → waves_kept circuit end state ≡ waves_of circuit end
+unfolding waves_of
+waves_whole circuit end state undrained =
+    ap (λ (wave : ℕ → Wave). map wave (range_with_len 0 (length circuit)))
+    (λ i net. wave_of (value_of circuit net) (undrained net i) end)

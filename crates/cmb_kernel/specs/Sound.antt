@@ -1,6 +1,7 @@
 -- What is true of every state that a run reaches.
-use Rattle.std.specs.Prelude.{◌≡◌, ℕ, ◌+◌, ◌<◌, ◌≤◌, List, [], length, slice_get, slice_index_or, Some}
-use Rattle.logic3.specs.Wave.{value_at, wave_of}
+use Rattle.std.specs.Prelude.{◌≡◌, ℕ, ◌+◌, ◌<◌, ◌≤◌, List, [], length, map, slice_get, slice_index_or, Some}
+use Rattle.std.specs.List.{range_with_len}
+use Rattle.logic3.specs.Wave.{Wave, value_at, wave_of}
 use Rattle.design.specs.Circuit.{Circuit, IsCircuit, pin_count}
 use Rattle.design.specs.Equations.{value_of}
 use Rattle.cmb_channels.specs.declared.message.Message.{Message}
@@ -8,7 +9,7 @@ use Rattle.design.specs.Pins.{first_pin}
 use Rattle.gate_process.specs.Knowledge.{Knowledge, told_all, Tells}
 use Rattle.gate_process.specs.Step.{ProcessState}
 use Rattle.gate_process.specs.Truth.{KnowsTruth}
-use Rattle.cmb_kernel.specs.State.{State, nets_of, frontier_at}
+use Rattle.cmb_kernel.specs.State.{State, nets_of, frontier_at, floor_at}
 
 -- ---- the nets and pins of a state
 
@@ -54,6 +55,10 @@ pub record KnowsNet (circuit : Circuit) (last number : ℕ) (process : ProcessSt
   pub wave : process.known.wave ≡ wave_of (value_of circuit number) process.floor process.known.frontier
   pub floor : process.floor ≤ process.known.frontier
   pub within : process.known.frontier ≤ last
+
+-- what the equations give each net, from its floor up to an end
+abbrev pub waves_kept : Circuit → ℕ → State → List Wave
+waves_kept circuit to state = map (λ net. wave_of (value_of circuit net) (floor_at state net) to) (range_with_len 0 (length circuit))
 
 -- what a pin received, once it is told what waits, has its source's frontier and shows the source's values at the kept ticks
 pub record HearsSource (circuit : Circuit) (source reached keep : ℕ) (received : Knowledge) (coming : List Message) : Type 0 where

@@ -31,6 +31,14 @@ nets_of state = map (λ (process : ProcessState). process.net) state.processes
 abbrev pub frontier_at : State → ℕ → ℕ
 frontier_at state net = slice_index_or (map (λ (process : ProcessState). process.known.frontier) state.processes) net 0
 
+-- the tick from which on a net's waveform is kept: its changes before that tick were taken out
+abbrev pub floor_at : State → ℕ → ℕ
+floor_at state net = slice_index_or (map (λ (process : ProcessState). process.floor) state.processes) net 0
+
+-- no changes of a net were taken out
+abbrev pub IsUndrained : State → Type 0
+IsUndrained state = (net : ℕ) → floor_at state net ≡ 0
+
 -- how far a process knows the source of its pin at a place
 abbrev pub received_of : ProcessState → ℕ → ℕ
 received_of process place = slice_index_or (map (λ (known : Knowledge). known.frontier) process.received) place 0

@@ -4,9 +4,10 @@ ghost use Rattle.design.specs.Design.{IsDesign};
 ghost use Rattle.design.specs.Equations.{value_of};
 ghost use Rattle.logic3.specs.Wave.{wave_of};
 ghost use Rattle.gate_process.specs.Step.{running, started_process};
-ghost use Rattle.cmb_kernel.specs.State.{fresh, frontier_at, received_at};
+ghost use Rattle.cmb_kernel.specs.State.{fresh, frontier_at, floor_at, received_at};
 ghost use Rattle.cmb_kernel.specs.Sound.{IsSound};
 
+mod drains;
 mod events;
 mod frontiers;
 mod rounds;
@@ -25,7 +26,8 @@ use timing_text::Horizon;
 /// A run of a design: a process for each net, and channels between them.
 ///
 /// Whatever events are applied in whatever order, each net knows its waveform as the equations of the
-/// circuit give it, up to the net's frontier. Where memory was refused in the middle of an event the
+/// circuit give it, up to the net's frontier, and from its floor on: what is before the floor was taken
+/// out. Where memory was refused in the middle of an event the
 /// kernel has failed, and answers [`KernelFault::Failed`] from then on.
 #[derive(Drop)]
 pub struct Kernel<'d, F: Fabric> {
@@ -112,11 +114,14 @@ impl<'d, F: Fabric> Kernel<'d, F> {
         self.processes[net as usize].frontier()
     }
 
-    /// What a net shows at the ticks known.
+    /// What a net shows at the ticks known, from its [`floor`](Self::floor) on.
     pub fn waveform(&self, net: u32) -> &Waveform
         requires running { self.now.failed ≡ false }
         requires net { net < length self.now.circuit }
-        ensures { result.now ≡ wave_of (value_of self.now.circuit net) 0 (frontier_at self.now.state net) }
+        ensures waveform { result.now ≡ wave_of (value_of self.now.circuit net)
+            (floor_at self.now.state net) (frontier_at self.now.state net) }
+        ensures undrained { floor_at self.now.state net ≡ 0 →
+            result.now ≡ wave_of (value_of self.now.circuit net) 0 (frontier_at self.now.state net) }
     {
         self.processes[net as usize].waveform()
     }

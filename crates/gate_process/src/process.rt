@@ -163,6 +163,14 @@ impl Process {
         least_frontier(self.end, self.received.as_slice())
     }
 
+    /// The tick from which on the net's waveform is kept: the latest before which changes were taken out.
+    pub fn floor(&self) -> u64
+        requires running { self.now.failed ≡ false }
+        ensures { result ≡ self.now.state.floor }
+    {
+        self.floor
+    }
+
     /// How many ticks of the net are known.
     pub fn frontier(&self) -> u64
         requires running { self.now.failed ≡ false }
@@ -189,8 +197,7 @@ impl Process {
         self.received[place as usize].last()
     }
 
-    /// What the net shows at the ticks that are known, from the latest tick on before which changes
-    /// were taken out.
+    /// What the net shows at the ticks that are known, from its [`floor`](Self::floor) on.
     pub fn waveform(&self) -> &Waveform
         requires running { self.now.failed ≡ false }
         ensures { result.now ≡ self.now.state.known.wave }

@@ -1,7 +1,8 @@
 ghost use Rattle.std.specs.Prelude.{◌≡◌, ◌<◌, false, length};
 ghost use Rattle.std.specs.Bool.{OnTrue};
 ghost use Rattle.design.specs.Equations.{waves_of};
-ghost use Rattle.cmb_kernel.specs.State.{frontier_at, least_frontier, is_complete, waves_in};
+ghost use Rattle.cmb_kernel.specs.State.{frontier_at, least_frontier, IsUndrained, is_complete, waves_in};
+ghost use Rattle.cmb_kernel.specs.Sound.{waves_kept};
 
 use crate::kernel::Kernel;
 use cmb_channels::Fabric;
@@ -19,7 +20,10 @@ impl<'d, F: Fabric> Kernel<'d, F> {
     pub fn is_complete(&self) -> bool
         requires { self.now.failed ≡ false }
         ensures complete { result ≡ is_complete self.now.state }
-        ensures waves { OnTrue result (waves_in self.now.state ≡ waves_of self.now.circuit self.now.end) }
+        ensures waves { OnTrue result (waves_in self.now.state ≡
+            waves_kept self.now.circuit self.now.end self.now.state) }
+        ensures undrained { IsUndrained self.now.state →
+            OnTrue result (waves_in self.now.state ≡ waves_of self.now.circuit self.now.end) }
     {
         self.least_frontier() == self.end
     }

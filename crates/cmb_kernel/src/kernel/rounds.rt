@@ -4,8 +4,9 @@ ghost use Rattle.design.specs.Circuit.{pin_count};
 ghost use Rattle.design.specs.Equations.{waves_of};
 ghost use Rattle.cmb_events.specs.declared.event.Event.TheVariants.{Deliver, Advance};
 ghost use Rattle.cmb_kernel.specs.declared.fault.KernelFault.TheVariants.{Memory};
-ghost use Rattle.cmb_kernel.specs.State.{started, least_frontier, least_delay, most_rounds, IsComplete, is_complete, waves_in};
+ghost use Rattle.cmb_kernel.specs.State.{started, frontier_at, least_frontier, least_delay, most_rounds, IsComplete, IsUndrained, is_complete, waves_in};
 ghost use Rattle.cmb_kernel.specs.Step.{steps, deliveries_from, round_of, rounds, completed_within};
+ghost use Rattle.cmb_kernel.specs.Sound.{waves_kept};
 ghost use Rattle.cmb_kernel.specs.Calls.{IsOutcome};
 
 use crate::fault::KernelFault;
@@ -48,7 +49,13 @@ impl<'d, F: Fabric> Kernel<'d, F> {
         ensures outcome { IsOutcome self.old self.new None
             (completed_within (most_rounds self.old.end self.old.circuit) self.old.state) tt result }
         ensures complete { OnOk result (IsComplete self.new.state) }
-        ensures waves { OnOk result (waves_in self.new.state ≡ waves_of self.new.circuit self.new.end) }
+        ensures frontiers { OnOk result ((net : ℕ) → net < length self.new.circuit →
+            frontier_at self.new.state net ≡ self.new.end) }
+        ensures waves { OnOk result (waves_in self.new.state ≡
+            waves_kept self.new.circuit self.new.end self.new.state) }
+        // Rounds take out no changes.
+        ensures undrained { IsUndrained self.old.state →
+            OnOk result (waves_in self.new.state ≡ waves_of self.new.circuit self.new.end) }
         // Rounds that complete a fresh kernel are enough here.
         ensures fresh { OnOk result ((count : ℕ) → IsComplete (rounds count (started self.old.circuit self.old.end)) →
             self.new.state ≡ completed_within count self.old.state) }
