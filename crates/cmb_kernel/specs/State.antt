@@ -31,6 +31,10 @@ nets_of state = map (λ (process : ProcessState). process.net) state.processes
 abbrev pub frontier_at : State → ℕ → ℕ
 frontier_at state net = slice_index_or (map (λ (process : ProcessState). process.known.frontier) state.processes) net 0
 
+-- the floor of a net: its changes before this tick were taken out
+abbrev pub floor_at : State → ℕ → ℕ
+floor_at state net = slice_index_or (map (λ (process : ProcessState). process.floor) state.processes) net 0
+
 -- how far a process knows the source of its pin at a place
 abbrev pub received_of : ProcessState → ℕ → ℕ
 received_of process place = slice_index_or (map (λ (known : Knowledge). known.frontier) process.received) place 0
