@@ -1,4 +1,5 @@
 mod Ahead
+mod Alike
 mod Applied
 pub mod CallerLemmas
 mod Completion
@@ -8,6 +9,7 @@ mod Enough
 mod Fresh
 mod LeastFrontier
 mod Measure
+mod Mixed
 mod Moved
 mod Refused
 mod Rises

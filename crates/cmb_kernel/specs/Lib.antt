@@ -2,6 +2,7 @@ pub mod State
 pub mod Step
 pub mod Useful
 pub mod Sound
+pub mod Drains
 pub mod Refusals
 pub mod Calls
 pub mod Running

@@ -1,13 +1,16 @@
 //! Facts about the steps of a run alone.
-ghost use Rattle.std.specs.Prelude.{◌≡◌, ℕ, ◌+◌, ◌*◌, ◌≤◌, ◌↔◌, min, List, length, All, true};
-ghost use Rattle.design.specs.Circuit.{Circuit, pin_count};
+ghost use Rattle.std.specs.Prelude.{◌≡◌, ℕ, ◌+◌, ◌*◌, ◌≤◌, ◌↔◌, min, List, ◌++◌, length, All, true};
+ghost use Rattle.logic3.specs.Wave.{changes_between, wave_of};
+ghost use Rattle.design.specs.Circuit.{Circuit, IsCircuit, pin_count};
+ghost use Rattle.design.specs.Equations.{value_of};
 ghost use Rattle.gate_process.specs.Step.{kept_from};
 ghost use Rattle.cmb_events.specs.declared.event.Event.{Event};
-ghost use Rattle.cmb_kernel.specs.State.{State, started, frontier_at, least_frontier, least_delay, IsComplete};
+ghost use Rattle.cmb_kernel.specs.State.{State, started, frontier_at, floor_at, least_frontier, least_delay, IsComplete};
 ghost use Rattle.cmb_kernel.specs.Step.{step, steps, after_drain, round_of, rounds};
 ghost use Rattle.cmb_kernel.specs.Useful.{NoneFalls, SomeRises, is_useful, progress, useful_count, useful_advances};
 ghost use Rattle.cmb_events.specs.Schedule.{Exists};
 ghost use Rattle.cmb_kernel.specs.Sound.{EachNet, EachPin, coming_to, CanDrain, IsSound, ForSound, KnowsNet, HearsSource};
+ghost use Rattle.cmb_kernel.specs.Drains.{Action, all_acted, events_among, CanAct, handed_out, apart_from_waves};
 
 /// Whatever happens in whatever order, nets and pins know the truth.
 pub fn truth()
@@ -43,4 +46,24 @@ pub fn no_deadlock()
         (steps state events).counts.nulls ≤ state.counts.nulls + useful_advances state events) }
     ensures ahead { ForSound (λ circuit last state. (count number : ℕ) →
         frontier_at (rounds count (started circuit last)) number ≤ frontier_at (rounds count state) number) }
+{}
+
+/// A run goes the same whether nets are drained between its events or not, and nothing is lost: what is
+/// handed out of a net, and what is left of it, are what the equations give.
+pub fn drains_play_no_part()
+    ensures same { ForSound (λ circuit last state. (actions : List Action) → CanAct circuit state actions →
+        apart_from_waves (all_acted state actions) ≡ apart_from_waves (steps state (events_among actions))) }
+    ensures sound { ForSound (λ circuit last state. (actions : List Action) → CanAct circuit state actions →
+        IsSound circuit last (all_acted state actions)) }
+    // Drains alone move floors.
+    ensures floors { (state : State) (events : List Event) (net : ℕ) → floor_at (steps state events) net ≡ floor_at state net }
+    ensures values { ForSound (λ circuit last state. (actions : List Action) → CanAct circuit state actions →
+        EachNet (all_acted state actions) (λ net process.
+        handed_out net state actions ++ process.known.wave.changes
+        ≡ changes_between (value_of circuit net) (floor_at state net) process.known.frontier)) }
+    ensures complete { (circuit : Circuit) → IsCircuit circuit → (last : ℕ) (actions : List Action) →
+        CanAct circuit (started circuit last) actions → IsComplete (all_acted (started circuit last) actions) →
+        EachNet (all_acted (started circuit last) actions) (λ net process.
+        handed_out net (started circuit last) actions ++ process.known.wave.changes
+        ≡ (wave_of (value_of circuit net) 0 last).changes) }
 {}

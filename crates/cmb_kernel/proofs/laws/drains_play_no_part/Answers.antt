@@ -1,0 +1,19 @@
+use Rattle.std.proofs.Common.{refl}
+use Rattle.cmb_kernel.proofs.Mixed.{acted_alike, all_acted_sound, steps_floor, nothing_lost, all_given_out}
+use Rattle.cmb_kernel.proofs.laws.drains_play_no_part.Goals as goal
+
+pub returns-clause-same : goal.returns-clause-same
+returns-clause-same c circuit ok last state sound actions allowed = acted_alike circuit ok last state state actions sound sound allowed refl
+
+pub returns-clause-sound : goal.returns-clause-sound
+returns-clause-sound c circuit ok last state sound actions = all_acted_sound circuit ok last state actions sound
+
+pub returns-clause-floors : goal.returns-clause-floors
+returns-clause-floors c = steps_floor
+
+pub returns-clause-values : goal.returns-clause-values
+returns-clause-values c circuit ok last state sound actions allowed net process =
+    λ at. (nothing_lost circuit ok last net process state actions sound allowed at).changes
+
+pub returns-clause-complete : goal.returns-clause-complete
+returns-clause-complete c circuit ok last actions allowed complete net process = all_given_out circuit ok last net process actions allowed complete

@@ -1,0 +1,63 @@
+-- Runs in which nets are drained between the events.
+use Rattle.std.specs.Prelude.{ℕ, ◌==◌, if◌then◌else◌, List, [], ◌∷◌, ◌++◌, map, slice_get}
+use Rattle.std.specs.Option.{option_map_or}
+use Rattle.logic3.specs.declared.value.Value.TheVariants.{Unknown}
+use Rattle.logic3.specs.declared.change.Change.{Change}
+use Rattle.design.specs.Circuit.{Circuit}
+use Rattle.gate_process.specs.Step.{ProcessState, drained_changes}
+use Rattle.cmb_events.specs.declared.event.Event.{Event}
+use Rattle.cmb_events.specs.Schedule.{Exists}
+use Rattle.cmb_kernel.specs.State.{State}
+use Rattle.cmb_kernel.specs.Step.{step, after_drain}
+use Rattle.cmb_kernel.specs.Sound.{CanDrain}
+
+-- what is done to a run: an event happens, or the changes of a net before a tick are taken out
+pub data Action : Type 0 where
+  happens : (event : Event) → Action
+  drains : (net bound : ℕ) → Action
+
+-- the state after an action
+abbrev pub acted : State → Action → State
+acted state (happens event) = step state event
+acted state (drains net bound) = after_drain state net bound
+
+-- the state after some actions
+abbrev pub all_acted : State → List Action → State
+all_acted state [] = state
+all_acted state (action ∷ actions) = all_acted (acted state action) actions
+
+-- the events among some actions
+abbrev pub events_among : List Action → List Event
+events_among [] = []
+events_among (happens event ∷ actions) = event ∷ events_among actions
+events_among (drains net bound ∷ actions) = events_among actions
+
+-- an event names a pin or a net that is there; a drain goes no farther back than an earlier one, and not past what is known
+abbrev pub IsAllowed : Circuit → State → Action → Type 0
+IsAllowed circuit state (happens event) = Exists circuit event
+IsAllowed circuit state (drains net bound) = CanDrain state net bound
+
+-- each action is allowed where it comes
+abbrev pub CanAct : Circuit → State → List Action → Type 0
+CanAct circuit state [] = Unit {0}
+CanAct circuit state (action ∷ actions) = IsAllowed circuit state action × CanAct circuit (acted state action) actions
+
+-- the changes of a net that an action hands out
+abbrev pub given_out : ℕ → State → Action → List Change
+given_out net state (happens event) = []
+given_out net state (drains other bound) =
+    if other == net then option_map_or (drained_changes bound) (slice_get state.processes net) [] else []
+
+-- the changes of a net that some actions hand out, one after another
+abbrev pub handed_out : ℕ → State → List Action → List Change
+handed_out net state [] = []
+handed_out net state (action ∷ actions) = given_out net state action ++ handed_out net (acted state action) actions
+
+-- a process but for what its net shows, and from which tick on
+abbrev pub apart_from_wave : ProcessState → ProcessState
+apart_from_wave process =
+    record process { floor = 0; known = record { wave = record { before = Unknown; changes = [] }; frontier = process.known.frontier } }
+
+-- a state but for what its nets show, and from which tick on
+abbrev pub apart_from_waves : State → State
+apart_from_waves state = record state { processes = map apart_from_wave state.processes }
