@@ -3,7 +3,7 @@ use Rattle.std.proofs.Common.{◌≡◌, ℕ, zero, suc, ◌+◌, ◌*◌, ◌<�
 use Rattle.std.specs.Option.{option_map_or}
 use Rattle.std.proofs.lemmas.Bool.{eqb-true, eqb-false}
 use Rattle.std.proofs.lemmas.List.{map-set, set-get_or}
-use Rattle.std.proofs.lemmas.List.Elements.{All-nil, All-cons, All-set}
+use Rattle.std.proofs.lemmas.List.Elements.{All-nil, All-cons}
 use Rattle.std.proofs.lemmas.List.Sums.{sum_by-cons, sum_by-le}
 use Rattle.std.proofs.lemmas.Option.{slice_get-get_or}
 use Rattle.std.proofs.Math.Dec.{eqb-suc-zero}
@@ -15,7 +15,7 @@ use Rattle.design.specs.Circuit.{pin_count}
 use Rattle.design.specs.Design.{DesignView}
 use Rattle.design.specs.Equations.{value_of}
 use Rattle.design.specs.Pins.{sources_of, net_of_pin, place_of_pin}
-use Rattle.design.proofs.CallerLemmas.{net_of_pin_below, net_limit, All-slice_get}
+use Rattle.design.proofs.CallerLemmas.{net_of_pin_below, net_limit}
 use Rattle.cmb_channels.specs.declared.message.Message.{Message}
 use Rattle.cmb_channels.specs.declared.message.Message.TheVariants.{Change as Changes, Null}
 use Rattle.cmb_channels.specs.Kinds.{is_change, is_null}

@@ -95,21 +95,24 @@ is_complete-from state complete =
     list_all-from_AllPass (λ (p : ProcessState). p.known.frontier == p.end) state.processes
     (λ number default below. eq-eqb _ _ (complete number default below))
 
+-- then each net's frontier is the end
+pub frontier_when_complete : (circuit : Circuit) (last : ℕ) (state : State) → IsSound circuit last state → IsComplete state →
+    (net : ℕ) → net < length circuit → frontier_at state net ≡ last
+frontier_when_complete circuit last state sound complete net below =
+    let nets = net_count circuit last state sound in
+    let process = get_below state.processes net (omega arith) in
+    let same = get_or_from_slice_get state.processes net process.0 process.0 process.1 in
+    view_at (λ (p : ProcessState). p.known.frontier) state.processes net process.0 process.1
+    ∙ subst (λ (p : ProcessState). p.known.frontier ≡ p.end) same (complete net process.0 (omega arith))
+    ∙ sound.ends net process.0 process.1
+
 -- where all frontiers are the end, the least one is
 pub least_when_complete : (circuit : Circuit) (last : ℕ) (state : State) → IsSound circuit last state → IsComplete state →
     least_frontier last state ≡ last
 least_when_complete circuit last state sound complete =
     let low = least-bound last (map (λ (p : ProcessState). p.known.frontier) state.processes) in
     let high = least_frontier_greatest circuit last last state sound (omega arith) (λ number below.
-    let nets = net_count circuit last state sound in
-    let process = get_below state.processes number (omega arith) in
-    let is : frontier_at state number ≡ (process.0).known.frontier =
-    view_at (λ (p : ProcessState). p.known.frontier) state.processes number process.0 process.1 in
-    let same = get_or_from_slice_get state.processes number process.0 process.0 process.1 in
-    let done : (process.0).known.frontier ≡ (process.0).end =
-    subst (λ (p : ProcessState). p.known.frontier ≡ p.end) same (complete number process.0 (omega arith)) in
-    let end = sound.ends number process.0 process.1 in
-    omega arith) in
+    let here = frontier_when_complete circuit last state sound complete number below in omega arith) in
     omega arith
 
 -- so the least frontier tells whether a state is complete

@@ -106,7 +106,7 @@ module _ {design : DesignView} {end : ℕ} {processes : List ProcessView} {sourc
   pub taken_out : drained_changes bound process.state
       ≡ changes_between (value_of design.circuit net) (floor_at (state_of processes lists counts) net) bound
   taken_out =
-      drained_true (value_of design.circuit net) net bound process.state
+      drained_true (value_of design.circuit) net bound process.state
       (all.sound.processes net process.state (runs_at all net process below is).at) bounded.0 bounded.1
       ∙ ap (λ from. changes_between (value_of design.circuit net) from bound) (floor_is all net process below is)
 

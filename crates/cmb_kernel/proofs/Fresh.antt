@@ -1,13 +1,12 @@
 -- A kernel to which nothing happened yet.
-use Rattle.std.proofs.Common.{◌≡◌, ℕ, ◌+◌, ◌≤◌, List, [], ◌∷◌, map, length, replicate, All, refl, ap, sym, subst, ◌∙◌, arith}
-use Rattle.std.proofs.lemmas.List.Elements.{All-nil, All-cons}
+use Rattle.std.proofs.Common.{◌≡◌, ℕ, ◌+◌, ◌≤◌, List, [], map, length, replicate, ap, sym, subst, ◌∙◌, arith}
 use Rattle.std.proofs.lemmas.Simd.{map-map}
-use Rattle.design.specs.Circuit.{Circuit, pin_count}
+use Rattle.design.specs.Circuit.{pin_count}
 use Rattle.timing_text.specs.Ranges.{most_ticks}
 use Rattle.design.specs.Design.{DesignView, IsDesign}
 use Rattle.design.specs.Pins.{sources_of}
 use Rattle.cmb_channels.specs.declared.message.Message.{Message}
-use Rattle.gate_process.specs.Step.{ProcessState, ProcessView, running, started_process}
+use Rattle.gate_process.specs.Step.{ProcessView, running, started_process}
 use Rattle.cmb_kernel.specs.declared.counts.Counts.{Counts}
 use Rattle.cmb_kernel.specs.State.{started}
 use Rattle.cmb_kernel.specs.Running.{state_of, IsRunning}

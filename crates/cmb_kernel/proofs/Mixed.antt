@@ -16,8 +16,8 @@ use Rattle.gate_process.specs.Step.{ProcessState, started_process, advanced, hea
 use Rattle.gate_process.proofs.CallerLemmas.{drained_true}
 use Rattle.cmb_events.specs.declared.event.Event.{Event}
 use Rattle.cmb_events.specs.declared.event.Event.TheVariants.{Deliver, Advance}
-use Rattle.cmb_kernel.specs.State.{State, started, nets_of, floor_at, IsComplete}
-use Rattle.cmb_kernel.specs.Step.{step, steps, after_deliver, after_drain}
+use Rattle.cmb_kernel.specs.State.{State, started, nets_of, floor_at, IsComplete, is_complete}
+use Rattle.cmb_kernel.specs.Step.{step, steps, after_deliver, after_drain, round_events, round_of, completed_within}
 use Rattle.cmb_kernel.specs.Sound.{IsSound}
 use Rattle.cmb_kernel.specs.Drains.{Action, happens, drains, acted, all_acted, events_among, IsAllowed, CanAct, handed_out, apart_from_waves}
 use Rattle.cmb_kernel.proofs.Soundness.{get_below, started_sound, step_sound}
@@ -71,6 +71,17 @@ step_floor state (Deliver pin) net = go (slice_index_or state.lists pin [])
 pub steps_floor : (state : State) (events : List Event) (net : ℕ) → floor_at (steps state events) net ≡ floor_at state net
 steps_floor state [] net = refl
 steps_floor state (event ∷ events) net = steps_floor (step state event) events net ∙ step_floor state event net
+
+-- so rounds change none
+pub completed_floor : (count : ℕ) (state : State) (net : ℕ) → floor_at (completed_within count state) net ≡ floor_at state net
+completed_floor zero state net = refl
+completed_floor (suc count) state net =
+    go (is_complete state) (completed_floor count (round_of state) net ∙ steps_floor state (round_events state) net)
+  where
+    go : (complete : Bool) → floor_at (completed_within count (round_of state)) net ≡ floor_at state net →
+        floor_at (cond complete state (completed_within count (round_of state))) net ≡ floor_at state net
+    go true later = refl
+    go false later = later
 
 -- a drain makes its bound the floor
 drained_floor : (state : State) (net bound : ℕ) (process : ProcessState) → slice_get state.processes net ≡ Some process →

@@ -6,9 +6,20 @@ use Rattle.design.specs.Circuit.{Circuit, pin_count}
 use Rattle.cmb_events.specs.declared.event.Event.{Event}
 use Rattle.cmb_events.specs.declared.event.Event.TheVariants.{Deliver, Advance}
 use Rattle.cmb_kernel.specs.declared.fault.KernelFault.{KernelFault}
-use Rattle.cmb_kernel.specs.declared.fault.KernelFault.TheVariants.{NoSuchPin, NoSuchNet, TooManyEvents, Memory}
-use Rattle.cmb_kernel.specs.Refusals.{first_fault, list_fault, answer}
+use Rattle.cmb_kernel.specs.declared.fault.KernelFault.TheVariants.{NoSuchPin, NoSuchNet, TooManyEvents, Memory, Failed}
+use Rattle.cmb_kernel.specs.State.{KernelView}
+use Rattle.cmb_kernel.specs.Refusals.{first_fault, list_fault, refusal, answer}
 use Rattle.cmb_events.specs.Schedule.{most_events, Exists}
+
+-- a call that isn't refused is one of a kernel that hasn't failed
+pub not_failed : (kernel : KernelView) (done : Unit {0}) →
+    ◌≡◌ {A = Result (Unit {0}) KernelFault} (Ok done) (answer (refusal kernel None) tt) → kernel.failed ≡ false
+not_failed kernel done e = go kernel.failed refl e
+  where
+    go : (failed : Bool) → kernel.failed ≡ failed →
+        ◌≡◌ {A = Result (Unit {0}) KernelFault} (Ok done) (answer (cond failed (Some Failed) None) tt) → kernel.failed ≡ false
+    go true same e = cc
+    go false same e = same
 
 -- no list is refused for want of memory
 first_fault-memory : (circuit : Circuit) (at : ℕ) (events : List Event) → first_fault circuit at events ≢ Some Memory

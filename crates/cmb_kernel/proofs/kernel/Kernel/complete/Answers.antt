@@ -1,7 +1,9 @@
-use Rattle.std.proofs.Common.{sym, ◌∙◌, rules}
+use Rattle.std.proofs.Common.{ap, sym, ◌∙◌, rules}
 use Rattle.std.proofs.lemmas.Bool.{OnTrue_at}
 use Rattle.cmb_kernel.proofs.Ahead.{never_costs}
-use Rattle.cmb_kernel.proofs.Completion.{led}
+use Rattle.cmb_kernel.specs.State.{State, KernelView, floor_at, most_rounds}
+use Rattle.cmb_kernel.proofs.Completion.{frontier_when_complete, is_complete-true, led}
+use Rattle.cmb_kernel.proofs.Mixed.{completed_floor}
 use Rattle.cmb_kernel.proofs.Enough.{one_more_round, less_left, completed}
 use Rattle.cmb_kernel.proofs.kernel.Kernel.complete.Goals as goal
 
@@ -33,3 +35,17 @@ returns-clause-fresh g c = λ count fresh.
     led c.args.self.now.state c.loop-self.self.state (sym c.is_complete.ensures.complete ∙ c.loop-self-test.false) c.loop-self.invariant.leads count
     (never_costs c.args.self.now.circuit c.in_ok-check_running.ensures.circuit c.args.self.now.end count c.args.self.now.state
     c.in_ok-check_running.ensures.sound fresh)
+
+pub returns-clause-frontiers : goal.returns-clause-frontiers
+returns-clause-frontiers g c =
+    frontier_when_complete c.loop-self.self.circuit c.loop-self.self.end c.loop-self.self.state c.loop-self.invariant.sound
+    (is_complete-true c.loop-self.self.state (sym c.is_complete.ensures.complete ∙ c.loop-self-test.false))
+
+pub returns-clause-undrained : goal.returns-clause-undrained
+returns-clause-undrained g c = λ undrained.
+    let came = completed c.args.self.now c.loop-self.self c.in_ok-check_running.ensures.circuit c.loop-self.invariant
+    c.in_ok-check_running.ensures.sound (sym c.is_complete.ensures.complete ∙ c.loop-self-test.false) in
+    let state = ap (λ (r : KernelView). r.state) came in
+    OnTrue_at c.loop-self-test.false (c.is_complete.ensures.undrained (λ net.
+    ap (λ (s : State). floor_at s net) state
+    ∙ completed_floor (most_rounds c.args.self.now.end c.args.self.now.circuit) c.args.self.now.state net ∙ undrained net))

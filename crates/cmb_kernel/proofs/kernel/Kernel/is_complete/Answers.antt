@@ -1,10 +1,11 @@
 use Rattle.std.proofs.Common.{◌==◌, eqb-true, ap, subst, ◌∙◌, arith}
-use Rattle.std.proofs.lemmas.Bool.{OnTrue_from}
+use Rattle.std.proofs.lemmas.Bool.{OnTrue_from, OnTrue_at}
 use Rattle.cmb_kernel.specs.State.{KernelView, least_frontier}
 use Rattle.cmb_kernel.specs.Sound.{IsSound}
-use Rattle.cmb_kernel.proofs.Running.{waves_are}
+use Rattle.cmb_kernel.proofs.Running.{waves_are, waves_whole}
 use Rattle.cmb_kernel.proofs.Completion.{complete_from_least, least_tells}
 use Rattle.cmb_kernel.proofs.kernel.Kernel.is_complete.Goals as goal
+use Rattle.cmb_kernel.proofs.kernel.Kernel.is_complete.Goals.{After-least_frontier}
 
 pub returns-clause-complete : goal.returns-clause-complete
 returns-clause-complete g c =
@@ -22,3 +23,8 @@ returns-clause-waves g c =
     let at_end = eqb-true _ _ is in
     rw (← c.self.view_is)
     (waves_are all (complete_from_least c.self.inside.design.now.circuit c.self.inside.end _ all.sound (omega (arith, at_end, least)))))
+
+pub returns-clause-undrained : goal.returns-clause-undrained
+returns-clause-undrained g c = λ undrained.
+    OnTrue_from (c.least_frontier.result == c.self.inside.end) _ (λ is.
+    OnTrue_at is (returns-clause-waves g c) ∙ waves_whole c.args.self.now.circuit c.args.self.now.end c.args.self.now.state undrained)
