@@ -16,4 +16,5 @@ mod Rises
 mod RoundExamples
 mod Running
 mod Soundness
+mod Together
 mod UsefulEvents
