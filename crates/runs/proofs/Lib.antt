@@ -2,11 +2,13 @@ mod Answer
 pub mod CallerLemmas
 mod Checks
 mod Cones
+mod Drains
 mod Ends
 mod Isolated
 mod Nets
 mod Runs
 mod Signals
 mod Simulated
+mod Streams
 mod Twins
 mod Viewed

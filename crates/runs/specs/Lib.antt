@@ -1,5 +1,6 @@
 pub mod Checked
 pub mod ConeText
+pub mod Drained
 pub mod Ends
 pub mod Events
 pub mod Faults

@@ -4,6 +4,7 @@ ghost use Rattle.std.specs.List.{range_with_len};
 ghost use Rattle.logic3.specs.Wave.{wave_of};
 ghost use Rattle.design.specs.Equations.{value_of};
 ghost use Rattle.cmb_events.specs.Schedule.{most_events, Exists};
+ghost use Rattle.cmb_kernel.specs.State.{IsUndrained};
 ghost use Rattle.runs.specs.Checked.{checked};
 ghost use Rattle.runs.specs.Ends.{IsRefusal};
 ghost use Rattle.runs.specs.Source.{seen_source, MayWantMemory};
@@ -64,6 +65,7 @@ fn check_prepared(alloc: Global, run: &PreparedRun) -> Result<CheckAnswer, SimFa
 fn same_waves(kernel: &RunKernel<'_>, waves: &[Waveform]) -> u32
     requires running { kernel.now.failed ≡ false }
     requires known { IsKnown kernel.now }
+    requires undrained { IsUndrained kernel.now.state }
     requires few { length kernel.now.circuit < 2 ^ 32 }
     requires waves { waves.now ≡ map (λ net. wave_of (value_of kernel.now.circuit net) 0 kernel.now.end)
         (range_with_len 0 (length kernel.now.circuit)) }

@@ -3,6 +3,7 @@
 
 mod check_run;
 mod cone_run;
+mod draining;
 mod dumping;
 mod fault;
 pub mod laws;
@@ -10,6 +11,7 @@ mod plain_run;
 mod preparation;
 mod simulation;
 mod source;
+mod streaming;
 mod twin_run;
 mod view;
 

@@ -3,7 +3,7 @@ ghost use Rattle.std.specs.Prelude.{◌≡◌, ◌<◌, ◌≤◌, ◌+◌, fals
 ghost use Rattle.std.specs.Io.KnownBytes.{Appends};
 ghost use Rattle.logic3.specs.Wave.{wave_of};
 ghost use Rattle.design.specs.Equations.{value_of};
-ghost use Rattle.cmb_kernel.specs.State.{most_rounds};
+ghost use Rattle.cmb_kernel.specs.State.{IsUndrained, most_rounds};
 ghost use Rattle.cmb_kernel.specs.Step.{completed_within, steps};
 ghost use Rattle.cmb_events.specs.Schedule.{most_events, Exists};
 ghost use Rattle.runs.specs.Source.{dump_of_design, seen_source, MayWantMemory};
@@ -12,16 +12,15 @@ ghost use Rattle.runs.specs.Simulated.{IsKnown, dump_in, report_of, reported, ru
 ghost use Rattle.runs.specs.Viewed.{ShowsValues};
 ghost use Rattle.runs.specs.declared.fault.SimFault.TheVariants.{Memory};
 
-use crate::dumping::{shown_nets, write_dump};
 use crate::fault::SimFault;
 use crate::preparation::{PreparedRun, prepare_run};
 use crate::source::Source;
+use crate::streaming::dump_by_kernel;
 use crate::view::View;
 use cmb_channels::Logs;
 use cmb_events::Event;
 use cmb_kernel::{Counts, Kernel, KernelFault};
-use logic3::Waveform;
-use std::alloc::{AllocError, Global};
+use std::alloc::Global;
 use std::io::Write;
 
 /// The kernel of every run, and the channels that its messages go through.
@@ -39,7 +38,8 @@ pub struct Report {
 }
 
 /// Runs a source by the kernel, which applies the events that are picked and then completes, and
-/// writes the dump.
+/// writes the dump as the run goes on: after the events, and after each round, what every net knows
+/// goes out and is forgotten.
 ///
 /// The text that goes out shows each shown net's value at every tick, as the equations give it,
 /// whatever was picked: the events show in the report alone.
@@ -70,48 +70,6 @@ pub fn simulate<W: Write>(
     dump_by_kernel(alloc, &run, view, out)
 }
 
-/// Runs to the end by the kernel, and writes the dump.
-fn dump_by_kernel<W: Write>(
-    alloc: Global,
-    run: &PreparedRun,
-    view: &View,
-    out: &mut W,
-) -> Result<Report, SimFault>
-    requires exist { All (Exists run.now.design.circuit) run.now.schedule }
-    requires few { length run.now.schedule ≤ most_events }
-    ensures ok { IfOk result (λ report. Appends (W.contents out.old) (W.contents out.new)
-        (dump_of_design view.now run.now.horizon run.now.design) × (report ≡ report_of (seen_run run.now))) }
-    ensures err { IfErr result (BreaksOff (W.contents out.old) (W.contents out.new)
-        (dump_of_design view.now run.now.horizon run.now.design)) }
-{
-    let (kernel, report) = complete(alloc, run)?;
-    write_known(alloc, &kernel, run, view, out)?;
-    Ok(report)
-}
-
-/// Writes the dump of what a kernel knows at the end of a run.
-fn write_known<W: Write>(
-    alloc: Global,
-    kernel: &RunKernel<'_>,
-    run: &PreparedRun,
-    view: &View,
-    out: &mut W,
-) -> Result<(), SimFault>
-    requires running { kernel.now.failed ≡ false }
-    requires known { IsKnown kernel.now }
-    requires circuit { kernel.now.circuit ≡ run.now.design.circuit }
-    requires end { kernel.now.end ≡ run.now.horizon + 1 }
-    ensures ok { OnOk result (Appends (W.contents out.old) (W.contents out.new)
-        (dump_of_design view.now run.now.horizon run.now.design)) }
-    ensures err { IfErr result (BreaksOff (W.contents out.old) (W.contents out.new)
-        (dump_of_design view.now run.now.horizon run.now.design)) }
-{
-    let nets = shown_nets(alloc, &run.design, view.show)?;
-    let waves = known_waves(alloc, kernel, nets.as_slice())?;
-    let (nets, waves) = (nets.as_slice(), waves.as_slice());
-    write_dump(alloc, &run.design, run.horizon, view, nets, waves, out)
-}
-
 /// A run's kernel at the end, where it knows each net up to the horizon, and the run's report.
 pub(crate) fn complete<'r>(
     alloc: Global,
@@ -123,6 +81,7 @@ pub(crate) fn complete<'r>(
     ensures circuit { IfOk result (λ done. (done.0).circuit ≡ run.now.design.circuit) }
     ensures end { IfOk result (λ done. (done.0).end ≡ run.now.horizon + 1) }
     ensures known { IfOk result (λ done. IsKnown done.0) }
+    ensures undrained { IfOk result (λ done. IsUndrained (done.0).state) }
     ensures report { IfOk result (λ done. done.1 ≡ report_of (seen_run run.now)) }
     ensures err { IfErr result (λ fault. fault ≡ SimFault.Memory) }
 {
@@ -154,23 +113,4 @@ fn run_to_end(kernel: &mut RunKernel<'_>, events: &[Event]) -> Result<Report, Ke
         least,
         total,
     })
-}
-
-/// Copies of the waveforms of these nets.
-fn known_waves(
-    alloc: Global,
-    kernel: &RunKernel<'_>,
-    nets: &[u32],
-) -> Result<Vec<Waveform>, AllocError>
-    requires running { kernel.now.failed ≡ false }
-    requires known { IsKnown kernel.now }
-    requires nets { All (λ net. net < length kernel.now.circuit) nets.now }
-    ensures { IfOk result (λ waves. waves.items ≡
-        map (λ net. wave_of (value_of kernel.now.circuit net) 0 kernel.now.end) nets.now) }
-{
-    let mut waves = Vec::with_capacity(alloc, nets.len())?;
-    for net in nets {
-        waves.push(kernel.waveform(*net).copy()?)?;
-    }
-    Ok(waves)
 }

@@ -17,7 +17,7 @@ loop-net-preserved c =
     let count = length-to_end kernel c.args.waves.now c.requires.waves in
     let below : c.loop-net.net < length kernel.circuit = omega (arith, c.loop-net-test.true, count) in
     let same : c.waveform.result.now ≡ c.index-waves-net.result =
-    c.waveform.ensures ∙ known_wave kernel c.args.waves.now c.requires.waves c.loop-net.net _ c.requires.known below ∙ sym c.index-waves-net.is in
+    c.waveform.ensures.undrained (c.requires.undrained c.loop-net.net) ∙ known_wave kernel c.args.waves.now c.requires.waves c.loop-net.net _ c.requires.known below ∙ sym c.index-waves-net.is in
     elim c.if-eq.branch [
       | then-eq w ↦ omega (arith, w.same-is, c.loop-net.invariant)
       | else-eq w ↦ absurd (true≢false (sym (rw (same, is_same_wave_equiv.refl) at c.eq.ensures) ∙ w.if-eq.false))
