@@ -13,7 +13,6 @@ use Rattle.vcd_dump.specs.Codes.{code_at}
 use Rattle.vcd_dump.specs.Dump.{Variable, variable_at, variables_of, line, heading, declaration, declaration_text, declarations, change_text, change_line, time_line, first_values, changes_at, lines_at, dump_text}
 use Rattle.vcd_dump.specs.Traces.{name_of, traces, named, unnamed}
 use Rattle.vcd_dump.proofs.Between.{between}
-use Rattle.vcd_dump.proofs.Rest.{lines}
 
 -- what is shown at a place: a name and a signal of what stands there
 abbrev pub shown_at : {X : Type 0} → (X → List ℕ × (ℕ → Value)) → List X → ℕ → Variable
@@ -129,19 +128,3 @@ dump_text-traces unit horizon circuit shown waves same = λ i.
     changes : (tick : ℕ) → changes_at (variables_of (traces circuit shown waves)) tick ≡ changes_at (unnamed waves) tick
     changes tick = by_signal _ (λ code name signal. refl) circuit 0 shown waves same
 
--- ---- the lines of changes
-
--- the line of a place at a tick, if it changes there
-abbrev pub line_in : List Wave → ℕ → ℕ → List ℕ
-line_in waves tick place =
-    let v = unnamed_at waves place in if is_same (v.signal (tick - 1)) (v.signal tick) then [] else change_line tick v
-
-pub lines_at-unnamed : (waves : List Wave) (horizon : ℕ) →
-    flat_map (lines_at (unnamed waves) horizon) (range_with_len 1 horizon) ≡ between
-    (lines (line_in waves) time_line (length waves) horizon) 1 (horizon + 1)
-lines_at-unnamed waves horizon =
-    (λ i. ticks_text horizon (λ tick. changes tick i))
-    ∙ ap (λ n. flat_map (lines (line_in waves) time_line (length waves) horizon) (range_with_len 1 n)) (omega arith)
-  where
-    changes : (tick : ℕ) → changes_at (unnamed waves) tick ≡ between (line_in waves tick) 0 (length waves)
-    changes tick = flat_map-variables_of (λ wave. ([], value_at wave)) _ waves
