@@ -54,3 +54,12 @@ GoesOut-behind old new text waiting more first = record {
   sent = first.sent;
   whole = sym (append_assoc first.went waiting more) ∙ ap (λ xs. xs ++ more) first.whole;
 }
+
+-- some of all that waits goes out
+pub GoesOut-next : (old mid new : Option (List ℕ)) (text waiting left : List ℕ) → GoesOut old mid text waiting →
+    GoesOut mid new waiting left → GoesOut old new text left
+GoesOut-next old mid new text waiting left first second = record {
+  went = first.went ++ second.went;
+  sent = Appends-trans old mid new first.went second.went first.sent second.sent;
+  whole = append_assoc first.went second.went left ∙ ap (λ xs. first.went ++ xs) second.whole ∙ first.whole;
+}

@@ -51,6 +51,11 @@ flat_map-variables_of shows text xs =
 abbrev pub named_at : Circuit → List ℕ → ℕ → Variable
 named_at circuit shown place = shown_at (λ net. (name_of circuit net, λ tick. Unknown)) shown place
 
+-- the declarations, by place
+pub declarations-named : (circuit : Circuit) (shown : List ℕ) →
+    flat_map declaration (named circuit shown) ≡ between (λ place. declaration (named_at circuit shown place)) 0 (length shown)
+declarations-named circuit shown = flat_map-variables_of (λ net. (name_of circuit net, λ tick. Unknown)) declaration shown
+
 -- the shown net at a place, without its name
 abbrev pub unnamed_at : List Wave → ℕ → Variable
 unnamed_at waves place = shown_at (λ wave. ([], value_at wave)) waves place

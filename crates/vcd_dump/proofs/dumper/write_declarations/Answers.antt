@@ -1,25 +1,65 @@
-use Rattle.std.proofs.Common.{rules, ◌≡◌, ◌≢◌, ℕ, ◌<◌, ◌++◌, [], length, flat_map, All, AllPairs, OnOk, OnErr, IfErr, ◌+◌, ◌-◌, ◌*◌, ◌≤◌, ◌/◌, ◌%◌, Bool, true, false, nat_eq, nat_lt, List, ◌∷◌, slice_index_or, slice_set, bit_and, bit_or, Fits, w8, w32, w64, Bor, MutBor}
+use Rattle.std.proofs.Common.{◌≡◌, ◌∙◌, ◌++◌, [], List, ℕ, ap, sym, subst, codes, append_assoc, flat_map}
 use Rattle.std.specs.Io.KnownBytes.{Appends}
-use Rattle.logic3.specs.declared.value.Value.TheVariants.{Unknown}
-use Rattle.logic3.specs.Wave.{Wave}
+use Rattle.std.proofs.lemmas.Result.{on_ok_weaker, on_err_weaker}
+use Rattle.vcd_dump.specs.declared.unit.TimeUnit.{TimeUnit}
 use Rattle.vcd_dump.specs.Bytes.{AppendsPrefix}
-use Rattle.vcd_dump.specs.Dump.{declaration, declarations, dump_text}
-use Rattle.vcd_dump.specs.Traces.{EndsBy, traces, named}
+use Rattle.vcd_dump.specs.Dump.{Variable, line, heading, declaration, declarations}
+use Rattle.vcd_dump.specs.Traces.{named}
 use Rattle.vcd_dump.specs.Written.{GoesOut}
+use Rattle.vcd_dump.proofs.BytesLemmas.{AppendsPrefix-longer, OnErr-always}
+use Rattle.vcd_dump.proofs.GoingOut.{GoesOut-behind, GoesOut-stopped, GoesOut-sent, GoesOut-broken}
 use Rattle.vcd_dump.proofs.dumper.write_declarations.Goals as goal
 
--- src/dumper.rt:60:5
+abbrev footing : List ℕ
+footing = codes "$upscope $end\n$enddefinitions $end\n"
+
+-- what was written in three pieces
+three_pieces : (unit : TimeUnit) (variables : List Variable) (empty headed : List ℕ) → empty ≡ [] → headed ≡ empty ++ heading unit →
+    (headed ++ flat_map declaration variables) ++ footing ≡ declarations unit variables
+three_pieces unit variables empty headed none is =
+    ap (λ xs. (xs ++ flat_map declaration variables) ++ footing) (is ∙ ap (λ xs. xs ++ heading unit) none)
+    ∙ sym (append_assoc (heading unit ++ flat_map declaration variables) (line (codes "$upscope $end")) (line (codes "$enddefinitions $end")))
+
 pub returns-in_err-write_variables-clause-err : goal.returns-in_err-write_variables-clause-err
-returns-in_err-write_variables-clause-err g c = ?
+returns-in_err-write_variables-clause-err g c =
+    let held = g.W.Write.contents in
+    let variables = named c.args.design.now.circuit c.args.shown.now in
+    OnErr-always c.from_residual-in_err-write_variables.result
+    (subst (AppendsPrefix (held c.args.out.now) (held c.write_variables.new.out))
+    (three_pieces c.args.unit variables c.args.text.now.items _ c.requires.empty c.in_ok-push_heading.ensures)
+    (AppendsPrefix-longer _ _ _ footing c.in_err-write_variables.ensures.err))
 
--- src/dumper.rt:61:5
 pub returns-in_err-extend_from_slice-clause-err : goal.returns-in_err-extend_from_slice-clause-err
-returns-in_err-extend_from_slice-clause-err g c = ?
+returns-in_err-extend_from_slice-clause-err g c =
+    let held = g.W.Write.contents in
+    let variables = named c.args.design.now.circuit c.args.shown.now in
+    OnErr-always c.from_residual-in_err-extend_from_slice.result
+    (subst (AppendsPrefix (held c.args.out.now) (held c.write_variables.new.out))
+    (three_pieces c.args.unit variables c.args.text.now.items _ c.requires.empty c.in_ok-push_heading.ensures)
+    (AppendsPrefix-longer _ _ _ footing (GoesOut-stopped _ _ _ _ c.in_ok-write_variables.ensures.ok)))
 
--- src/dumper.rt:43:1
 pub returns-clause-ok : goal.returns-clause-ok
-returns-clause-ok g c = ?
+returns-clause-ok g c =
+    let held = g.W.Write.contents in
+    let variables = named c.args.design.now.circuit c.args.shown.now in
+    let waiting = c.write_variables.new.text.items in
+    on_ok_weaker c.send.result
+    (λ last. subst (Appends (held c.args.out.now) (held c.send.new.out))
+    (three_pieces c.args.unit variables c.args.text.now.items _ c.requires.empty c.in_ok-push_heading.ensures)
+    (GoesOut-sent _ (held c.write_variables.new.out) _ _ (waiting ++ footing)
+    (GoesOut-behind _ _ _ waiting footing c.in_ok-write_variables.ensures.ok)
+    (subst (Appends (held c.write_variables.new.out) (held c.send.new.out)) c.in_ok-extend_from_slice.ensures.items last)))
+    c.send.ensures.ok
 
--- src/dumper.rt:43:1
 pub returns-clause-err : goal.returns-clause-err
-returns-clause-err g c = ?
+returns-clause-err g c =
+    let held = g.W.Write.contents in
+    let variables = named c.args.design.now.circuit c.args.shown.now in
+    let waiting = c.write_variables.new.text.items in
+    on_err_weaker c.send.result
+    (λ fault. subst (AppendsPrefix (held c.args.out.now) (held c.send.new.out))
+    (three_pieces c.args.unit variables c.args.text.now.items _ c.requires.empty c.in_ok-push_heading.ensures)
+    (GoesOut-broken _ (held c.write_variables.new.out) _ _ (waiting ++ footing)
+    (GoesOut-behind _ _ _ waiting footing c.in_ok-write_variables.ensures.ok)
+    (subst (AppendsPrefix (held c.write_variables.new.out) (held c.send.new.out)) c.in_ok-extend_from_slice.ensures.items fault)))
+    c.send.ensures.err

@@ -58,5 +58,5 @@ returns-clause-ok g c =
     let values = written_text c.args.time c.args.values.now in
     subst (λ text. GoesOut (held c.args.out.now) (held c.write_lines.new.out) text c.extend_from_slice-2.new.self.items)
     (values_are c.args.text.now.items begun values c.in_ok-extend_from_slice.ensures.items)
-    (subst (GoesOut _ _ _) (sym c.in_ok-extend_from_slice-2.ensures.items)
+    (subst (GoesOut _ _ _) (sym {A = List ℕ} c.in_ok-extend_from_slice-2.ensures.items)
     (GoesOut-behind _ _ (begun ++ values) c.write_lines.new.text.items end c.in_ok-last.ensures.ok))
