@@ -4,10 +4,13 @@ mod BytesLemmas
 pub mod CallerLemmas
 mod CodeLemmas
 mod Declared
+mod Gathered
 mod GoingOut
 mod Lists
+mod Ordered
 mod Readings
 mod ShownValues
+mod Stepped
 mod Text
 mod Times
 mod Tokens
