@@ -20,21 +20,6 @@ use Rattle.design.specs.Samples.{timing_of, asked_of_part, asked_tick, asker_of_
 use Rattle.design.specs.Equations.{values_at, equation_of_part, equation}
 use Rattle.design.proofs.CallerLemmas.{asked-before, asked-from, asked-mono, asker-late}
 
-quiet_from : (signal : ℕ → Value) (from ticks : ℕ) →
-    ((tick : ℕ) → from ≤ tick → tick < from + ticks → signal tick ≡ value_before signal tick) →
-    flat_map (change_at signal) (range_with_len from ticks) ≡ []
-quiet_from signal from zero h = refl
-quiet_from signal from (suc ticks) h =
-    let here : is_same (signal from) (value_before signal from) ≡ true =
-    ap (λ v. is_same v (value_before signal from)) (h from (omega arith) (omega arith)) ∙ is_same_equiv.refl (value_before signal from) in
-    ap (λ b. cond b [] (record { tick = from; value = signal from } ∷ []) ++ flat_map (change_at signal) (range_with_len (from + 1) ticks)) here
-    ∙ quiet_from signal (from + 1) ticks (λ tick a b. h tick (omega arith) (omega arith))
-
--- where each value is the one before it there are no changes
-pub quiet : (signal : ℕ → Value) (from to : ℕ) → ((tick : ℕ) → from ≤ tick → tick < to → signal tick ≡ value_before signal tick) →
-    changes_between signal from to ≡ []
-quiet signal from to h = quiet_from signal from (to - from) (λ tick a b. h tick a (omega arith))
-
 -- up to the first change after a tick the value stays
 pub value_after-next : (before : Value) (changes : List Change) (tick late due : ℕ) → due ≤ length changes →
     TicksRise changes →

@@ -13,11 +13,6 @@ use Rattle.gate_process.specs.Knowledge.{Knowledge, knowledge_of, told, told_all
 use Rattle.gate_process.specs.Step.{ProcessState, kept_from, kept}
 use Rattle.gate_process.proofs.Kept.{kept_later}
 
--- the changes at one tick
-pub one_change : (signal : ℕ → Value) (at : ℕ) → changes_between signal at (at + 1) ≡ change_at signal at
-one_change signal at =
-    ap (λ n. flat_map (change_at signal) (range_with_len at n)) (let e : at + 1 - at ≡ 1 = omega arith in e) ∙ append-nil (change_at signal at)
-
 pub no_change : (signal : ℕ → Value) (at : ℕ) → is_same (signal at) (value_before signal at) ≡ true → change_at signal at ≡ []
 no_change signal at e = rw e refl
 

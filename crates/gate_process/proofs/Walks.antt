@@ -12,8 +12,7 @@ use Rattle.cmb_channels.specs.declared.message.Message.{Message}
 use Rattle.cmb_channels.specs.declared.message.Message.TheVariants.{Change as Changes, Null}
 use Rattle.gate_process.specs.Knowledge.{news_of}
 use Rattle.gate_process.specs.Step.{continued}
-use Rattle.gate_process.proofs.Told.{one_change, no_change}
-use Rattle.gate_process.proofs.Steady.{quiet}
+use Rattle.gate_process.proofs.Told.{no_change}
 
 -- what some changes tell of: up to the last of them, else up to a tick
 abbrev pub told_to : ℕ → List Change → ℕ

@@ -1,5 +1,8 @@
 pub mod CallerLemmas
+mod Cuts
 mod Equal
 mod GateLemmas
+mod Results
 mod Rising
+mod Shown
 mod Waves

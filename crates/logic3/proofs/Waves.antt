@@ -147,7 +147,7 @@ joined-wave_of signal from mid to a b =
 -- ---- the changes one by one
 
 -- what holds wherever a signal changes in a span holds of each change there
-all_from : (P : Change → Type 0) (signal : ℕ → Value) (from ticks : ℕ) →
+pub all_from : (P : Change → Type 0) (signal : ℕ → Value) (from ticks : ℕ) →
     ((tick : ℕ) → from ≤ tick → tick < from + ticks → value_before signal tick ≢ signal tick → P (record { tick = tick; value = signal tick })) →
     All P (flat_map (change_at signal) (range_with_len from ticks))
 all_from P signal from zero each = All-nil P

@@ -1,4 +1,4 @@
-use Rattle.std.specs.Prelude.{◌≢◌, ℕ, zero, suc, ◌+◌, ◌-◌, ◌≤◌, nat_le, ◌==◌, Bool, if◌then◌else◌, List, [], ◌∷◌, ◌++◌, flat_map}
+use Rattle.std.specs.Prelude.{◌≢◌, ℕ, zero, suc, ◌+◌, ◌-◌, ◌≤◌, nat_le, ◌==◌, nat_lt, Bool, if◌then◌else◌, List, [], ◌∷◌, ◌++◌, flat_map, filter}
 use Rattle.std.specs.List.{range_with_len}
 use Rattle.std.specs.Ordering.{on, eq_of_both}
 use Rattle.std.specs.Cmp.{IsEquivalence, and_equiv, on_equiv, nat_eq_equiv}
@@ -33,6 +33,17 @@ last_value wave = value_in_the_end wave.before wave.changes
 -- a waveform with more changes at its end
 abbrev pub joined : Wave → List Change → Wave
 joined wave changes = record wave { changes = wave.changes ++ changes }
+
+-- the changes before a tick
+abbrev pub changes_below : ℕ → List Change → List Change
+changes_below tick changes = filter (λ (change : Change). nat_lt change.tick tick) changes
+
+-- a waveform without its changes before a tick: the last of them, where there is one, gives the value before the others
+abbrev pub without_below : ℕ → Wave → Wave
+without_below tick wave = record {
+  before = value_in_the_end wave.before (changes_below tick wave.changes);
+  changes = filter (λ (change : Change). nat_le tick change.tick) wave.changes;
+}
 
 -- the value one tick earlier; before tick 0 it is X
 abbrev pub value_before : (ℕ → Value) → ℕ → Value

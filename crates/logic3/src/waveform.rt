@@ -1,10 +1,11 @@
-ghost use Rattle.std.specs.Prelude.{◌≡◌, ◌≢◌, ℕ, ◌+◌, ◌<◌, ◌≤◌, ◌↔◌, List, [], ◌∷◌, ◌++◌, All, IsTrue, IfOk, OnOk, OnErr};
+ghost use Rattle.std.specs.Prelude.{◌≡◌, ◌≢◌, ℕ, ◌+◌, ◌<◌, ◌≤◌, ◌↔◌, List, [], ◌∷◌, ◌++◌, All, length, IsTrue, IfOk, OnOk, OnErr};
 ghost use Rattle.logic3.specs.declared.value.Value.TheVariants.{Unknown};
 
 use crate::change::{Change, value_after};
 use crate::value::Value;
 use std::alloc::{AllocError, Global};
 use std::marker::Model;
+use std::mem::replace;
 
 /// What a net shows at each tick: a value before the first change, and the changes.
 #[derive(Debug, Drop)]
@@ -24,7 +25,7 @@ impl Model for Waveform {
 }
 
 impl Waveform {
-    ghost use Rattle.logic3.specs.Wave.{value_at, last_value, joined, IsWave};
+    ghost use Rattle.logic3.specs.Wave.{value_at, last_value, joined, changes_below, without_below, IsWave};
 
     /// X at every tick.
     pub fn new(alloc: Global) -> Self
@@ -81,6 +82,27 @@ impl Waveform {
     {
         self.changes.push(change)?;
         Ok(())
+    }
+
+    /// Takes out the changes before a tick, in order. The value before the others becomes that of the
+    /// last of them, where there is one.
+    ///
+    /// Where no change is before the tick it takes no memory. An `AllocError` leaves the waveform as it
+    /// was.
+    pub fn split_below(&mut self, tick: u64) -> Result<Vec<Change>, AllocError>
+        ensures below { IfOk result (λ below. below.items ≡ changes_below tick self.old.changes) }
+        ensures rest { OnOk result (self.new ≡ without_below tick self.old) }
+        ensures err { OnErr result (self.new ≡ self.old) }
+        ensures memory { OnErr result (0 < length (changes_below tick self.old.changes)) }
+    {
+        let due = self.changes.partition_point(|change| change.tick < tick);
+        if due == 0 {
+            return Ok(Vec::new(*self.changes.allocator()));
+        }
+        let rest = self.changes.split_off(due)?;
+        let below = replace(&mut self.changes, rest);
+        self.before = below.last().map_or(self.before, |change| change.value);
+        Ok(below)
     }
 
     /// An equal waveform, on the same allocator.

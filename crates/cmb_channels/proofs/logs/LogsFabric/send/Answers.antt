@@ -4,7 +4,8 @@ use Rattle.cmb_channels.specs.Channels.{Channels, pins_fed}
 use Rattle.cmb_channels.specs.Lists.{sent}
 use Rattle.cmb_channels.specs.Logs.{AreLogs, unread_lists}
 use Rattle.cmb_channels.proofs.AllLogs.{length-counts, logs_written, lists_written}
-use Rattle.cmb_channels.proofs.Places.{OnErr_always, length-sent}
+use Rattle.logic3.proofs.CallerLemmas.{OnErr_always}
+use Rattle.cmb_channels.proofs.Places.{length-sent}
 use Rattle.cmb_channels.proofs.logs.LogsFabric.send.Goals as goal
 use Rattle.cmb_channels.proofs.logs.LogsFabric.send.Goals.{After-index_mut, In_ok-write}
 

@@ -1,7 +1,7 @@
 use Rattle.std.proofs.Common.{◌≡◌, true, ◌==◌, not, All, length, slice_set, refl, ap, ◌∙◌, sym, subst, ◌+◌, ◌<◌}
 use Rattle.cmb_events.specs.declared.event.Event.TheVariants.{Advance}
 use Rattle.cmb_channels.specs.Packing.{Fits}
-use Rattle.cmb_channels.proofs.CallerLemmas.{OnErr_always}
+use Rattle.logic3.proofs.CallerLemmas.{OnErr_always}
 use Rattle.cmb_kernel.proofs.Running.{runs_at, goes_on}
 use Rattle.cmb_kernel.proofs.Applied.{IsApplied, few_messages, news_fit, farther_useful, telling_useful, net_advanced}
 use Rattle.cmb_kernel.specs.Running.{state_of}

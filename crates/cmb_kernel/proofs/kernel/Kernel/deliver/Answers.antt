@@ -4,7 +4,7 @@ use Rattle.cmb_events.specs.declared.event.Event.TheVariants.{Deliver}
 use Rattle.cmb_kernel.specs.Running.{state_of}
 use Rattle.cmb_kernel.specs.Step.{counted}
 use Rattle.cmb_kernel.specs.Useful.{is_useful}
-use Rattle.cmb_channels.proofs.CallerLemmas.{OnErr_always}
+use Rattle.logic3.proofs.CallerLemmas.{OnErr_always}
 use Rattle.cmb_kernel.proofs.Running.{some_pin, place_is, runs_at, place_within, goes_on}
 use Rattle.cmb_kernel.proofs.Applied.{IsApplied, few_before, none_waits, nothing_came, can_be_told, message_came}
 use Rattle.cmb_kernel.proofs.kernel.Kernel.deliver.Given.{Over}

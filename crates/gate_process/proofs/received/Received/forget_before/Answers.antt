@@ -2,9 +2,9 @@ use Rattle.std.proofs.Common.{◌≡◌, ◌≤◌, ◌∙◌, length, take, ap,
 use Rattle.std.proofs.lemmas.List.Sorted.{IsPartitionPoint-from_clause, IsPartitionedBy-ltb}
 use Rattle.logic3.specs.declared.change.Change.{Change}
 use Rattle.logic3.specs.Wave.{value_in_the_end}
-use Rattle.logic3.proofs.CallerLemmas.{RisesBy-ascends, AllPairs-Alternates}
+use Rattle.logic3.proofs.CallerLemmas.{IsCut, RisesBy-ascends, AllPairs-Alternates}
 use Rattle.gate_process.specs.Knowledge.{Knowledge, IsKnowledge, forgetting}
-use Rattle.gate_process.proofs.Forgets.{IsCut, forgets, forgotten_is_known}
+use Rattle.gate_process.proofs.Forgets.{forgets, forgotten_is_known}
 use Rattle.gate_process.proofs.received.Received.forget_before.Goals as goal
 
 known : goal.After-drop_front → Knowledge
