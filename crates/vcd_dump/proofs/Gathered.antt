@@ -12,7 +12,7 @@ use Rattle.vcd_dump.proofs.Ordered.{OfSpan}
 
 -- ---- what holds of each tick
 
-AllByRecursion-append : {X : Type 0} (P : X → Type 0) (xs ys : List X) → AllByRecursion P xs → AllByRecursion P ys → AllByRecursion P (xs ++ ys)
+pub AllByRecursion-append : {X : Type 0} (P : X → Type 0) (xs ys : List X) → AllByRecursion P xs → AllByRecursion P ys → AllByRecursion P (xs ++ ys)
 AllByRecursion-append P [] ys a b = b
 AllByRecursion-append P (x ∷ xs) ys a b = (a.0, AllByRecursion-append P xs ys a.1 b)
 
@@ -52,7 +52,7 @@ EachLine-span_lines P from parts start each = EachLine-from P from 0 parts start
 
 -- ---- and the other way round
 
-AllByRecursion-both : {X : Type 0} (P : X → Type 0) (xs ys : List X) → AllByRecursion P (xs ++ ys) → AllByRecursion P xs × AllByRecursion P ys
+pub AllByRecursion-both : {X : Type 0} (P : X → Type 0) (xs ys : List X) → AllByRecursion P (xs ++ ys) → AllByRecursion P xs × AllByRecursion P ys
 AllByRecursion-both P [] ys all = (tt, all)
 AllByRecursion-both P (x ∷ xs) ys all = let rest = AllByRecursion-both P xs ys all.1 in ((all.0, rest.0), rest.1)
 

@@ -10,8 +10,11 @@ mod Lists
 mod Ordered
 mod Readings
 mod ShownValues
+mod Signals
 mod Stepped
+mod Streams
 mod Text
 mod Times
 mod Tokens
 mod Variables
+mod Wholes

@@ -121,3 +121,8 @@ stream_at signals horizon to = record {
   time = latest 0 (span_lines 0 (parts_of signals 0 to));
   failed = false;
 }
+
+-- all that stands behind the declarations: one span of all ticks up to a horizon, and what ends it
+abbrev pub whole_text : ℕ → List (ℕ → Value) → List ℕ
+whole_text horizon signals =
+    span_text 0 (horizon + 1) (parts_of signals 0 (horizon + 1)) ++ last_text (stream_at signals horizon (horizon + 1))
