@@ -110,6 +110,9 @@ proper : (signals : List (ℕ → Value)) (from to : ℕ) → AllByRecursion (Is
 proper [] from to = tt
 proper (signal ∷ signals) from to = (IsPart-changes_between signal from to, proper signals from to)
 
+pub IsPart-parts_of : (signals : List (ℕ → Value)) (from to : ℕ) → All (IsPart from to) (parts_of signals from to)
+IsPart-parts_of signals from to = All-from_recursion (IsPart from to) (parts_of signals from to) (proper signals from to)
+
 -- it can go on
 pub stream_at-can : (signals : List (ℕ → Value)) (horizon from to : ℕ) → from < to → to ≤ horizon + 1 →
     CanSpan (stream_at signals horizon from) to (parts_of signals from to)
@@ -117,7 +120,7 @@ stream_at-can signals horizon from to ahead within = record {
   ahead = ahead;
   within = within;
   each = length-map signals (λ signal. changes_between signal from to);
-  proper = All-from_recursion (IsPart from to) (parts_of signals from to) (proper signals from to);
+  proper = IsPart-parts_of signals from to;
 }
 
 -- ---- the latest time of all
