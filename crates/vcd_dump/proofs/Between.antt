@@ -65,3 +65,14 @@ between-around text from at to a b =
     between-split text from at to a (omega arith)
     ∙ ap (λ xs. between text from at ++ xs) (between-first text at to b)
     ∙ sym (append_assoc (between text from at) (text at) (between text (at + 1) to))
+
+same_from : (f g : ℕ → List ℕ) (from count : ℕ) → ((k : ℕ) → from ≤ k → k < from + count → f k ≡ g k) →
+    flat_map f (range_with_len from count) ≡ flat_map g (range_with_len from count)
+same_from f g from zero same = refl
+same_from f g from (suc count) same =
+    let here = same from (omega arith) (omega arith) in
+    let rest = same_from f g (from + 1) count (λ k a b. same k (omega arith) (omega arith)) in cc
+
+-- texts that are the same
+pub between-same : (f g : ℕ → List ℕ) (from to : ℕ) → ((k : ℕ) → from ≤ k → k < to → f k ≡ g k) → between f from to ≡ between g from to
+between-same f g from to same = same_from f g from (to - from) (λ k a b. same k a (omega arith))

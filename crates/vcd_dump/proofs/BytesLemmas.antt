@@ -1,5 +1,5 @@
 -- Texts that are written piece by piece.
-use Rattle.std.proofs.Common.{◌≡◌, ℕ, suc, ◌+◌, Result, Ok, Err, OnErr, ◌<◌, ◌≤◌, min, List, [], ◌∷◌, ◌++◌, Option, length, take, refl, ap, sym, subst, ◌∙◌, arith}
+use Rattle.std.proofs.Common.{◌≡◌, ℕ, suc, ◌+◌, Result, Ok, Err, OnOk, OnErr, ◌<◌, ◌≤◌, min, List, [], ◌∷◌, ◌++◌, Option, length, take, refl, ap, sym, subst, ◌∙◌, arith}
 use Rattle.std.proofs.lemmas.List.{take_at, take_min, take-append-le}
 use Rattle.std.specs.Io.KnownBytes.{Appends}
 use Rattle.std.proofs.KnownBytes.{Appends-trans}
@@ -29,59 +29,12 @@ AppendsPrefix-after old mid new xs ys first (n, then') =
 pub AppendsPrefix-piece : (old new : Option (List ℕ)) (xs rest : List ℕ) → Appends old new xs → AppendsPrefix old new (xs ++ rest)
 AppendsPrefix-piece old new xs rest first = (length xs, subst (Appends old new) (sym (take_at xs rest (length xs) refl)) first)
 
--- ---- a text in three pieces
-
--- a fault at the first piece
-pub AppendsPrefix-first : (old new : Option (List ℕ)) (a b c : List ℕ) → AppendsPrefix old new a → AppendsPrefix old new (a ++ b ++ c)
-AppendsPrefix-first old new a b c fault = AppendsPrefix-longer old new (a ++ b) c (AppendsPrefix-longer old new a b fault)
-
--- a fault at the second piece
-pub AppendsPrefix-second : (old mid new : Option (List ℕ)) (a b c : List ℕ) → Appends old mid a → AppendsPrefix mid new b →
-    AppendsPrefix old new (a ++ b ++ c)
-AppendsPrefix-second old mid new a b c first fault = AppendsPrefix-longer old new (a ++ b) c (AppendsPrefix-after old mid new a b first fault)
-
--- a fault at the third piece
-pub AppendsPrefix-third : (old mid late new : Option (List ℕ)) (a b c : List ℕ) → Appends old mid a → Appends mid late b →
-    AppendsPrefix late new c → AppendsPrefix old new (a ++ b ++ c)
-AppendsPrefix-third old mid late new a b c first second fault =
-    AppendsPrefix-after old late new (a ++ b) c (Appends-trans old mid late a b first second) fault
-
--- all three pieces
-pub Appends-three : (old mid late new : Option (List ℕ)) (a b c : List ℕ) → Appends old mid a → Appends mid late b → Appends late new c →
-    Appends old new (a ++ b ++ c)
-Appends-three old mid late new a b c first second third =
-    Appends-trans old late new (a ++ b) c (Appends-trans old mid late a b first second) third
-
 -- what holds anyway holds at a fault
 pub OnErr-always : {T E P : Type 0} (r : Result T E) → P → OnErr r P
 OnErr-always (Ok x) h = tt
 OnErr-always (Err e) h = h
 
--- ---- texts in a row
-
--- what was appended of them is a first part
-pub AppendsPrefix-between : (old new : Option (List ℕ)) (text : ℕ → List ℕ) (at to : ℕ) → at ≤ to → Appends old new (between text 0 at) →
-    AppendsPrefix old new (between text 0 to)
-AppendsPrefix-between old new text at to h first =
-    subst (AppendsPrefix old new) (sym (between-split text 0 at to (omega arith) h))
-    (AppendsPrefix-piece old new (between text 0 at) (between text at to) first)
-
--- a fault at the next one
-pub AppendsPrefix-next : (old mid new : Option (List ℕ)) (text : ℕ → List ℕ) (at to : ℕ) → at < to → Appends old mid (between text 0 at) →
-    AppendsPrefix mid new (text at) →
-    AppendsPrefix old new (between text 0 to)
-AppendsPrefix-next old mid new text at to h first fault =
-    subst (AppendsPrefix old new) (sym (between-around text 0 at to (omega arith) h))
-    (AppendsPrefix-second old mid new (between text 0 at) (text at) (between text (at + 1) to) first fault)
-
--- the next one
-pub Appends-next : (old mid new : Option (List ℕ)) (text : ℕ → List ℕ) (at : ℕ) → Appends old mid (between text 0 at) →
-    Appends mid new (text at) → Appends old new (between text 0 (at + 1))
-Appends-next old mid new text at first second =
-    subst (Appends old new) (sym (between-last text 0 at (omega arith))) (Appends-trans old mid new (between text 0 at) (text at) first second)
-
--- ---- lines
-
--- a line that was emptied and got a text is the text
-pub emptied : (empty new text : List ℕ) → empty ≡ [] → new ≡ empty ++ text → new ≡ text
-emptied empty new text none added = added ∙ ap (λ xs. xs ++ text) none
+-- what holds anyway holds at a success
+pub OnOk-always : {T E P : Type 0} (r : Result T E) → P → OnOk r P
+OnOk-always (Ok x) h = h
+OnOk-always (Err e) h = tt

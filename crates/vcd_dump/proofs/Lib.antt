@@ -2,17 +2,20 @@ mod Between
 mod Body
 mod BytesLemmas
 pub mod CallerLemmas
-mod Changes
 mod CodeLemmas
 mod Declared
+mod FromWaves
+mod Gathered
+mod GoingOut
 mod Lists
-mod Order
-mod PendingLemmas
-mod Reached
+mod Ordered
 mod Readings
-mod Rest
 mod ShownValues
+mod Signals
+mod Stepped
+mod Streams
 mod Text
 mod Times
 mod Tokens
 mod Variables
+mod Wholes

@@ -11,9 +11,8 @@ use Rattle.text_lines.specs.Text.{is_empty}
 use Rattle.vcd_dump.specs.declared.unit.TimeUnit.{TimeUnit}
 use Rattle.vcd_dump.specs.Codes.{code_at}
 use Rattle.vcd_dump.specs.Dump.{Variable, variable_at, variables_of, line, heading, declaration, declaration_text, declarations, change_text, change_line, time_line, first_values, changes_at, lines_at, dump_text}
-use Rattle.vcd_dump.specs.Traces.{name_of, traces, named, unnamed}
+use Rattle.vcd_dump.specs.Traces.{name_of, named}
 use Rattle.vcd_dump.proofs.Between.{between}
-use Rattle.vcd_dump.proofs.Rest.{lines}
 
 -- what is shown at a place: a name and a signal of what stands there
 abbrev pub shown_at : {X : Type 0} → (X → List ℕ × (ℕ → Value)) → List X → ℕ → Variable
@@ -52,9 +51,10 @@ flat_map-variables_of shows text xs =
 abbrev pub named_at : Circuit → List ℕ → ℕ → Variable
 named_at circuit shown place = shown_at (λ net. (name_of circuit net, λ tick. Unknown)) shown place
 
--- the shown net at a place, without its name
-abbrev pub unnamed_at : List Wave → ℕ → Variable
-unnamed_at waves place = shown_at (λ wave. ([], value_at wave)) waves place
+-- the declarations, by place
+pub declarations-named : (circuit : Circuit) (shown : List ℕ) →
+    flat_map declaration (named circuit shown) ≡ between (λ place. declaration (named_at circuit shown place)) 0 (length shown)
+declarations-named circuit shown = flat_map-variables_of (λ net. (name_of circuit net, λ tick. Unknown)) declaration shown
 
 -- the name at a place
 pub declaration-named_at : (circuit : Circuit) (shown : List ℕ) (place net : ℕ) (name : List ℕ) → slice_get shown place ≡ Some net →
@@ -67,81 +67,3 @@ declaration-named_at circuit shown place net name at is =
     go : (entry : Option Net) → option_map (λ (n : Net). n.name) entry ≡ Some name → option_map_or (λ (n : Net). n.name) entry [] ≡ name
     go None e = cc
     go (Some n) e = cc
-
--- the value at a place
-pub change_line-unnamed_at : (waves : List Wave) (place tick : ℕ) (wave : Wave) → slice_get waves place ≡ Some wave →
-    change_line tick (unnamed_at waves place) ≡ change_text (value_at wave tick) (code_at place)
-change_line-unnamed_at waves place tick wave at =
-    ap (λ (entry : Option Wave). change_text (option_map_or value_at entry (λ t. Unknown) tick) (code_at place)) at
-
--- ---- names for the declarations, and signals for what stands behind them
-
-by_name : (text : Variable → List ℕ) →
-    ((code name : List ℕ) (signal : ℕ → Value) → text (record { code = code; name = name; signal = signal }) ≡ text
-    (record { code = code; name = name; signal = λ tick. Unknown })) →
-    (circuit : Circuit) (first : ℕ) (shown : List ℕ) (waves : List Wave) → length waves ≡ length shown →
-    flat_map text (map variable_at (enumerate_from first (traces circuit shown waves)))
-    ≡ flat_map text (map variable_at (enumerate_from first (map (λ net. (name_of circuit net, λ tick. Unknown)) shown)))
-by_name text blind circuit first [] waves same = refl
-by_name text blind circuit first (net ∷ shown) [] same = absurd (omega arith)
-by_name text blind circuit first (net ∷ shown) (wave ∷ waves) same =
-    let here = blind (code_at first) (name_of circuit net) (value_at wave) in
-    let behind = by_name text blind circuit (first + 1) shown waves (omega arith) in
-    ap (λ xs. xs ++ flat_map text (map variable_at (enumerate_from (first + 1) (traces circuit shown waves)))) here
-    ∙ ap (λ xs. text (record { code = code_at first; name = name_of circuit net; signal = λ tick. Unknown }) ++ xs) behind
-
-by_signal : (text : Variable → List ℕ) →
-    ((code name : List ℕ) (signal : ℕ → Value) → text (record { code = code; name = name; signal = signal }) ≡ text
-    (record { code = code; name = []; signal = signal })) →
-    (circuit : Circuit) (first : ℕ) (shown : List ℕ) (waves : List Wave) → length waves ≡ length shown →
-    flat_map text (map variable_at (enumerate_from first (traces circuit shown waves)))
-    ≡ flat_map text (map variable_at (enumerate_from first (map (λ wave. ([], value_at wave)) waves)))
-by_signal text blind circuit first [] [] same = refl
-by_signal text blind circuit first [] (wave ∷ waves) same = absurd (omega arith)
-by_signal text blind circuit first (net ∷ shown) [] same = absurd (omega arith)
-by_signal text blind circuit first (net ∷ shown) (wave ∷ waves) same =
-    let here = blind (code_at first) (name_of circuit net) (value_at wave) in
-    let behind = by_signal text blind circuit (first + 1) shown waves (omega arith) in
-    ap (λ xs. xs ++ flat_map text (map variable_at (enumerate_from (first + 1) (traces circuit shown waves)))) here
-    ∙ ap (λ xs. text (record { code = code_at first; name = []; signal = value_at wave }) ++ xs) behind
-
--- the lines of all ticks, by the lines of changes of each
-abbrev ticks_text : ℕ → (ℕ → List ℕ) → List ℕ
-ticks_text horizon changes =
-    flat_map (λ tick. if is_empty (changes tick) && not (tick == horizon) then [] else time_line tick ++ changes tick) (range_with_len 1 horizon)
-
--- the parts of the dump of a circuit's nets
-pub dump_text-traces : (unit : TimeUnit) (horizon : ℕ) (circuit : Circuit) (shown : List ℕ) (waves : List Wave) → length waves ≡ length shown →
-    dump_text unit horizon (traces circuit shown waves)
-    ≡ declarations unit (named circuit shown) ++ first_values (unnamed waves) ++ flat_map (lines_at (unnamed waves) horizon)
-    (range_with_len 1 horizon)
-dump_text-traces unit horizon circuit shown waves same = λ i.
-    (heading unit ++ names i ++ line (codes "$upscope $end") ++ line (codes "$enddefinitions $end"))
-    ++ (time_line 0 ++ line (codes "$dumpvars") ++ values i ++ line (codes "$end"))
-    ++ ticks_text horizon (λ tick. changes tick i)
-  where
-    names : flat_map declaration (variables_of (traces circuit shown waves)) ≡ flat_map declaration (named circuit shown)
-    names = by_name declaration (λ code name signal. refl) circuit 0 shown waves same
-
-    values : flat_map (change_line 0) (variables_of (traces circuit shown waves)) ≡ flat_map (change_line 0) (unnamed waves)
-    values = by_signal (change_line 0) (λ code name signal. refl) circuit 0 shown waves same
-
-    changes : (tick : ℕ) → changes_at (variables_of (traces circuit shown waves)) tick ≡ changes_at (unnamed waves) tick
-    changes tick = by_signal _ (λ code name signal. refl) circuit 0 shown waves same
-
--- ---- the lines of changes
-
--- the line of a place at a tick, if it changes there
-abbrev pub line_in : List Wave → ℕ → ℕ → List ℕ
-line_in waves tick place =
-    let v = unnamed_at waves place in if is_same (v.signal (tick - 1)) (v.signal tick) then [] else change_line tick v
-
-pub lines_at-unnamed : (waves : List Wave) (horizon : ℕ) →
-    flat_map (lines_at (unnamed waves) horizon) (range_with_len 1 horizon) ≡ between
-    (lines (line_in waves) time_line (length waves) horizon) 1 (horizon + 1)
-lines_at-unnamed waves horizon =
-    (λ i. ticks_text horizon (λ tick. changes tick i))
-    ∙ ap (λ n. flat_map (lines (line_in waves) time_line (length waves) horizon) (range_with_len 1 n)) (omega arith)
-  where
-    changes : (tick : ℕ) → changes_at (unnamed waves) tick ≡ between (line_in waves tick) 0 (length waves)
-    changes tick = flat_map-variables_of (λ wave. ([], value_at wave)) _ waves

@@ -1,9 +1,10 @@
 -- What a fault tells: its name.
 use Rattle.std.specs.Prelude.{List, codes, ℕ}
 use Rattle.vcd_dump.specs.declared.fault.DumpFault.{DumpFault}
-use Rattle.vcd_dump.specs.declared.fault.DumpFault.TheVariants.{Write, WroteNothing, Memory}
+use Rattle.vcd_dump.specs.declared.fault.DumpFault.TheVariants.{Write, WroteNothing, Memory, Failed}
 
 abbrev pub name_of : DumpFault → List ℕ
 name_of Write = codes "Write"
 name_of WroteNothing = codes "WroteNothing"
 name_of Memory = codes "Memory"
+name_of Failed = codes "Failed"

@@ -6,6 +6,7 @@ pub mod Bytes
 pub mod Codes
 pub mod Dump
 pub mod Faults
-pub mod Pending
+pub mod Spans
+pub mod Written
 pub mod Traces
 pub mod Shown

@@ -23,7 +23,3 @@ traces circuit shown waves = []
 -- the shown nets as their declarations show them: what they show at a tick stands nowhere there
 abbrev pub named : Circuit → List ℕ → List Variable
 named circuit shown = variables_of (map (λ net. (name_of circuit net, λ tick. Unknown)) shown)
-
--- the shown nets as the lines of times and changes show them: their names stand nowhere there
-abbrev pub unnamed : List Wave → List Variable
-unnamed waves = variables_of (map (λ wave. ([], value_at wave)) waves)

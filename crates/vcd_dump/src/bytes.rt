@@ -9,12 +9,13 @@ use std::io::Write;
 ///
 /// # Errors
 /// `Write` where a call answers a fault, an interruption too, and `WroteNothing` where it takes none
-/// of the bytes; a first part of the text was written then. Never `Memory`.
+/// of the bytes; a first part of the text was written then. Never `Memory` or `Failed`.
 pub fn write_all_bytes<W: Write>(out: &mut W, text: &[u8]) -> Result<(), DumpFault>
     ensures ok { OnOk result (Appends (W.contents out.old) (W.contents out.new) text.now) }
     ensures err { OnErr result (AppendsPrefix (W.contents out.old) (W.contents out.new) text.now) }
     ensures some { OnErr result (0 < length text.now) }
     ensures no_memory { IfErr result (λ fault. fault ≢ DumpFault.Memory) }
+    ensures fault { IfErr result (λ fault. fault ≢ DumpFault.Failed) }
 {
     let mut at = 0;
     while at < text.len() {

@@ -15,6 +15,8 @@ pub enum DumpFault {
     WroteNothing,
     /// A growth was refused.
     Memory,
+    /// An earlier call on the stream answered a fault.
+    Failed,
 }
 
 impl DumpFault {
@@ -26,6 +28,7 @@ impl DumpFault {
             DumpFault::Write => "Write",
             DumpFault::WroteNothing => "WroteNothing",
             DumpFault::Memory => "Memory",
+            DumpFault::Failed => "Failed",
         }
     }
 }

@@ -1,9 +1,11 @@
 //! Facts about the definitions alone.
-ghost use Rattle.std.specs.Prelude.{◌≡◌, ◌≢◌, ℕ, ◌<◌, ◌≤◌, ◌^◌, List, ◌∷◌, ◌++◌, length, flat_map, All, Contains};
+ghost use Rattle.std.specs.Prelude.{◌≡◌, ◌≢◌, ℕ, ◌+◌, ◌<◌, ◌≤◌, ◌^◌, List, ◌∷◌, ◌++◌, length, map, flat_map, All, Contains};
+ghost use Rattle.logic3.specs.declared.value.Value.{Value};
 ghost use Rattle.text_lines.specs.Text.{lines_of, words_of};
 ghost use Rattle.vcd_dump.specs.declared.unit.TimeUnit.{TimeUnit};
 ghost use Rattle.vcd_dump.specs.Codes.{code_at};
-ghost use Rattle.vcd_dump.specs.Dump.{dump_keywords, Trace, dump_text};
+ghost use Rattle.vcd_dump.specs.Dump.{dump_keywords, Trace, variables_of, declarations, dump_text};
+ghost use Rattle.vcd_dump.specs.Spans.{begun, spanned, span_text, CanSpan, parts_of, stream_at, whole_text};
 ghost use Rattle.vcd_dump.specs.Shown.{dump_tokens, IsReadable, Shows};
 
 /// The identifier codes of distinct places differ.
@@ -29,4 +31,21 @@ pub fn tokens_of_lines()
 pub fn shown()
     ensures { (unit : TimeUnit) (horizon : ℕ) (traces : List Trace) → horizon < 2 ^ 64 → IsReadable traces →
         All (Shows (dump_text unit horizon traces) horizon) traces }
+{}
+
+/// What a stream writes of signals, span by span, is their dump: it begins, can go on from any tick to
+/// any later one up to the horizon, and has then written what one span would have.
+pub fn spans_make_the_dump()
+    ensures begins { (signals : List (ℕ → Value)) (horizon : ℕ) →
+        begun (length signals) horizon ≡ stream_at signals horizon 0 }
+    ensures can { (signals : List (ℕ → Value)) (horizon from to : ℕ) → from < to → to ≤ horizon + 1 →
+        CanSpan (stream_at signals horizon from) to (parts_of signals from to) }
+    ensures goes_on { (signals : List (ℕ → Value)) (horizon from to : ℕ) → from < to →
+        spanned (stream_at signals horizon from) to (parts_of signals from to) ≡ stream_at signals horizon to }
+    ensures text { (signals : List (ℕ → Value)) (from to : ℕ) → from ≤ to →
+        span_text 0 from (parts_of signals 0 from) ++ span_text from to (parts_of signals from to)
+        ≡ span_text 0 to (parts_of signals 0 to) }
+    ensures whole { (unit : TimeUnit) (horizon : ℕ) (traces : List Trace) →
+        declarations unit (variables_of traces) ++ whole_text horizon (map (λ (trace : Trace). trace.1) traces)
+        ≡ dump_text unit horizon traces }
 {}

@@ -6,12 +6,16 @@ mod codes;
 mod dumper;
 mod fault;
 pub mod laws;
+mod line;
 mod lines;
-mod pending;
+mod pieces;
+mod stream;
 mod unit;
+mod writer;
 
 pub use bytes::write_all_bytes;
 pub use dumper::dump;
 pub use fault::DumpFault;
 pub use lines::value_text;
+pub use stream::Stream;
 pub use unit::TimeUnit;

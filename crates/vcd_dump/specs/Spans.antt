@@ -1,0 +1,128 @@
+-- The text of a dump a span of ticks at a time.
+use Rattle.std.specs.Prelude.{ℕ, ◌+◌, ◌-◌, ◌≤◌, ◌<◌, ◌≡◌, ◌==◌, max, Bool, false, if◌then◌else◌, List, [], ◌∷◌, ◌++◌, length, map, filter, flat_map, All, codes}
+use Rattle.std.specs.List.{enumerate_from, range_with_len}
+use Rattle.logic3.specs.declared.value.Value.{Value}
+use Rattle.logic3.specs.declared.value.Value.TheVariants.{Unknown}
+use Rattle.logic3.specs.declared.change.Change.{Change}
+use Rattle.logic3.specs.Wave.{changes_between}
+use Rattle.logic3.specs.Rising.{TicksRise}
+use Rattle.text_lines.specs.Text.{is_empty}
+use Rattle.vcd_dump.specs.declared.line.Line.{Line}
+use Rattle.vcd_dump.specs.Codes.{code_at}
+use Rattle.vcd_dump.specs.Dump.{line, change_text, time_line, time_line_after}
+
+-- ---- lines
+
+-- the line of a change of the net at a place
+abbrev pub line_of : ℕ → Change → Line
+line_of place change = record { tick = change.tick; place = place; value = change.value }
+
+-- whether the first of some changes is at tick 0
+abbrev pub is_at_zero : List Change → Bool
+is_at_zero [] = false
+is_at_zero (change ∷ part) = change.tick == 0
+
+-- what a net shows from tick 0 on: X there, where it has no change at it
+abbrev pub from_zero : List Change → List Change
+from_zero part = if is_at_zero part then part else record { tick = 0; value = Unknown } ∷ part
+
+-- the lines of the net at a place, of its changes in a span that begins at a tick
+abbrev pub lines_of : ℕ → ℕ × List Change → List Line
+lines_of from (place, part) = map (line_of place) (if from == 0 then from_zero part else part)
+
+-- the lines of a span, net after net
+abbrev pub span_lines : ℕ → List (List Change) → List Line
+span_lines from parts = flat_map (lines_of from) (enumerate_from 0 parts)
+
+-- those of a tick, in their order
+abbrev pub at_tick : List Line → ℕ → List Line
+at_tick lines tick = filter (λ (line : Line). line.tick == tick) lines
+
+-- ---- their text
+
+abbrev pub line_text : Line → List ℕ
+line_text line = change_text line.value (code_at line.place)
+
+-- the values at tick 0
+abbrev pub zero_text : List ℕ → List ℕ
+zero_text values = time_line 0 ++ line (codes "$dumpvars") ++ values ++ line (codes "$end")
+
+-- a later tick with its lines, where there are any
+abbrev pub later_text : ℕ → List Line → List ℕ
+later_text tick here = if is_empty here then [] else time_line tick ++ flat_map line_text here
+
+-- the text of a tick: its lines among these
+abbrev pub tick_text : List Line → ℕ → List ℕ
+tick_text lines tick =
+    if tick == 0 then zero_text (flat_map line_text (at_tick lines tick)) else later_text tick (at_tick lines tick)
+
+-- the text of a span: of the ticks from one up to but not including another
+abbrev pub span_text : ℕ → ℕ → List (List Change) → List ℕ
+span_text from to parts = flat_map (tick_text (span_lines from parts)) (range_with_len from (to - from))
+
+-- ---- streams
+
+-- what a stream has written: how many nets it shows, its last tick, the ticks that went out, and the last time line
+pub record StreamView : Type 0 where
+  pub nets : ℕ
+  pub horizon : ℕ
+  pub written : ℕ
+  pub time : ℕ
+  pub failed : Bool
+
+-- a stream that has written the declarations
+abbrev pub begun : ℕ → ℕ → StreamView
+begun nets horizon = record { nets = nets; horizon = horizon; written = 0; time = 0; failed = false }
+
+-- the latest of a time and the times of lines
+abbrev pub latest : ℕ → List Line → ℕ
+latest time [] = time
+latest time (line ∷ lines) = latest (max time line.tick) lines
+
+-- a stream after a span up to but not including a tick
+abbrev pub spanned : StreamView → ℕ → List (List Change) → StreamView
+spanned stream upto parts = record {
+  nets = stream.nets;
+  horizon = stream.horizon;
+  written = upto;
+  time = latest stream.time (span_lines stream.written parts);
+  failed = false;
+}
+
+-- what ends the dump: the last tick, where no line was of it
+abbrev pub last_text : StreamView → List ℕ
+last_text stream = time_line_after stream.time stream.horizon
+
+-- changes of a net at ticks from one up to but not including another, which rise
+pub record IsPart (from to : ℕ) (part : List Change) : Type 0 where
+  pub rises : TicksRise part
+  pub low : All (λ (change : Change). from ≤ change.tick) part
+  pub high : All (λ (change : Change). change.tick < to) part
+
+-- a stream can go on up to but not including a tick, by the changes of each net since it was written
+pub record CanSpan (stream : StreamView) (upto : ℕ) (parts : List (List Change)) : Type 0 where
+  pub ahead : stream.written < upto
+  pub within : upto ≤ stream.horizon + 1
+  pub each : length parts ≡ stream.nets
+  pub proper : All (IsPart stream.written upto) parts
+
+-- ---- spans of signals
+
+-- the changes of each signal at ticks from one up to but not including another
+abbrev pub parts_of : List (ℕ → Value) → ℕ → ℕ → List (List Change)
+parts_of signals from to = map (λ signal. changes_between signal from to) signals
+
+-- a stream that has written what signals show at the ticks before one
+abbrev pub stream_at : List (ℕ → Value) → ℕ → ℕ → StreamView
+stream_at signals horizon to = record {
+  nets = length signals;
+  horizon = horizon;
+  written = to;
+  time = latest 0 (span_lines 0 (parts_of signals 0 to));
+  failed = false;
+}
+
+-- all that stands behind the declarations: one span of all ticks up to a horizon, and what ends it
+abbrev pub whole_text : ℕ → List (ℕ → Value) → List ℕ
+whole_text horizon signals =
+    span_text 0 (horizon + 1) (parts_of signals 0 (horizon + 1)) ++ last_text (stream_at signals horizon (horizon + 1))

@@ -1,0 +1,36 @@
+ghost use Rattle.std.specs.Prelude.{◌≡◌, ◌≢◌, [], OnOk, OnErr, IfErr};
+ghost use Rattle.std.specs.Io.KnownBytes.{Appends};
+ghost use Rattle.vcd_dump.specs.Bytes.{AppendsPrefix};
+ghost use Rattle.vcd_dump.specs.Written.{GoesOut};
+
+use crate::bytes::write_all_bytes;
+use crate::fault::DumpFault;
+use std::io::Write;
+
+// A text that is as long as this goes out.
+const PIECE: usize = 65_536;
+
+/// Writes the whole text that is waiting, and none waits then.
+pub fn send<W: Write>(out: &mut W, text: &mut Vec<u8>) -> Result<(), DumpFault>
+    ensures ok { OnOk result (Appends (W.contents out.old) (W.contents out.new) text.old.items) }
+    ensures empty { OnOk result (text.new.items ≡ []) }
+    ensures err { OnErr result (AppendsPrefix (W.contents out.old) (W.contents out.new) text.old.items) }
+    ensures fault { IfErr result (λ fault. fault ≢ DumpFault.Failed) }
+{
+    write_all_bytes(out, text.as_slice())?;
+    text.clear();
+    Ok(())
+}
+
+/// Writes the text that is waiting, where it is long.
+pub fn send_long<W: Write>(out: &mut W, text: &mut Vec<u8>) -> Result<(), DumpFault>
+    ensures ok { OnOk result
+        (GoesOut (W.contents out.old) (W.contents out.new) text.old.items text.new.items) }
+    ensures err { OnErr result (AppendsPrefix (W.contents out.old) (W.contents out.new) text.old.items) }
+    ensures fault { IfErr result (λ fault. fault ≢ DumpFault.Failed) }
+{
+    if text.len() < PIECE {
+        return Ok(());
+    }
+    send(out, text)
+}

@@ -1,0 +1,123 @@
+ghost use Rattle.std.specs.Prelude.{◌≡◌, ◌≢◌, ◌++◌, ◌≤◌, [], length, take, OnOk, OnErr, IfOk, IfErr};
+ghost use Rattle.std.specs.Io.KnownBytes.{Appends};
+ghost use Rattle.vcd_dump.specs.Bytes.{AppendsPrefix};
+ghost use Rattle.vcd_dump.specs.Dump.{time_line_after};
+ghost use Rattle.vcd_dump.specs.Spans.{line_text, zero_text};
+ghost use Rattle.vcd_dump.specs.Written.{GoesOut, written_text, last_tick, written_span};
+
+use crate::fault::DumpFault;
+use crate::line::Line;
+use crate::lines::{push_change, push_time_after};
+use crate::pieces::{send, send_long};
+use std::io::Write;
+
+// Lines one after the other, behind a time; answers the time of the last.
+fn write_lines<W: Write>(
+    out: &mut W,
+    text: &mut Vec<u8>,
+    lines: &[Line],
+    time: u64,
+) -> Result<u64, DumpFault>
+    ensures last { IfOk result (λ last. last ≡ last_tick time lines.now) }
+    ensures ok { OnOk result (GoesOut (W.contents out.old) (W.contents out.new)
+        (text.old.items ++ written_text time lines.now) text.new.items) }
+    ensures err { OnErr result (AppendsPrefix (W.contents out.old) (W.contents out.new)
+        (text.old.items ++ written_text time lines.now)) }
+    ensures fault { IfErr result (λ fault. fault ≢ DumpFault.Failed) }
+{
+    let mut before = time;
+    for line in lines {
+        push_time_after(text, before, line.tick)?;
+        push_change(text, line.value, line.place)?;
+        send_long(out, text)?;
+        before = line.tick;
+    }
+    Ok(before)
+}
+
+// The values at tick 0; answers the time.
+fn write_values<W: Write>(
+    out: &mut W,
+    text: &mut Vec<u8>,
+    values: &[Line],
+    time: u64,
+) -> Result<u64, DumpFault>
+    ensures last { IfOk result (λ last. last ≡ last_tick time values.now) }
+    ensures ok { OnOk result (GoesOut (W.contents out.old) (W.contents out.new)
+        (text.old.items ++ zero_text (written_text time values.now)) text.new.items) }
+    ensures err { OnErr result (AppendsPrefix (W.contents out.old) (W.contents out.new)
+        (text.old.items ++ zero_text (written_text time values.now))) }
+    ensures fault { IfErr result (λ fault. fault ≢ DumpFault.Failed) }
+{
+    text.extend_from_slice(b"#0\n$dumpvars\n")?;
+    let last = write_lines(out, text, values, time)?;
+    text.extend_from_slice(b"$end\n")?;
+    Ok(last)
+}
+
+// The lines of a span that begins at a tick, in their order; answers the time of the last.
+fn write_in_order<W: Write>(
+    out: &mut W,
+    text: &mut Vec<u8>,
+    lines: &[Line],
+    nets: usize,
+    from: u64,
+    time: u64,
+) -> Result<u64, DumpFault>
+    requires places { from ≡ 0 → nets ≤ length lines.now }
+    ensures last { IfOk result (λ last. last ≡ last_tick time lines.now) }
+    ensures ok { OnOk result (GoesOut (W.contents out.old) (W.contents out.new)
+        (text.old.items ++ written_span nets from time lines.now) text.new.items) }
+    ensures err { OnErr result (AppendsPrefix (W.contents out.old) (W.contents out.new)
+        (text.old.items ++ written_span nets from time lines.now)) }
+    ensures fault { IfErr result (λ fault. fault ≢ DumpFault.Failed) }
+{
+    if from > 0 {
+        return write_lines(out, text, lines, time);
+    }
+    let time = write_values(out, text, &lines[..nets], time)?;
+    write_lines(out, text, &lines[nets..], time)
+}
+
+/// Writes the lines of a span that begins at a tick, in their order, and answers the time of the last:
+/// `time`, where there are none. No text may wait, and none waits then.
+pub fn write_span<W: Write>(
+    out: &mut W,
+    text: &mut Vec<u8>,
+    lines: &[Line],
+    nets: usize,
+    from: u64,
+    time: u64,
+) -> Result<u64, DumpFault>
+    requires empty { text.old.items ≡ [] }
+    requires places { from ≡ 0 → nets ≤ length lines.now }
+    ensures last { IfOk result (λ last. last ≡ last_tick time lines.now) }
+    ensures ok { OnOk result (Appends (W.contents out.old) (W.contents out.new)
+        (written_span nets from time lines.now)) }
+    ensures sent { OnOk result (text.new.items ≡ []) }
+    ensures err { OnErr result (AppendsPrefix (W.contents out.old) (W.contents out.new)
+        (written_span nets from time lines.now)) }
+    ensures fault { IfErr result (λ fault. fault ≢ DumpFault.Failed) }
+{
+    let last = write_in_order(out, text, lines, nets, from, time)?;
+    send(out, text)?;
+    Ok(last)
+}
+
+/// Writes the horizon, where the last time was before it. No text may wait.
+pub fn write_last_time<W: Write>(
+    out: &mut W,
+    text: &mut Vec<u8>,
+    time: u64,
+    horizon: u64,
+) -> Result<(), DumpFault>
+    requires empty { text.old.items ≡ [] }
+    ensures ok { OnOk result (Appends (W.contents out.old) (W.contents out.new)
+        (time_line_after time horizon)) }
+    ensures err { OnErr result (AppendsPrefix (W.contents out.old) (W.contents out.new)
+        (time_line_after time horizon)) }
+    ensures fault { IfErr result (λ fault. fault ≢ DumpFault.Failed) }
+{
+    push_time_after(text, time, horizon)?;
+    send(out, text)
+}
