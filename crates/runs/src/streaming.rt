@@ -1,6 +1,7 @@
 //! A run's dump as the run goes on: what every net knows goes out, and is forgotten.
 ghost use Rattle.std.specs.Prelude.{◌≡◌, ◌≢◌, ℕ, ◌+◌, ◌<◌, ◌≤◌, false, length, All, AllPairs, IfOk, IfErr, OnOk};
 ghost use Rattle.std.specs.Io.KnownBytes.{Appends};
+ghost use Rattle.design.specs.Design.{IsDesign};
 ghost use Rattle.cmb_kernel.specs.State.{IsUndrained, least_frontier, most_rounds};
 ghost use Rattle.cmb_kernel.specs.Step.{completed_within, steps};
 ghost use Rattle.cmb_kernel.specs.Sound.{IsSound};
@@ -50,6 +51,7 @@ fn stream_run<W: Write>(
     nets: &[u32],
     out: &mut W,
 ) -> Result<Report, SimFault>
+    requires well_formed { IsDesign run.now.design }
     requires running { kernel.old.failed ≡ false }
     requires undrained { IsUndrained kernel.old.state }
     requires circuit { kernel.old.circuit ≡ run.now.design.circuit }
@@ -86,6 +88,7 @@ fn stream_rounds<W: Write>(
     nets: &[u32],
     out: &mut W,
 ) -> Result<(), SimFault>
+    requires well_formed { IsDesign run.now.design }
     requires running { kernel.old.failed ≡ false }
     requires sound { IsSound kernel.old.circuit kernel.old.end kernel.old.state }
     requires undrained { IsUndrained kernel.old.state }

@@ -40,5 +40,5 @@ loop-net-preserved c =
 
 pub returns-clause-floors : goal.returns-clause-floors
 returns-clause-floors c = λ net below.
-    let circuit = ap (λ (k : KernelView). k.circuit) c.loop-net.invariant.drains.run in
-    c.loop-net.invariant.done net (subst (λ n. net < n) (sym c.requires.nets) (subst (λ cs. net < length cs) circuit below))
+    let circuit = ap (λ (k : KernelView). length k.circuit) c.loop-net.invariant.drains.run in
+    c.loop-net.invariant.done net (omega (arith, below, circuit, c.requires.nets, c.loop-net-test.false))

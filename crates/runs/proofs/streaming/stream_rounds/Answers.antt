@@ -1,0 +1,168 @@
+use Rattle.std.proofs.Common.{◌≡◌, ℕ, ◌+◌, ◌≤◌, false, List, Option, ap, sym, subst, ◌∙◌, arith, refl, length}
+use Rattle.std.specs.Io.KnownBytes.{Appends}
+use Rattle.std.proofs.lemmas.List.{length-map}
+use Rattle.std.proofs.lemmas.Result.{err_from_is_err_and}
+use Rattle.design.specs.Circuit.{Circuit, IsCircuit}
+use Rattle.design.specs.Equations.{value_of}
+use Rattle.design.proofs.CallerLemmas.{IsCircuit-from_IsDesign}
+use Rattle.cmb_kernel.specs.State.{KernelView, least_frontier}
+use Rattle.vcd_dump.specs.Spans.{StreamView, begun, parts_of, span_text, stream_at}
+use Rattle.vcd_dump.proofs.CallerLemmas.{stream_at-begun}
+use Rattle.runs.specs.Drained.{values_of, DrainsTo}
+use Rattle.runs.specs.Ends.{BreaksOff}
+use Rattle.runs.proofs.Rounds.{Streamed, streamed_begins, least_within, streamed_round, streamed_less, known_whole, counts_are}
+use Rattle.runs.proofs.Streams.{text_before, text_begins, breaks_at_first, goes_on, breaks_in_span, breaks_here, ends, breaks_at_end}
+use Rattle.runs.proofs.streaming.stream_rounds.Goals as goal
+
+-- a stream that began
+begins_at : (circuit : Circuit) (nets : List ℕ) (horizon : ℕ) (stream : StreamView) → stream ≡ begun (length nets) horizon →
+    stream ≡ stream_at (values_of circuit nets) horizon stream.written
+begins_at circuit nets horizon stream is =
+    is ∙ ap (λ n. begun n horizon) (sym (length-map nets (value_of circuit))) ∙ stream_at-begun (values_of circuit nets) horizon
+    ∙ ap (stream_at (values_of circuit nets) horizon) (sym (ap (λ (s : StreamView). s.written) is))
+
+-- a stream that went on, of the design's circuit
+goes_at : (circuit now : Circuit) (nets : List ℕ) (horizon : ℕ) (stream next : StreamView) (to : ℕ) → now ≡ circuit →
+    stream ≡ stream_at (values_of circuit nets) horizon stream.written → next ≡ stream_at (values_of now nets) stream.horizon to →
+    next ≡ stream_at (values_of circuit nets) horizon to
+goes_at circuit now nets horizon stream next to same at goes =
+    goes ∙ ap (λ c. stream_at (values_of c nets) stream.horizon to) same
+    ∙ ap (λ h. stream_at (values_of circuit nets) h to) (ap (λ (s : StreamView). s.horizon) at)
+
+pub returns-in_err-stream-clause-err : goal.returns-in_err-stream-clause-err
+returns-in_err-stream-clause-err g c =
+    let p = err_from_is_err_and c.from_residual.result c.from_residual.ensures.1 in
+    rw (p.1, p.2)
+    (breaks_at_first c.args.unit c.args.run.now.horizon c.args.run.now.design.circuit c.args.nets.now (g.W.Write.contents c.args.out.now) (g.W.Write.contents c.begin.new.out) c.in_err-stream.field-0.0 c.in_err-stream.ensures.err)
+
+pub loop-stream-init : goal.loop-stream-init
+loop-stream-init g c =
+    let circuit = c.args.run.now.design.circuit in
+    let start = c.args.kernel.now in
+    let written : c.in_ok-stream.stream.written ≡ 0 = ap (λ (s : StreamView). s.written) c.in_ok-stream.ensures.stream in
+    record {
+      streamed = subst (Streamed start start) (sym written) (streamed_begins start c.requires.sound c.requires.undrained);
+      stream = begins_at circuit c.args.nets.now c.args.run.now.horizon c.in_ok-stream.stream c.in_ok-stream.ensures.stream;
+      text = subst (λ to. Appends (g.W.Write.contents c.args.out.now) (g.W.Write.contents c.begin.new.out) (text_before c.args.unit c.args.run.now.horizon circuit c.args.nets.now to)) (sym written)
+          (subst (Appends (g.W.Write.contents c.args.out.now) (g.W.Write.contents c.begin.new.out)) (text_begins c.args.unit c.args.run.now.horizon circuit c.args.nets.now) c.in_ok-stream.ensures.ok);
+    }
+
+pub write_known-requires-clause-end : goal.write_known-requires-clause-end
+write_known-requires-clause-end g c =
+    let end = ap (λ (k : KernelView). k.end) c.loop-stream.invariant.streamed.run ∙ c.requires.end in
+    let horizon = ap (λ (s : StreamView). s.horizon) c.loop-stream.invariant.stream in
+    omega (arith, end, horizon, least_within c.loop-stream.kernel)
+
+pub returns-in_err-write_known-clause-err : goal.returns-in_err-write_known-clause-err
+returns-in_err-write_known-clause-err g c =
+    let p = err_from_is_err_and c.from_residual-in_err-write_known.result c.from_residual-in_err-write_known.ensures.1 in
+    let circuit = ap (λ (k : KernelView). k.circuit) c.loop-stream.invariant.streamed.run ∙ c.requires.circuit in
+    let end = ap (λ (k : KernelView). k.end) c.loop-stream.invariant.streamed.run ∙ c.requires.end in
+    let from = c.loop-stream.stream.written in
+    let to = least_frontier c.loop-stream.kernel.end c.loop-stream.kernel.state in
+    rw (p.1, p.2)
+    (breaks_in_span c.args.unit c.args.run.now.horizon c.args.run.now.design.circuit c.args.nets.now (g.W.Write.contents c.args.out.now) (g.W.Write.contents c.loop-stream.out) from c.loop-stream.invariant.text (g.W.Write.contents c.write_known.new.out) to c.in_err-write_known.field-0.0
+    c.loop-stream.invariant.streamed.ahead (omega (arith, end, least_within c.loop-stream.kernel))
+    (subst (λ cs. BreaksOff (g.W.Write.contents c.loop-stream.out) (g.W.Write.contents c.write_known.new.out) (span_text from to (parts_of (values_of cs c.args.nets.now) from to)) c.in_err-write_known.field-0.0) circuit c.in_err-write_known.ensures.err))
+
+pub finish-requires : goal.finish-requires
+finish-requires g c = λ _.
+    let inv = c.loop-stream.invariant in
+    let circuit = ap (λ (k : KernelView). k.circuit) inv.streamed.run ∙ c.requires.circuit in
+    let end = ap (λ (k : KernelView). k.end) inv.streamed.run ∙ c.requires.end in
+    let ok = subst IsCircuit (sym c.requires.circuit) (IsCircuit-from_IsDesign c.args.run.now.design c.requires.well_formed) in
+    let complete = sym c.is_complete.ensures.complete ∙ c.if-is_complete.true in
+    let all = known_whole inv.streamed c.in_ok-write_known.ensures.drains c.in_ok-write_known.ensures.floors ok complete in
+    let next = goes_at c.args.run.now.design.circuit c.loop-stream.kernel.circuit c.args.nets.now c.args.run.now.horizon c.loop-stream.stream
+    c.write_known.new.stream _ circuit inv.stream c.in_ok-write_known.ensures.stream in
+    ap (λ (s : StreamView). s.written) next ∙ all ∙ end ∙ ap (λ n. n + 1) (sym (ap (λ (s : StreamView). s.horizon) next))
+
+pub returns-in_err-finish-clause-err : goal.returns-in_err-finish-clause-err
+returns-in_err-finish-clause-err g c =
+    let p = err_from_is_err_and c.from_residual-in_err-finish.result c.from_residual-in_err-finish.ensures.1 in
+    let inv = c.loop-stream.invariant in
+    let circuit = ap (λ (k : KernelView). k.circuit) inv.streamed.run ∙ c.requires.circuit in
+    let end = ap (λ (k : KernelView). k.end) inv.streamed.run ∙ c.requires.end in
+    let ok = subst IsCircuit (sym c.requires.circuit) (IsCircuit-from_IsDesign c.args.run.now.design c.requires.well_formed) in
+    let complete = sym c.is_complete.ensures.complete ∙ c.if-is_complete.true in
+    let all = known_whole inv.streamed c.in_ok-write_known.ensures.drains c.in_ok-write_known.ensures.floors ok complete in
+    let next = goes_at c.args.run.now.design.circuit c.loop-stream.kernel.circuit c.args.nets.now c.args.run.now.horizon c.loop-stream.stream
+    c.write_known.new.stream _ circuit inv.stream c.in_ok-write_known.ensures.stream in
+    let from = c.loop-stream.stream.written in
+    let to = least_frontier c.loop-stream.kernel.end c.loop-stream.kernel.state in
+    let went = goes_on c.args.unit c.args.run.now.horizon c.args.run.now.design.circuit c.args.nets.now (g.W.Write.contents c.args.out.now) (g.W.Write.contents c.loop-stream.out) from inv.text (g.W.Write.contents c.write_known.new.out) to inv.streamed.ahead
+    (subst (λ cs. Appends (g.W.Write.contents c.loop-stream.out) (g.W.Write.contents c.write_known.new.out) (span_text from to (parts_of (values_of cs c.args.nets.now) from to))) circuit c.in_ok-write_known.ensures.ok) in
+    rw (p.1, p.2)
+    (breaks_at_end c.args.unit c.args.run.now.horizon c.args.run.now.design.circuit c.args.nets.now (g.W.Write.contents c.args.out.now) (g.W.Write.contents c.write_known.new.out) to went (g.W.Write.contents c.finish.new.out) c.write_known.new.stream c.in_err-finish.field-0.0
+    (all ∙ end) next c.in_err-finish.ensures.err)
+
+pub returns-then-is_complete-clause-counts : goal.returns-then-is_complete-clause-counts
+returns-then-is_complete-clause-counts g c =
+    let ok = subst IsCircuit (sym c.requires.circuit) (IsCircuit-from_IsDesign c.args.run.now.design c.requires.well_formed) in
+    counts_are c.loop-stream.invariant.streamed c.in_ok-write_known.ensures.drains c.in_ok-write_known.ensures.floors ok c.requires.sound
+    (sym c.is_complete.ensures.complete ∙ c.if-is_complete.true)
+
+pub returns-then-is_complete-clause-ok : goal.returns-then-is_complete-clause-ok
+returns-then-is_complete-clause-ok g c =
+    let inv = c.loop-stream.invariant in
+    let circuit = ap (λ (k : KernelView). k.circuit) inv.streamed.run ∙ c.requires.circuit in
+    let end = ap (λ (k : KernelView). k.end) inv.streamed.run ∙ c.requires.end in
+    let ok = subst IsCircuit (sym c.requires.circuit) (IsCircuit-from_IsDesign c.args.run.now.design c.requires.well_formed) in
+    let complete = sym c.is_complete.ensures.complete ∙ c.if-is_complete.true in
+    let all = known_whole inv.streamed c.in_ok-write_known.ensures.drains c.in_ok-write_known.ensures.floors ok complete in
+    let next = goes_at c.args.run.now.design.circuit c.loop-stream.kernel.circuit c.args.nets.now c.args.run.now.horizon c.loop-stream.stream
+    c.write_known.new.stream _ circuit inv.stream c.in_ok-write_known.ensures.stream in
+    let from = c.loop-stream.stream.written in
+    let to = least_frontier c.loop-stream.kernel.end c.loop-stream.kernel.state in
+    let went = goes_on c.args.unit c.args.run.now.horizon c.args.run.now.design.circuit c.args.nets.now (g.W.Write.contents c.args.out.now) (g.W.Write.contents c.loop-stream.out) from inv.text (g.W.Write.contents c.write_known.new.out) to inv.streamed.ahead
+    (subst (λ cs. Appends (g.W.Write.contents c.loop-stream.out) (g.W.Write.contents c.write_known.new.out) (span_text from to (parts_of (values_of cs c.args.nets.now) from to))) circuit c.in_ok-write_known.ensures.ok) in
+    ends c.args.unit c.args.run.now.horizon c.args.run.now.design.circuit c.args.nets.now (g.W.Write.contents c.args.out.now) (g.W.Write.contents c.write_known.new.out) to went (g.W.Write.contents c.finish.new.out) c.write_known.new.stream
+    (all ∙ end) next c.in_ok-finish.ensures.ok
+
+pub loop-stream-smaller : goal.loop-stream-smaller
+loop-stream-smaller g c =
+    let inv = c.loop-stream.invariant in
+    let ok = subst IsCircuit (sym c.requires.circuit) (IsCircuit-from_IsDesign c.args.run.now.design c.requires.well_formed) in
+    let drains = c.in_ok-write_known.ensures.drains in
+    let runs = ap (λ (k : KernelView). k.failed) c.in_ok-round.ensures.outcome.ok ∙ ap (λ (k : KernelView). k.failed) drains.run
+    ∙ ap (λ (k : KernelView). k.failed) inv.streamed.run ∙ c.requires.running in
+    streamed_less inv.streamed drains c.in_ok-write_known.ensures.floors ok c.round.new.self c.in_ok-round.ensures.outcome.ok
+    (c.in_ok-round.ensures.outcome.sound runs) c.in_ok-round.ensures.raises (sym c.is_complete.ensures.complete ∙ c.if-is_complete.false)
+
+pub loop-stream-preserved : goal.loop-stream-preserved
+loop-stream-preserved g c =
+    let inv = c.loop-stream.invariant in
+    let start = c.args.kernel.now in
+    let circuit = ap (λ (k : KernelView). k.circuit) inv.streamed.run ∙ c.requires.circuit in
+    let ok = subst IsCircuit (sym c.requires.circuit) (IsCircuit-from_IsDesign c.args.run.now.design c.requires.well_formed) in
+    let drains = c.in_ok-write_known.ensures.drains in
+    let runs = ap (λ (k : KernelView). k.failed) c.in_ok-round.ensures.outcome.ok ∙ ap (λ (k : KernelView). k.failed) drains.run
+    ∙ ap (λ (k : KernelView). k.failed) inv.streamed.run ∙ c.requires.running in
+    let next = goes_at c.args.run.now.design.circuit c.loop-stream.kernel.circuit c.args.nets.now c.args.run.now.horizon c.loop-stream.stream
+    c.write_known.new.stream _ circuit inv.stream c.in_ok-write_known.ensures.stream in
+    let from = c.loop-stream.stream.written in
+    let to = least_frontier c.loop-stream.kernel.end c.loop-stream.kernel.state in
+    let written : c.write_known.new.stream.written ≡ to = ap (λ (s : StreamView). s.written) next in
+    let went = goes_on c.args.unit c.args.run.now.horizon c.args.run.now.design.circuit c.args.nets.now (g.W.Write.contents c.args.out.now) (g.W.Write.contents c.loop-stream.out) from inv.text (g.W.Write.contents c.write_known.new.out) to inv.streamed.ahead
+    (subst (λ cs. Appends (g.W.Write.contents c.loop-stream.out) (g.W.Write.contents c.write_known.new.out) (span_text from to (parts_of (values_of cs c.args.nets.now) from to))) circuit c.in_ok-write_known.ensures.ok) in
+    record {
+      streamed = subst (Streamed start c.round.new.self) (sym written)
+          (streamed_round inv.streamed drains c.in_ok-write_known.ensures.floors ok c.round.new.self c.in_ok-round.ensures.outcome.ok
+          (c.in_ok-round.ensures.outcome.sound runs) c.in_ok-round.ensures.raises (sym c.is_complete.ensures.complete ∙ c.if-is_complete.false));
+      stream = next ∙ ap (stream_at (values_of c.args.run.now.design.circuit c.args.nets.now) c.args.run.now.horizon) (sym written);
+      text = subst (λ at. Appends (g.W.Write.contents c.args.out.now) (g.W.Write.contents c.write_known.new.out) (text_before c.args.unit c.args.run.now.horizon c.args.run.now.design.circuit c.args.nets.now at)) (sym written) went;
+    }
+
+pub returns-in_err-round-clause-err : goal.returns-in_err-round-clause-err
+returns-in_err-round-clause-err g c =
+    let p = err_from_is_err_and c.from_residual-in_err-round.result c.from_residual-in_err-round.ensures.1 in
+    let inv = c.loop-stream.invariant in
+    let circuit = ap (λ (k : KernelView). k.circuit) inv.streamed.run ∙ c.requires.circuit in
+    let end = ap (λ (k : KernelView). k.end) inv.streamed.run ∙ c.requires.end in
+    let from = c.loop-stream.stream.written in
+    let to = least_frontier c.loop-stream.kernel.end c.loop-stream.kernel.state in
+    let went = goes_on c.args.unit c.args.run.now.horizon c.args.run.now.design.circuit c.args.nets.now (g.W.Write.contents c.args.out.now) (g.W.Write.contents c.loop-stream.out) from inv.text (g.W.Write.contents c.write_known.new.out) to inv.streamed.ahead
+    (subst (λ cs. Appends (g.W.Write.contents c.loop-stream.out) (g.W.Write.contents c.write_known.new.out) (span_text from to (parts_of (values_of cs c.args.nets.now) from to))) circuit c.in_ok-write_known.ensures.ok) in
+    rw (p.1, p.2)
+    (breaks_here c.args.unit c.args.run.now.horizon c.args.run.now.design.circuit c.args.nets.now (g.W.Write.contents c.args.out.now) (g.W.Write.contents c.write_known.new.out) to went
+    (omega (arith, end, least_within c.loop-stream.kernel)))

@@ -1,0 +1,19 @@
+-- What every net knew before the last round went out and was forgotten.
+use Rattle.std.proofs.Common.{◌≡◌, ◌-◌}
+use Rattle.std.specs.Io.KnownBytes.{Appends}
+use Rattle.cmb_kernel.specs.State.{least_frontier}
+use Rattle.vcd_dump.specs.Spans.{stream_at}
+use Rattle.runs.specs.Drained.{values_of}
+use Rattle.runs.proofs.Rounds.{Streamed}
+use Rattle.runs.proofs.Streams.{text_before}
+use Rattle.runs.proofs.streaming.stream_rounds.Given as goal
+
+abbrev pub invariant-loop-stream : goal.invariant-loop-stream
+invariant-loop-stream g l = record {
+  streamed : Streamed l.fn.kernel l.kernel l.stream.written;
+  stream : l.stream ≡ stream_at (values_of l.run.design.circuit l.nets) l.run.horizon l.stream.written;
+  text : Appends (g.W.Write.contents l.fn.out) (g.W.Write.contents l.out) (text_before l.fn.unit l.run.horizon l.run.design.circuit l.nets l.stream.written);
+}
+
+abbrev pub decreases-loop-stream : goal.decreases-loop-stream
+decreases-loop-stream g l = l.kernel.end - least_frontier l.kernel.end l.kernel.state
