@@ -1,5 +1,5 @@
 -- Text that goes out piece by piece.
-use Rattle.std.proofs.Common.{◌≡◌, ℕ, List, [], ◌++◌, Option, refl, ap, subst, sym, ◌∙◌, append_assoc}
+use Rattle.std.proofs.Common.{ℕ, List, [], ◌++◌, Option, refl, ap, subst, sym, ◌∙◌, append_assoc}
 use Rattle.std.specs.Io.KnownBytes.{Appends}
 use Rattle.std.proofs.KnownBytes.{Appends-nil, Appends-trans}
 use Rattle.vcd_dump.specs.Bytes.{AppendsPrefix}

@@ -12,6 +12,7 @@ mod Ordered
 mod Readings
 mod ShownValues
 mod Signals
+mod Spanning
 mod Stepped
 mod Streams
 mod Text
