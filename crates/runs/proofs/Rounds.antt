@@ -1,13 +1,13 @@
 -- Rounds with what every net knows taken out after each.
-use Rattle.std.proofs.Common.{◌≡◌, ℕ, ◌+◌, ◌-◌, ◌<◌, ◌≤◌, ◌==◌, min, true, false, List, [], ◌∷◌, map, length, refl, ap, sym, subst, ◌∙◌, arith, eqb-true}
+use Rattle.std.proofs.Common.{◌≡◌, ℕ, ◌+◌, ◌-◌, ◌<◌, ◌≤◌, min, true, false, List, [], ◌∷◌, map, length, refl, ap, sym, subst, ◌∙◌, arith, eqb-true}
 use Rattle.std.specs.List.{All}
 use Rattle.std.proofs.lemmas.List.Elements.{All-head, All-tail}
 use Rattle.logic3.specs.Wave.{changes_between}
-use Rattle.design.specs.Circuit.{Circuit, IsCircuit}
+use Rattle.design.specs.Circuit.{IsCircuit}
 use Rattle.design.specs.Equations.{value_of}
 use Rattle.gate_process.specs.Step.{ProcessState}
 use Rattle.gate_process.proofs.CallerLemmas.{least-bound}
-use Rattle.cmb_kernel.specs.State.{State, KernelView, IsUndrained, floor_at, is_complete, least_delay, least_frontier, most_rounds}
+use Rattle.cmb_kernel.specs.State.{KernelView, IsUndrained, floor_at, is_complete, least_delay, least_frontier, most_rounds}
 use Rattle.cmb_kernel.specs.Step.{completed_within, round_of}
 use Rattle.cmb_kernel.specs.Sound.{IsSound}
 use Rattle.cmb_kernel.proofs.CallerLemmas.{RoundsAlike, falls, least_tells, no_round_yet, round_floor, round_more, same_counts, still_alike}

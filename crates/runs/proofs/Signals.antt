@@ -1,9 +1,7 @@
 -- A dump depends on what its signals show up to the horizon alone.
 use Rattle.std.proofs.Common.{◌≡◌, ℕ, zero, suc, ◌+◌, ◌-◌, ◌<◌, ◌≤◌, ◌==◌, ◌&&◌, not, if◌then◌else◌, List, [], ◌∷◌, ◌++◌, map, flat_map, refl, ap, ◌∙◌, arith}
 use Rattle.std.specs.List.{range_with_len, enumerate_from}
-use Rattle.std.proofs.lemmas.Simd.{map-map}
 use Rattle.logic3.specs.declared.value.Value.{Value}
-use Rattle.logic3.specs.declared.value.Value.TheVariants.{Unknown}
 use Rattle.logic3.specs.Value.{is_same}
 use Rattle.logic3.specs.Wave.{Wave, value_at, wave_of}
 use Rattle.logic3.proofs.CallerLemmas.{value_at-wave_of}
@@ -13,8 +11,8 @@ use Rattle.design.specs.Design.{DesignView}
 use Rattle.design.specs.Equations.{value_of}
 use Rattle.vcd_dump.specs.declared.unit.TimeUnit.{TimeUnit}
 use Rattle.vcd_dump.specs.Codes.{code_at}
-use Rattle.vcd_dump.specs.Dump.{Trace, Variable, variable_at, variables_of, declaration, declarations, change_text, change_line, time_line, changes_at, lines_at, dump_text}
-use Rattle.vcd_dump.specs.Traces.{name_of, named, traces}
+use Rattle.vcd_dump.specs.Dump.{Variable, variable_at, declaration, change_text, change_line, time_line, changes_at, lines_at, dump_text}
+use Rattle.vcd_dump.specs.Traces.{name_of, traces}
 use Rattle.runs.specs.declared.view.View.{View}
 use Rattle.runs.specs.Source.{shown_nets, signals_of, dump_of_design}
 use Rattle.runs.specs.Shown.{waves_up_to}
@@ -65,18 +63,6 @@ module _ {A : Type 0} (name : A → List ℕ) (first second : A → ℕ → Valu
       (lines_at (variables_from (λ x. (name x, second x)) 0 xs) horizon) 1 horizon (λ tick a b. lines_at-same tick (omega arith)) in
       rw (declared, values, changes) refl
 
--- what is shown of nets: what the equations give them
-pub signals_of-values : (circuit : Circuit) (nets : List ℕ) → map (λ (trace : Trace). trace.1) (signals_of circuit nets) ≡ map (value_of circuit) nets
-signals_of-values circuit nets = map-map (λ (trace : Trace). trace.1) (λ net. (name_of circuit net, value_of circuit net)) nets
-
--- declarations hold no values
-pub declarations-named : (unit : TimeUnit) (circuit : Circuit) (nets : List ℕ) →
-    declarations unit (variables_of (signals_of circuit nets)) ≡ declarations unit (named circuit nets)
-declarations-named unit circuit nets =
-    let declared = flat_map-same (λ net. (name_of circuit net, value_of circuit net)) (λ net. (name_of circuit net, λ tick. Unknown)) declaration
-    (λ place x. refl) 0 nets in
-    rw declared refl
-
 traces-map : (circuit : Circuit) (wave : ℕ → Wave) (nets : List ℕ) →
     traces circuit nets (map wave nets) ≡ map (λ net. (name_of circuit net, value_at (wave net))) nets
 traces-map circuit wave [] = refl
@@ -99,3 +85,9 @@ dump_of_design-waves view horizon design nets waves are show =
     ap (λ ws. dump_text view.unit horizon (traces design.circuit nets ws)) show
     ∙ dump_text-waves view.unit horizon design.circuit nets
     ∙ ap (λ ns. dump_text view.unit horizon (signals_of design.circuit ns)) are
+
+-- what is dumped of the shown nets is the answer's text
+pub dump_of_design-nets : (view : View) (horizon : ℕ) (design : DesignView) (nets : List ℕ) → nets ≡ shown_nets view.show design.netlist →
+    dump_text view.unit horizon (signals_of design.circuit nets) ≡ dump_of_design view horizon design
+unfolding dump_of_design
+dump_of_design-nets view horizon design nets are = ap (λ ns. dump_text view.unit horizon (signals_of design.circuit ns)) are

@@ -1,5 +1,5 @@
 -- A run's dump, span by span.
-use Rattle.std.proofs.Common.{◌≡◌, ℕ, ◌+◌, ◌-◌, ◌≤◌, List, [], ◌++◌, Option, refl, ap, sym, subst, ◌∙◌, arith, append-nil, append_assoc, flat_map, map}
+use Rattle.std.proofs.Common.{◌≡◌, ℕ, ◌+◌, ◌≤◌, List, ◌++◌, Option, ap, sym, subst, ◌∙◌, arith, append-nil, append_assoc}
 use Rattle.std.specs.Io.KnownBytes.{Appends}
 use Rattle.std.proofs.KnownBytes.{Appends-trans}
 use Rattle.logic3.specs.declared.value.Value.{Value}
@@ -8,10 +8,10 @@ use Rattle.design.specs.Equations.{value_of}
 use Rattle.vcd_dump.specs.declared.unit.TimeUnit.{TimeUnit}
 use Rattle.vcd_dump.specs.declared.fault.DumpFault.{DumpFault}
 use Rattle.vcd_dump.specs.Bytes.{AppendsPrefix}
-use Rattle.vcd_dump.specs.Dump.{declaration, declarations, dump_text, variables_of}
+use Rattle.vcd_dump.specs.Dump.{declarations, dump_text}
 use Rattle.vcd_dump.specs.Spans.{StreamView, last_text, parts_of, span_text, stream_at}
-use Rattle.vcd_dump.specs.Traces.{name_of, named}
-use Rattle.vcd_dump.proofs.CallerLemmas.{AppendsPrefix-after, AppendsPrefix-longer, dump_text-whole, span_text-more}
+use Rattle.vcd_dump.specs.Traces.{named}
+use Rattle.vcd_dump.proofs.CallerLemmas.{AppendsPrefix-after, AppendsPrefix-longer, dump_text-nets, span_text-more}
 use Rattle.runs.specs.declared.fault.SimFault.{SimFault}
 use Rattle.runs.specs.declared.fault.SimFault.TheVariants.{Dump, Memory}
 use Rattle.runs.specs.Drained.{values_of}
@@ -19,7 +19,6 @@ use Rattle.runs.specs.Ends.{BreaksOff}
 use Rattle.runs.specs.Faults.{sim_of_dump}
 use Rattle.runs.proofs.Ends.{AppendsPrefix-whole, BreaksOff-dump}
 use Rattle.runs.specs.Source.{signals_of}
-use Rattle.runs.proofs.Signals.{declarations-named, signals_of-values}
 
 -- ---- what breaks off
 
@@ -72,10 +71,7 @@ module _ (unit : TimeUnit) (horizon : ℕ) (circuit : Circuit) (nets : List ℕ)
   text_ends =
       append_assoc (declarations unit (named circuit nets)) (span_text 0 (horizon + 1) (parts_of values 0 (horizon + 1)))
       (last_text (stream_at values horizon (horizon + 1)))
-      ∙ (λ i. sym (declarations-named unit circuit nets) i
-      ++ (span_text 0 (horizon + 1) (parts_of (sym (signals_of-values circuit nets) i) 0 (horizon + 1))
-      ++ last_text (stream_at (sym (signals_of-values circuit nets) i) horizon (horizon + 1))))
-      ∙ dump_text-whole unit horizon (signals_of circuit nets)
+      ∙ dump_text-nets unit horizon circuit nets (value_of circuit)
 
   text_whole : (at : ℕ) → at ≤ horizon + 1 → text_before at ++ text_from at ≡ whole
   unfolding text_from

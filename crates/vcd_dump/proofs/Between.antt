@@ -58,14 +58,6 @@ between-last text from to h =
     ∙ ap (λ xs. between text from to ++ xs)
     (between-first text to (to + 1) (omega arith) ∙ ap (λ xs. text to ++ xs) (between-none text (to + 1)) ∙ append-nil (text to))
 
--- the texts before and after one
-pub between-around : (text : ℕ → List ℕ) (from at to : ℕ) → from ≤ at → at < to →
-    between text from to ≡ between text from at ++ text at ++ between text (at + 1) to
-between-around text from at to a b =
-    between-split text from at to a (omega arith)
-    ∙ ap (λ xs. between text from at ++ xs) (between-first text at to b)
-    ∙ sym (append_assoc (between text from at) (text at) (between text (at + 1) to))
-
 same_from : (f g : ℕ → List ℕ) (from count : ℕ) → ((k : ℕ) → from ≤ k → k < from + count → f k ≡ g k) →
     flat_map f (range_with_len from count) ≡ flat_map g (range_with_len from count)
 same_from f g from zero same = refl

@@ -1,9 +1,8 @@
 -- What waveforms show, as signals.
-use Rattle.std.proofs.Common.{◌≡◌, ℕ, ◌+◌, ◌<◌, ◌≤◌, List, [], ◌∷◌, ◌++◌, length, map, flat_map, All, refl, ap, subst, sym, ◌∙◌, arith, append_assoc, codes}
+use Rattle.std.proofs.Common.{◌≡◌, ℕ, ◌+◌, List, [], ◌∷◌, ◌++◌, length, map, flat_map, All, refl, ap, subst, sym, ◌∙◌, arith, append_assoc, codes}
 use Rattle.std.proofs.lemmas.List.{length-map}
 use Rattle.std.specs.List.{enumerate_from, range_with_len}
-use Rattle.std.proofs.lemmas.List.Elements.{All-head, All-tail, All-from_recursion}
-use Rattle.logic3.specs.declared.value.Value.{Value}
+use Rattle.std.proofs.lemmas.List.Elements.{All-head, All-tail}
 use Rattle.logic3.specs.declared.value.Value.TheVariants.{Unknown}
 use Rattle.logic3.specs.declared.change.Change.{Change}
 use Rattle.logic3.specs.Wave.{Wave, IsWave, value_at, changes_between}
@@ -11,14 +10,13 @@ use Rattle.logic3.proofs.CallerLemmas.{changes_between-value_after}
 use Rattle.design.specs.Circuit.{Circuit}
 use Rattle.vcd_dump.specs.declared.unit.TimeUnit.{TimeUnit}
 use Rattle.vcd_dump.specs.declared.line.Line.{Line}
-use Rattle.vcd_dump.specs.Codes.{code_at}
 use Rattle.vcd_dump.specs.Dump.{Trace, variable_at, variables_of, declaration, declarations, heading, line, time_line_after, first_values, lines_at, dump_text}
 use Rattle.vcd_dump.specs.Traces.{EndsBy, name_of, traces, named}
-use Rattle.vcd_dump.specs.Spans.{span_lines, span_text, latest, IsPart, parts_of, whole_text}
+use Rattle.vcd_dump.specs.Spans.{span_lines, span_text, latest, IsPart, parts_of, shown_signals, whole_text}
 use Rattle.vcd_dump.specs.Written.{InOrder}
 use Rattle.vcd_dump.proofs.Stepped.{Stepped, Stepped-in_order}
 use Rattle.vcd_dump.proofs.Streams.{IsPart-parts_of}
-use Rattle.vcd_dump.proofs.Wholes.{signals_of, dump_text-whole}
+use Rattle.vcd_dump.proofs.Wholes.{dump_text-whole}
 
 -- the changes of waveforms
 abbrev pub changes_of : List Wave → List (List Change)
@@ -64,13 +62,13 @@ names_of circuit place (net ∷ shown) (wave ∷ waves) same =
 abbrev pub behind : ℕ → List Trace → List ℕ
 behind horizon all = first_values (variables_of all) ++ flat_map (lines_at (variables_of all) horizon) (range_with_len 1 horizon)
 
-signals_of-traces : (circuit : Circuit) (shown : List ℕ) (waves : List Wave) → length waves ≡ length shown →
-    signals_of (traces circuit shown waves) ≡ map value_at waves
-signals_of-traces circuit [] [] same = refl
-signals_of-traces circuit [] (wave ∷ waves) same = absurd (omega arith)
-signals_of-traces circuit (net ∷ shown) [] same = absurd (omega arith)
-signals_of-traces circuit (net ∷ shown) (wave ∷ waves) same =
-    ap (λ ss. value_at wave ∷ ss) (signals_of-traces circuit shown waves (omega arith))
+shown_signals-traces : (circuit : Circuit) (shown : List ℕ) (waves : List Wave) → length waves ≡ length shown →
+    shown_signals (traces circuit shown waves) ≡ map value_at waves
+shown_signals-traces circuit [] [] same = refl
+shown_signals-traces circuit [] (wave ∷ waves) same = absurd (omega arith)
+shown_signals-traces circuit (net ∷ shown) [] same = absurd (omega arith)
+shown_signals-traces circuit (net ∷ shown) (wave ∷ waves) same =
+    ap (λ ss. value_at wave ∷ ss) (shown_signals-traces circuit shown waves (omega arith))
 
 -- their dump begins with the declarations
 pub dump_text-declared : (unit : TimeUnit) (horizon : ℕ) (circuit : Circuit) (shown : List ℕ) (waves : List Wave) → length waves ≡ length shown →
@@ -96,7 +94,7 @@ dump_text-waves unit horizon circuit shown waves same are =
     ∙ (λ i. declarations unit (named circuit shown)
     ++ (span_text 0 (horizon + 1) (parts i) ++ time_line_after (latest 0 (span_lines 0 (parts i))) horizon))
     ∙ (λ i. (heading unit ++ sym names i ++ line (codes "$upscope $end") ++ line (codes "$enddefinitions $end"))
-    ++ whole_text horizon (sym (signals_of-traces circuit shown waves same) i))
+    ++ whole_text horizon (sym (shown_signals-traces circuit shown waves same) i))
     ∙ dump_text-whole unit horizon (traces circuit shown waves)
 
 -- their lines in order

@@ -1,14 +1,10 @@
 -- Text that goes out piece by piece.
-use Rattle.std.proofs.Common.{◌≡◌, ℕ, List, [], ◌++◌, Option, refl, ap, subst, sym, ◌∙◌, append_assoc}
+use Rattle.std.proofs.Common.{ℕ, List, ◌++◌, Option, ap, subst, sym, ◌∙◌, append_assoc}
 use Rattle.std.specs.Io.KnownBytes.{Appends}
-use Rattle.std.proofs.KnownBytes.{Appends-nil, Appends-trans}
+use Rattle.std.proofs.KnownBytes.{Appends-trans}
 use Rattle.vcd_dump.specs.Bytes.{AppendsPrefix}
 use Rattle.vcd_dump.specs.Written.{GoesOut}
 use Rattle.vcd_dump.proofs.BytesLemmas.{AppendsPrefix-after, AppendsPrefix-longer, AppendsPrefix-piece}
-
--- all of it waits
-pub GoesOut-start : (old : Option (List ℕ)) (text : List ℕ) → GoesOut old old text text
-GoesOut-start old text = record { went = []; sent = Appends-nil old; whole = refl }
 
 -- some of what waits goes out, before what is behind it
 pub GoesOut-then : (old mid new : Option (List ℕ)) (text piece left rest : List ℕ) → GoesOut old mid text (piece ++ rest) →

@@ -1,6 +1,5 @@
 -- What a span that is written in order is: the text of its ticks.
-use Rattle.std.proofs.Common.{◌≡◌, ℕ, ◌+◌, ◌-◌, ◌<◌, ◌≤◌, ◌==◌, Bool, true, false, cond, List, [], ◌∷◌, length, filter, All, refl, ap, sym, ◌∙◌, arith}
-use Rattle.std.specs.List.{AllByRecursion}
+use Rattle.std.proofs.Common.{◌≡◌, ℕ, ◌-◌, ◌<◌, ◌≤◌, ◌==◌, Bool, true, false, cond, List, [], ◌∷◌, length, All, ap, ◌∙◌, arith}
 use Rattle.logic3.specs.declared.change.Change.{Change}
 use Rattle.vcd_dump.specs.declared.line.Line.{Line}
 use Rattle.vcd_dump.specs.Spans.{at_tick, span_lines, span_text, latest, IsPart}

@@ -1,15 +1,14 @@
 -- A stream of signals goes on as they do.
-use Rattle.std.proofs.Common.{◌≡◌, ℕ, zero, suc, ◌+◌, ◌-◌, ◌<◌, ◌≤◌, false, List, [], ◌∷◌, ◌++◌, length, map, All, get_or, refl, ap, subst, sym, ◌∙◌, arith}
-use Rattle.std.specs.Prelude.{Contains}
+use Rattle.std.proofs.Common.{◌≡◌, ℕ, ◌+◌, ◌<◌, ◌≤◌, false, List, [], ◌∷◌, length, All, get_or, subst, sym, arith}
 use Rattle.std.specs.List.{AllByRecursion}
 use Rattle.std.proofs.lemmas.List.Elements.{All-from_recursion, recursion_from_All, All-contains_itself}
 use Rattle.std.proofs.lemmas.List.{length-map}
 use Rattle.logic3.specs.declared.value.Value.{Value}
 use Rattle.logic3.specs.declared.change.Change.{Change}
-use Rattle.logic3.specs.Wave.{value_before, changes_between, wave_of}
+use Rattle.logic3.specs.Wave.{value_before, changes_between}
 use Rattle.logic3.proofs.CallerLemmas.{All-wave_of, AllPairs-Alternates, Contains-wave_of_iff, IsWave-wave_of, changes_between-split}
 use Rattle.vcd_dump.specs.declared.line.Line.{Line}
-use Rattle.vcd_dump.specs.Spans.{StreamView, begun, span_lines, latest, spanned, IsPart, CanSpan, parts_of, stream_at}
+use Rattle.vcd_dump.specs.Spans.{begun, span_lines, latest, spanned, IsPart, CanSpan, parts_of, stream_at}
 use Rattle.vcd_dump.proofs.Gathered.{EachTick, EachLine, EachLine-span_lines, EachTick-span_lines, AllByRecursion-append, AllByRecursion-both, AllByRecursion-map}
 use Rattle.vcd_dump.proofs.Ordered.{latest-bounds, latest-least}
 

@@ -1,16 +1,12 @@
 -- The shown nets, place by place.
-use Rattle.std.proofs.Common.{◌≡◌, ℕ, suc, ◌+◌, ◌-◌, ◌==◌, ◌&&◌, not, if◌then◌else◌, List, [], ◌∷◌, ◌++◌, length, map, flat_map, Option, None, Some, slice_get, option_map, refl, ap, sym, ◌∙◌, arith, codes}
+use Rattle.std.proofs.Common.{◌≡◌, ℕ, suc, ◌+◌, List, [], ◌∷◌, ◌++◌, length, map, flat_map, Option, None, Some, slice_get, option_map, refl, ap, sym, ◌∙◌, arith}
 use Rattle.std.specs.List.{enumerate_from, range_with_len}
 use Rattle.std.specs.Option.{option_map_or}
 use Rattle.logic3.specs.declared.value.Value.{Value}
 use Rattle.logic3.specs.declared.value.Value.TheVariants.{Unknown}
-use Rattle.logic3.specs.Value.{is_same}
-use Rattle.logic3.specs.Wave.{Wave, value_at}
 use Rattle.design.specs.Circuit.{Net, Circuit}
-use Rattle.text_lines.specs.Text.{is_empty}
-use Rattle.vcd_dump.specs.declared.unit.TimeUnit.{TimeUnit}
 use Rattle.vcd_dump.specs.Codes.{code_at}
-use Rattle.vcd_dump.specs.Dump.{Variable, variable_at, variables_of, line, heading, declaration, declaration_text, declarations, change_text, change_line, time_line, first_values, changes_at, lines_at, dump_text}
+use Rattle.vcd_dump.specs.Dump.{Variable, variable_at, variables_of, declaration, declaration_text}
 use Rattle.vcd_dump.specs.Traces.{name_of, named}
 use Rattle.vcd_dump.proofs.Between.{between}
 

@@ -1,6 +1,6 @@
 -- What a stream writes of the signals of names is their dump.
-use Rattle.std.proofs.Common.{◌≡◌, ℕ, zero, suc, ◌+◌, ◌-◌, ◌<◌, ◌≤◌, ◌==◌, ◌&&◌, not, nat_lt, Bool, true, false, cond, if◌then◌else◌, List, [], ◌∷◌, ◌++◌, length, map, flat_map, codes, refl, ap, sym, ◌∙◌, arith, append_assoc, append-nil, ◌⊎◌, inl, inr}
-use Rattle.std.specs.List.{AllByRecursion, enumerate_from, range_with_len}
+use Rattle.std.proofs.Common.{◌≡◌, ℕ, zero, suc, ◌+◌, ◌-◌, ◌<◌, ◌≤◌, ◌==◌, ◌&&◌, nat_lt, Bool, true, false, cond, List, [], ◌∷◌, ◌++◌, map, flat_map, codes, refl, ap, sym, ◌∙◌, arith, append_assoc, append-nil, ◌⊎◌, inl, inr}
+use Rattle.std.specs.List.{enumerate_from, range_with_len}
 use Rattle.std.proofs.lemmas.Bool.{cases_lt, le-ltb}
 use Rattle.std.proofs.lemmas.Bool.Decides.{nat_tests}
 use Rattle.std.proofs.lemmas.Grind.{flat_map-append}
@@ -13,24 +13,20 @@ use Rattle.text_lines.specs.Text.{is_empty}
 use Rattle.vcd_dump.specs.declared.unit.TimeUnit.{TimeUnit}
 use Rattle.vcd_dump.specs.declared.line.Line.{Line}
 use Rattle.vcd_dump.specs.Codes.{code_at}
-use Rattle.vcd_dump.specs.Dump.{Variable, Trace, variable_at, variables_of, line, value_text, declaration, declarations, heading, change_text, change_line, time_line, time_line_after, first_values, changes_at, lines_at, dump_text}
+use Rattle.vcd_dump.specs.Dump.{Trace, variable_at, variables_of, line, declaration, declarations, heading, change_text, change_line, time_line, time_line_after, first_values, changes_at, lines_at, dump_text}
 use Rattle.vcd_dump.specs.Traces.{name_of, named}
-use Rattle.vcd_dump.specs.Spans.{line_of, span_lines, at_tick, line_text, zero_text, later_text, span_text, latest, last_text, parts_of, stream_at, whole_text}
+use Rattle.vcd_dump.specs.Spans.{line_of, span_lines, at_tick, line_text, zero_text, later_text, latest, last_text, parts_of, stream_at, shown_signals, whole_text}
 use Rattle.vcd_dump.proofs.Between.{between, between-none, between-first, between-last, between-same}
-use Rattle.vcd_dump.proofs.Gathered.{EachLine, EachLine-span_lines, AllByRecursion-map}
-use Rattle.vcd_dump.proofs.Ordered.{OfSpan, latest-bounds, latest-least}
+use Rattle.vcd_dump.proofs.Gathered.{EachLine}
+use Rattle.vcd_dump.proofs.Ordered.{latest-bounds, latest-least}
 use Rattle.vcd_dump.proofs.Signals.{net_lines, signal_lines, at_tick-signals, signal_text, span_text-signals}
 use Rattle.vcd_dump.proofs.Streams.{stream_at-latest}
-
--- what names show
-abbrev pub signals_of : List Trace → List (ℕ → Value)
-signals_of traces = map (λ (trace : Trace). trace.1) traces
 
 -- ---- the lines of a tick are those of its changes
 
 -- a net's value at tick 0
 values_from : (place : ℕ) (traces : List Trace) →
-    flat_map line_text (flat_map (net_lines 0) (enumerate_from place (signals_of traces)))
+    flat_map line_text (flat_map (net_lines 0) (enumerate_from place (shown_signals traces)))
     ≡ flat_map (change_line 0) (map variable_at (enumerate_from place traces))
 values_from place [] = refl
 values_from place ((name, signal) ∷ traces) =
@@ -55,13 +51,13 @@ change_is place tick name signal late =
     go false = append-nil (change_text (signal tick) (code_at place))
 
 changes_from : (place tick : ℕ) (traces : List Trace) → 0 < tick →
-    flat_map line_text (flat_map (net_lines tick) (enumerate_from place (signals_of traces)))
+    flat_map line_text (flat_map (net_lines tick) (enumerate_from place (shown_signals traces)))
     ≡ changes_at (map variable_at (enumerate_from place traces)) tick
 changes_from place tick [] late = refl
 changes_from place tick ((name, signal) ∷ traces) late =
     let later : (tick == 0) ≡ false = grind (arith, nat_tests) in
     let here : net_lines tick (place, signal) ≡ map (line_of place) (change_at signal tick) = rw later refl in
-    let others = flat_map (net_lines tick) (enumerate_from (place + 1) (signals_of traces)) in
+    let others = flat_map (net_lines tick) (enumerate_from (place + 1) (shown_signals traces)) in
     flat_map-append line_text (net_lines tick (place, signal)) others
     ∙ ap (λ ls. flat_map line_text ls ++ flat_map line_text others) here
     ∙ (λ i. change_is place tick name signal late i ++ changes_from (place + 1) tick traces late i)
@@ -80,11 +76,11 @@ is_empty-lines (line ∷ lines) = go line.value
 
 -- a tick before the horizon
 lines_at-early : (traces : List Trace) (horizon tick : ℕ) → 0 < tick → tick < horizon →
-    later_text tick (signal_lines (signals_of traces) tick) ≡ lines_at (variables_of traces) horizon tick
+    later_text tick (signal_lines (shown_signals traces) tick) ≡ lines_at (variables_of traces) horizon tick
 lines_at-early traces horizon tick late early =
     let not_last : (tick == horizon) ≡ false = grind (arith, nat_tests) in
     let changes = changes_from 0 tick traces late in
-    let none = sym (is_empty-lines (signal_lines (signals_of traces) tick)) ∙ ap is_empty changes in
+    let none = sym (is_empty-lines (signal_lines (shown_signals traces) tick)) ∙ ap is_empty changes in
     (λ i. cond (none i) [] (time_line tick ++ changes i))
     ∙ rw not_last (go (is_empty (changes_at (variables_of traces) tick)))
   where
@@ -138,10 +134,10 @@ last_lines last lines some each = go (at_tick lines last) refl
 
 -- at the horizon
 lines_at-last : (traces : List Trace) (horizon : ℕ) → 0 < horizon →
-    later_text horizon (signal_lines (signals_of traces) horizon) ++ last_text (stream_at (signals_of traces) horizon (horizon + 1))
+    later_text horizon (signal_lines (shown_signals traces) horizon) ++ last_text (stream_at (shown_signals traces) horizon (horizon + 1))
     ≡ lines_at (variables_of traces) horizon horizon
 lines_at-last traces horizon late =
-    let signals = signals_of traces in
+    let signals = shown_signals traces in
     let lines = span_lines 0 (parts_of signals 0 (horizon + 1)) in
     let at_last : (horizon == horizon) ≡ true = grind (arith, nat_tests) in
     let here = at_tick-signals signals 0 (horizon + 1) horizon (omega arith) (omega arith) in
@@ -160,18 +156,18 @@ lines_at-last traces horizon late =
 
 -- those behind tick 0
 body_is : (traces : List Trace) (horizon : ℕ) →
-    between (signal_text (signals_of traces)) 1 (horizon + 1) ++ last_text (stream_at (signals_of traces) horizon (horizon + 1))
+    between (signal_text (shown_signals traces)) 1 (horizon + 1) ++ last_text (stream_at (shown_signals traces) horizon (horizon + 1))
     ≡ between (lines_at (variables_of traces) horizon) 1 (horizon + 1)
 body_is traces horizon = go (cases_lt 0 horizon)
   where
     text : ℕ → List ℕ
-    text = signal_text (signals_of traces)
+    text = signal_text (shown_signals traces)
 
     go : (0 < horizon) ⊎ (horizon ≤ 0) →
-        between (signal_text (signals_of traces)) 1 (horizon + 1) ++ last_text (stream_at (signals_of traces) horizon (horizon + 1))
+        between (signal_text (shown_signals traces)) 1 (horizon + 1) ++ last_text (stream_at (shown_signals traces) horizon (horizon + 1))
         ≡ between (lines_at (variables_of traces) horizon) 1 (horizon + 1)
     go (inl late) =
-        let signals = signals_of traces in
+        let signals = shown_signals traces in
         let last = last_text (stream_at signals horizon (horizon + 1)) in
         let at_last : (horizon == 0) ≡ false = grind (arith, nat_tests) in
         let last_is : signal_text signals horizon ≡ later_text horizon (signal_lines signals horizon) = rw at_last refl in
@@ -185,20 +181,20 @@ body_is traces horizon = go (cases_lt 0 horizon)
         ∙ sym (between-last (lines_at (variables_of traces) horizon) 1 horizon (omega arith))
     go (inr due) =
         let none : horizon ≡ 0 = omega arith in
-        let not_due : nat_lt (latest 0 (span_lines 0 (parts_of (signals_of traces) 0 (horizon + 1)))) horizon ≡ false =
-        le-ltb (latest 0 (span_lines 0 (parts_of (signals_of traces) 0 (horizon + 1)))) horizon (omega arith) in
-        rw not_due (append-nil (between (signal_text (signals_of traces)) 1 (horizon + 1))
-        ∙ ap (λ h. between (signal_text (signals_of traces)) 1 (h + 1)) none
-        ∙ between-none (signal_text (signals_of traces)) 1
+        let not_due : nat_lt (latest 0 (span_lines 0 (parts_of (shown_signals traces) 0 (horizon + 1)))) horizon ≡ false =
+        le-ltb (latest 0 (span_lines 0 (parts_of (shown_signals traces) 0 (horizon + 1)))) horizon (omega arith) in
+        rw not_due (append-nil (between (signal_text (shown_signals traces)) 1 (horizon + 1))
+        ∙ ap (λ h. between (signal_text (shown_signals traces)) 1 (h + 1)) none
+        ∙ between-none (signal_text (shown_signals traces)) 1
         ∙ sym (between-none (lines_at (variables_of traces) horizon) 1)
         ∙ ap (λ h. between (lines_at (variables_of traces) horizon) 1 (h + 1)) (sym none))
 
 -- all that stands behind the declarations
 whole_text-is : (traces : List Trace) (horizon : ℕ) →
-    whole_text horizon (signals_of traces)
+    whole_text horizon (shown_signals traces)
     ≡ first_values (variables_of traces) ++ flat_map (lines_at (variables_of traces) horizon) (range_with_len 1 horizon)
 whole_text-is traces horizon =
-    let signals = signals_of traces in
+    let signals = shown_signals traces in
     let last = last_text (stream_at signals horizon (horizon + 1)) in
     let same : horizon + 1 - 1 ≡ horizon = omega arith in
     ap (λ xs. xs ++ last) (span_text-signals signals 0 (horizon + 1) ∙ between-first (signal_text signals) 0 (horizon + 1) (omega arith))
@@ -208,7 +204,7 @@ whole_text-is traces horizon =
 
 -- with the declarations
 pub dump_text-whole : (unit : TimeUnit) (horizon : ℕ) (traces : List Trace) →
-    declarations unit (variables_of traces) ++ whole_text horizon (signals_of traces) ≡ dump_text unit horizon traces
+    declarations unit (variables_of traces) ++ whole_text horizon (shown_signals traces) ≡ dump_text unit horizon traces
 dump_text-whole unit horizon traces =
     let variables = variables_of traces in
     ap (λ xs. declarations unit variables ++ xs) (whole_text-is traces horizon)
@@ -225,10 +221,10 @@ declarations-map name signal other place [] = refl
 declarations-map name signal other place (x ∷ xs) =
     ap (λ ds. declaration (variable_at (place, (name x, signal x))) ++ ds) (declarations-map name signal other (place + 1) xs)
 
-signals_of-map : {X : Type 0} (name : X → List ℕ) (signal : X → ℕ → Value) (xs : List X) →
-    signals_of (map (λ x. (name x, signal x)) xs) ≡ map signal xs
-signals_of-map name signal [] = refl
-signals_of-map name signal (x ∷ xs) = ap (λ ss. signal x ∷ ss) (signals_of-map name signal xs)
+shown_signals-map : {X : Type 0} (name : X → List ℕ) (signal : X → ℕ → Value) (xs : List X) →
+    shown_signals (map (λ x. (name x, signal x)) xs) ≡ map signal xs
+shown_signals-map name signal [] = refl
+shown_signals-map name signal (x ∷ xs) = ap (λ ss. signal x ∷ ss) (shown_signals-map name signal xs)
 
 -- what a stream writes of the signals of a circuit's nets is the dump of their names
 pub dump_text-nets : (unit : TimeUnit) (horizon : ℕ) (circuit : Circuit) (shown : List ℕ) (signal : ℕ → ℕ → Value) →
@@ -237,5 +233,5 @@ pub dump_text-nets : (unit : TimeUnit) (horizon : ℕ) (circuit : Circuit) (show
 dump_text-nets unit horizon circuit shown signal =
     let named_so = declarations-map (name_of circuit) (λ net tick. Unknown) signal 0 shown in
     (λ i. (heading unit ++ named_so i ++ line (codes "$upscope $end") ++ line (codes "$enddefinitions $end"))
-    ++ whole_text horizon (sym (signals_of-map (name_of circuit) signal shown) i))
+    ++ whole_text horizon (sym (shown_signals-map (name_of circuit) signal shown) i))
     ∙ dump_text-whole unit horizon (map (λ net. (name_of circuit net, signal net)) shown)

@@ -9,7 +9,8 @@ use Rattle.logic3.specs.Rising.{TicksRise}
 use Rattle.text_lines.specs.Text.{is_empty}
 use Rattle.vcd_dump.specs.declared.line.Line.{Line}
 use Rattle.vcd_dump.specs.Codes.{code_at}
-use Rattle.vcd_dump.specs.Dump.{line, change_text, time_line, time_line_after}
+use Rattle.vcd_dump.specs.declared.unit.TimeUnit.{TimeUnit}
+use Rattle.vcd_dump.specs.Dump.{Variable, Trace, declarations, line, change_text, time_line, time_line_after}
 
 -- ---- lines
 
@@ -121,6 +122,10 @@ stream_at signals horizon to = record {
   time = latest 0 (span_lines 0 (parts_of signals 0 to));
   failed = false;
 }
+
+-- what names show
+abbrev pub shown_signals : List Trace → List (ℕ → Value)
+shown_signals traces = map (λ (trace : Trace). trace.1) traces
 
 -- all that stands behind the declarations: one span of all ticks up to a horizon, and what ends it
 abbrev pub whole_text : ℕ → List (ℕ → Value) → List ℕ

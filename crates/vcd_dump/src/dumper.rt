@@ -7,12 +7,12 @@ ghost use Rattle.vcd_dump.specs.Dump.{declaration, declarations, dump_text};
 ghost use Rattle.vcd_dump.specs.Traces.{EndsBy, traces, named};
 ghost use Rattle.vcd_dump.specs.Written.{GoesOut};
 
-use crate::writer::{write_last_time, write_span};
 use crate::fault::DumpFault;
 use crate::line::gather_waves;
 use crate::lines::{push_declaration, push_heading};
 use crate::pieces::{send, send_long};
 use crate::unit::TimeUnit;
+use crate::writer::{write_last_time, write_span};
 use design::Design;
 use logic3::Waveform;
 use std::alloc::Global;
@@ -68,7 +68,8 @@ pub fn write_declarations<W: Write>(
 ///
 /// # Errors
 /// [`DumpFault::Write`] where a `write` answers a fault, also an interruption,
-/// [`DumpFault::WroteNothing`] where a `write` takes none of some bytes, and [`DumpFault::Memory`].
+/// [`DumpFault::WroteNothing`] where a `write` takes none of some bytes, and [`DumpFault::Memory`];
+/// never [`DumpFault::Failed`].
 pub fn dump<W: Write>(
     alloc: Global,
     out: &mut W,
@@ -87,6 +88,7 @@ pub fn dump<W: Write>(
         (dump_text unit horizon (traces design.now.circuit shown.now waves.now))) }
     ensures err { OnErr result (AppendsPrefix (W.contents out.old) (W.contents out.new)
         (dump_text unit horizon (traces design.now.circuit shown.now waves.now))) }
+    ensures fault { IfErr result (λ fault. fault ≢ DumpFault.Failed) }
 {
     let mut text = Vec::new(alloc);
     let mut lines = Vec::new(alloc);

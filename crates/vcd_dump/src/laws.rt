@@ -1,11 +1,11 @@
 //! Facts about the definitions alone.
-ghost use Rattle.std.specs.Prelude.{◌≡◌, ◌≢◌, ℕ, ◌+◌, ◌<◌, ◌≤◌, ◌^◌, List, ◌∷◌, ◌++◌, length, map, flat_map, All, Contains};
+ghost use Rattle.std.specs.Prelude.{◌≡◌, ◌≢◌, ℕ, ◌+◌, ◌<◌, ◌≤◌, ◌^◌, List, ◌∷◌, ◌++◌, length, flat_map, All, Contains};
 ghost use Rattle.logic3.specs.declared.value.Value.{Value};
 ghost use Rattle.text_lines.specs.Text.{lines_of, words_of};
 ghost use Rattle.vcd_dump.specs.declared.unit.TimeUnit.{TimeUnit};
 ghost use Rattle.vcd_dump.specs.Codes.{code_at};
 ghost use Rattle.vcd_dump.specs.Dump.{dump_keywords, Trace, variables_of, declarations, dump_text};
-ghost use Rattle.vcd_dump.specs.Spans.{begun, spanned, span_text, CanSpan, parts_of, stream_at, whole_text};
+ghost use Rattle.vcd_dump.specs.Spans.{begun, spanned, span_text, CanSpan, parts_of, stream_at, shown_signals, whole_text};
 ghost use Rattle.vcd_dump.specs.Shown.{dump_tokens, IsReadable, Shows};
 
 /// The identifier codes of distinct places differ.
@@ -46,6 +46,6 @@ pub fn spans_make_the_dump()
         span_text 0 from (parts_of signals 0 from) ++ span_text from to (parts_of signals from to)
         ≡ span_text 0 to (parts_of signals 0 to) }
     ensures whole { (unit : TimeUnit) (horizon : ℕ) (traces : List Trace) →
-        declarations unit (variables_of traces) ++ whole_text horizon (map (λ (trace : Trace). trace.1) traces)
+        declarations unit (variables_of traces) ++ whole_text horizon (shown_signals traces)
         ≡ dump_text unit horizon traces }
 {}

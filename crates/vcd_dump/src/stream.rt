@@ -5,11 +5,11 @@ ghost use Rattle.vcd_dump.specs.Dump.{declarations};
 ghost use Rattle.vcd_dump.specs.Traces.{named};
 ghost use Rattle.vcd_dump.specs.Spans.{begun, spanned, span_text, last_text, CanSpan};
 
-use crate::writer::{write_last_time, write_span};
 use crate::dumper::write_declarations;
 use crate::fault::DumpFault;
 use crate::line::{Line, gather_parts};
 use crate::unit::TimeUnit;
+use crate::writer::{write_last_time, write_span};
 use design::Design;
 use logic3::Change;
 use std::alloc::Global;

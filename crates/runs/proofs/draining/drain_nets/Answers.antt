@@ -1,7 +1,6 @@
-use Rattle.std.proofs.Common.{◌≡◌, ◌≢◌, ◌+◌, ◌<◌, ◌≤◌, [], ◌∷◌, ◌++◌, map, get_or, length, refl, ap, sym, ◌∙◌, arith}
+use Rattle.std.proofs.Common.{◌<◌, [], ◌∷◌, map, get_or, length, refl, ap, ◌∙◌, arith}
 use Rattle.std.proofs.lemmas.List.{map-append}
-use Rattle.logic3.specs.declared.change.Change.{Change}
-use Rattle.cmb_kernel.specs.State.{KernelView, least_frontier}
+use Rattle.cmb_kernel.specs.State.{KernelView}
 use Rattle.runs.proofs.Drains.{IsDrain, DrainsTo-none, DrainsTo-trans, DrainsTo-drain, least_same, EachFloor-drain, others_after, parts_more}
 use Rattle.runs.proofs.draining.drain_nets.Goals as goal
 

@@ -1,5 +1,5 @@
-use Rattle.std.proofs.Common.{◌≡◌, ◌≢◌, ◌<◌, ◌≤◌, ◌+◌, ℕ, length, refl, ap, sym, subst, ◌∙◌, arith, ◌⊎◌, inl, inr}
-use Rattle.cmb_kernel.specs.State.{KernelView, floor_at, least_frontier}
+use Rattle.std.proofs.Common.{◌≡◌, ◌≢◌, ◌<◌, ◌+◌, ℕ, length, ap, ◌∙◌, arith, ◌⊎◌, inl, inr}
+use Rattle.cmb_kernel.specs.State.{KernelView, floor_at}
 use Rattle.runs.proofs.Drains.{IsDrain, DrainsTo-none, DrainsTo-trans, DrainsTo-drain, least_same, floor_after, EachFloor-drain}
 use Rattle.runs.proofs.draining.forget_below.Goals as goal
 

@@ -1,4 +1,4 @@
-use Rattle.std.proofs.Common.{◌≡◌, ℕ, ◌+◌, ◌≤◌, false, List, Option, ap, sym, subst, ◌∙◌, arith, refl, length}
+use Rattle.std.proofs.Common.{◌≡◌, ℕ, ◌+◌, List, ap, sym, subst, ◌∙◌, arith, length}
 use Rattle.std.specs.Io.KnownBytes.{Appends}
 use Rattle.std.proofs.lemmas.List.{length-map}
 use Rattle.std.proofs.lemmas.Result.{err_from_is_err_and}
@@ -8,7 +8,7 @@ use Rattle.design.proofs.CallerLemmas.{IsCircuit-from_IsDesign}
 use Rattle.cmb_kernel.specs.State.{KernelView, least_frontier}
 use Rattle.vcd_dump.specs.Spans.{StreamView, begun, parts_of, span_text, stream_at}
 use Rattle.vcd_dump.proofs.CallerLemmas.{stream_at-begun}
-use Rattle.runs.specs.Drained.{values_of, DrainsTo}
+use Rattle.runs.specs.Drained.{values_of}
 use Rattle.runs.specs.Ends.{BreaksOff}
 use Rattle.runs.proofs.Rounds.{Streamed, streamed_begins, least_within, streamed_round, streamed_less, known_whole, counts_are}
 use Rattle.runs.proofs.Streams.{text_before, text_begins, breaks_at_first, goes_on, breaks_in_span, breaks_here, ends, breaks_at_end}

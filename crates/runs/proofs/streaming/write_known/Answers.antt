@@ -1,15 +1,13 @@
-use Rattle.std.proofs.Common.{◌≡◌, ◌+◌, ◌<◌, ◌≤◌, List, map, ap, sym, subst, ◌∙◌, arith}
+use Rattle.std.proofs.Common.{◌≡◌, ◌<◌, map, ap, sym, subst, ◌∙◌, arith}
 use Rattle.std.specs.Io.KnownBytes.{Appends}
 use Rattle.std.proofs.lemmas.Result.{err_from_is_err_and}
-use Rattle.logic3.specs.declared.change.Change.{Change}
 use Rattle.cmb_kernel.specs.State.{least_frontier}
 use Rattle.vcd_dump.specs.Bytes.{AppendsPrefix}
 use Rattle.vcd_dump.specs.Spans.{CanSpan, parts_of, span_text, spanned, stream_at}
 use Rattle.vcd_dump.proofs.CallerLemmas.{stream_at-can, stream_at-spanned}
-use Rattle.runs.specs.Drained.{EachFloor, values_of}
+use Rattle.runs.specs.Drained.{values_of}
 use Rattle.runs.proofs.Drains.{least_same}
 use Rattle.runs.proofs.Ends.{BreaksOff-dump}
-use Rattle.runs.proofs.Nets.{length-circuit}
 use Rattle.runs.proofs.Rounds.{parts_are}
 use Rattle.runs.proofs.streaming.write_known.Given.{Over}
 use Rattle.runs.proofs.streaming.write_known.Goals as goal

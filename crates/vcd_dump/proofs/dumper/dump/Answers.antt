@@ -1,4 +1,4 @@
-use Rattle.std.proofs.Common.{◌≡◌, ℕ, ◌+◌, ◌++◌, length, List, Option, ap, refl, sym, subst, ◌∙◌}
+use Rattle.std.proofs.Common.{◌≡◌, ℕ, ◌+◌, ◌++◌, length, List, refl, sym, subst, ◌∙◌}
 use Rattle.std.specs.Io.KnownBytes.{Appends}
 use Rattle.std.proofs.KnownBytes.{Appends-trans}
 use Rattle.std.proofs.lemmas.Result.{on_ok_weaker, on_err_weaker}
@@ -8,7 +8,7 @@ use Rattle.vcd_dump.specs.Bytes.{AppendsPrefix}
 use Rattle.vcd_dump.specs.Dump.{declarations, time_line_after}
 use Rattle.vcd_dump.specs.Spans.{span_lines, span_text, latest}
 use Rattle.vcd_dump.specs.Traces.{traces, named}
-use Rattle.vcd_dump.specs.Written.{InOrder, last_tick, written_span}
+use Rattle.vcd_dump.specs.Written.{InOrder}
 use Rattle.vcd_dump.proofs.BytesLemmas.{AppendsPrefix-longer, AppendsPrefix-after, AppendsPrefix-piece, OnErr-always}
 use Rattle.vcd_dump.proofs.FromWaves.{AreShown, changes_of, behind, dump_text-declared, dump_text-waves, Stepped-waves}
 use Rattle.vcd_dump.proofs.Stepped.{Stepped}

@@ -5,7 +5,6 @@ use Rattle.vcd_dump.specs.declared.unit.TimeUnit.{TimeUnit}
 use Rattle.vcd_dump.specs.Bytes.{AppendsPrefix}
 use Rattle.vcd_dump.specs.Dump.{Variable, line, heading, declaration, declarations}
 use Rattle.vcd_dump.specs.Traces.{named}
-use Rattle.vcd_dump.specs.Written.{GoesOut}
 use Rattle.vcd_dump.proofs.BytesLemmas.{AppendsPrefix-longer, OnErr-always}
 use Rattle.vcd_dump.proofs.GoingOut.{GoesOut-behind, GoesOut-stopped, GoesOut-sent, GoesOut-broken}
 use Rattle.vcd_dump.proofs.dumper.write_declarations.Goals as goal
