@@ -61,32 +61,32 @@ module _ (netlist : NetlistView) (names : List (List ℕ)) (some : 0 < length na
 
 -- ---- no answer is a failed write
 
-never_of_bench : (fault : BenchFault) (failed : DumpFault) → Dump failed ≢ sim_of_bench fault
-never_of_bench bench.Memory failed e = cc
-never_of_bench _ failed e = cc
+never_of_bench : (fault : BenchFault) (dumped : DumpFault) → Dump dumped ≢ sim_of_bench fault
+never_of_bench bench.Memory dumped e = cc
+never_of_bench _ dumped e = cc
 
-module _ (failed : DumpFault) where
-  extract_unwritten : (netlist : NetlistView) (names : List (List ℕ)) → IsExtractText netlist names (Err (Dump failed)) → ⊥
+module _ (dumped : DumpFault) where
+  extract_unwritten : (netlist : NetlistView) (names : List (List ℕ)) → IsExtractText netlist names (Err (Dump dumped)) → ⊥
   extract_unwritten netlist names is = go (within_limit (canonical is.extract)) is.text
     where
-      go : (text : Result (List ℕ) BenchFault) → Err (Dump failed) ≡ or_fault sim_of_bench text → ⊥
+      go : (text : Result (List ℕ) BenchFault) → Err (Dump dumped) ≡ or_fault sim_of_bench text → ⊥
       go (Ok text) e = cc
-      go (Err fault) e = let same : Dump failed ≡ sim_of_bench fault = cc in never_of_bench fault failed same
+      go (Err fault) e = let same : Dump dumped ≡ sim_of_bench fault = cc in never_of_bench fault dumped same
 
-  netlist_unwritten : (netlist : NetlistView) (names : List (List ℕ)) → IsConeOfNetlist netlist names (Err (Dump failed)) → ⊥
+  netlist_unwritten : (netlist : NetlistView) (names : List (List ℕ)) → IsConeOfNetlist netlist names (Err (Dump dumped)) → ⊥
   netlist_unwritten netlist [] is = cc
   netlist_unwritten netlist (name ∷ names) is = go (first_unknown netlist (name ∷ names)) refl
     where
       go : (unknown : Option ℕ) → first_unknown netlist (name ∷ names) ≡ unknown → ⊥
       go (Some at) found = let refused = rw found at is in cc
-      go None found = let extracted : IsExtractText netlist (name ∷ names) (Err (Dump failed)) = rw found at is in extract_unwritten netlist (name ∷ names) extracted
+      go None found = let extracted : IsExtractText netlist (name ∷ names) (Err (Dump dumped)) = rw found at is in extract_unwritten netlist (name ∷ names) extracted
 
-  pub IsConeAnswer-unwritten : (text : List ℕ) (names : List (List ℕ)) → IsConeAnswer text names (Err (Dump failed)) → ⊥
+  pub IsConeAnswer-unwritten : (text : List ℕ) (names : List (List ℕ)) → IsConeAnswer text names (Err (Dump dumped)) → ⊥
   IsConeAnswer-unwritten text names is = go (netlist_of text) refl
     where
       go : (read : Result NetlistView BenchFault) → netlist_of text ≡ read → ⊥
-      go (Ok netlist) found = let of_netlist : IsConeOfNetlist netlist names (Err (Dump failed)) = rw found at is in netlist_unwritten netlist names of_netlist
+      go (Ok netlist) found = let of_netlist : IsConeOfNetlist netlist names (Err (Dump dumped)) = rw found at is in netlist_unwritten netlist names of_netlist
       go (Err fault) found =
-          let refused : ◌≡◌ {A = Result (List ℕ) SimFault} (Err (Dump failed)) (Err (sim_of_bench fault)) = rw found at is in
-          let same : Dump failed ≡ sim_of_bench fault = cc in
-          never_of_bench fault failed same
+          let refused : ◌≡◌ {A = Result (List ℕ) SimFault} (Err (Dump dumped)) (Err (sim_of_bench fault)) = rw found at is in
+          let same : Dump dumped ≡ sim_of_bench fault = cc in
+          never_of_bench fault dumped same

@@ -52,7 +52,7 @@ fn check_prepared(alloc: Global, run: &PreparedRun) -> Result<CheckAnswer, SimFa
     ensures ok { IfOk result (λ answer. answer ≡ checked (seen_run run.now)) }
     ensures err { IfErr result (λ fault. fault ≡ SimFault.Memory) }
 {
-    let (kernel, _report) = complete(alloc, run)?;
+    let kernel = complete(alloc, run)?;
     let waves = plain_waves(alloc, &run.design, run.horizon)?;
     Ok(CheckAnswer {
         nets: run.design.nets(),

@@ -70,33 +70,27 @@ pub fn simulate<W: Write>(
     dump_by_kernel(alloc, &run, view, out)
 }
 
-/// A run's kernel at the end, where it knows each net up to the horizon, and the run's report.
-pub(crate) fn complete<'r>(
-    alloc: Global,
-    run: &'r PreparedRun,
-) -> Result<(RunKernel<'r>, Report), SimFault>
+/// A run's kernel at the end, where it knows each net up to the horizon.
+pub(crate) fn complete<'r>(alloc: Global, run: &'r PreparedRun) -> Result<RunKernel<'r>, SimFault>
     requires exist { All (Exists run.now.design.circuit) run.now.schedule }
     requires few { length run.now.schedule ≤ most_events }
-    ensures running { IfOk result (λ done. (done.0).failed ≡ false) }
-    ensures circuit { IfOk result (λ done. (done.0).circuit ≡ run.now.design.circuit) }
-    ensures end { IfOk result (λ done. (done.0).end ≡ run.now.horizon + 1) }
-    ensures known { IfOk result (λ done. IsKnown done.0) }
-    ensures undrained { IfOk result (λ done. IsUndrained (done.0).state) }
-    ensures report { IfOk result (λ done. done.1 ≡ report_of (seen_run run.now)) }
+    ensures running { IfOk result (λ kernel. kernel.failed ≡ false) }
+    ensures circuit { IfOk result (λ kernel. kernel.circuit ≡ run.now.design.circuit) }
+    ensures end { IfOk result (λ kernel. kernel.end ≡ run.now.horizon + 1) }
+    ensures known { IfOk result IsKnown }
+    ensures undrained { IfOk result (λ kernel. IsUndrained kernel.state) }
     ensures err { IfErr result (λ fault. fault ≡ SimFault.Memory) }
 {
     let mut kernel = RunKernel::new(alloc, &run.design, run.horizon)?;
-    let report = run_to_end(&mut kernel, run.schedule.events())?;
-    Ok((kernel, report))
+    run_to_end(&mut kernel, run.schedule.events())?;
+    Ok(kernel)
 }
 
 /// Applies the events, and then completes the run.
-fn run_to_end(kernel: &mut RunKernel<'_>, events: &[Event]) -> Result<Report, KernelFault>
+fn run_to_end(kernel: &mut RunKernel<'_>, events: &[Event]) -> Result<(), KernelFault>
     requires running { kernel.old.failed ≡ false }
     requires exist { All (Exists kernel.old.circuit) events.now }
     requires few { length events.now ≤ most_events }
-    ensures report { IfOk result (λ report.
-        report ≡ reported kernel.old.end kernel.old.circuit (steps kernel.old.state events.now)) }
     ensures ok { OnOk result (kernel.new ≡ record kernel.old {
       state = completed_within (most_rounds kernel.old.end kernel.old.circuit) (steps kernel.old.state events.now);
     }) }
@@ -104,13 +98,6 @@ fn run_to_end(kernel: &mut RunKernel<'_>, events: &[Event]) -> Result<Report, Ke
     ensures err { IfErr result (λ fault. fault ≡ KernelFault.Memory) }
 {
     kernel.apply_all(events)?;
-    let after = kernel.counts();
-    let least = kernel.least_frontier();
     kernel.complete()?;
-    let total = kernel.counts();
-    Ok(Report {
-        after,
-        least,
-        total,
-    })
+    Ok(())
 }

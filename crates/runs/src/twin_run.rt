@@ -146,6 +146,6 @@ fn wave_at_end(alloc: Global, run: &PreparedRun, net: u32) -> Result<Waveform, S
     ensures ok { IfOk result (λ wave. wave ≡ wave_of (value_of run.now.design.circuit net) 0 (run.now.horizon + 1)) }
     ensures err { IfErr result (λ fault. fault ≡ SimFault.Memory) }
 {
-    let (kernel, _report) = complete(alloc, run)?;
+    let kernel = complete(alloc, run)?;
     Ok(kernel.waveform(net).copy()?)
 }
