@@ -4,7 +4,7 @@ use Rattle.std.specs.Result.{OnOk, OnErr}
 use Rattle.cmb_channels.specs.declared.message.Message.{Message}
 use Rattle.cmb_channels.proofs.CallerLemmas.{length-update}
 use Rattle.gate_process.specs.Knowledge.{Knowledge, told}
-use Rattle.gate_process.specs.Step.{ProcessView, running, kept, heard, extended, advanced}
+use Rattle.gate_process.specs.Step.{ProcessView, running, kept, heard, extended, advanced, drained}
 use Rattle.gate_process.proofs.CallerLemmas.{length-all_kept}
 
 pub record Stays (old new : ProcessView) : Type 0 where
@@ -31,3 +31,14 @@ advances old new (Ok messages) ok err runs = record {
   end = ap (λ (view : ProcessView). view.state.end) ok;
 }
 advances old new (Err fault) ok err runs = cc
+
+pub drains : {A E : Type 0} (old new : ProcessView) (bound : ℕ) (result : Result A E) →
+    OnOk result (new ≡ running (drained bound old.state)) → OnErr result (new ≡ old) → Stays old new
+drains old new bound (Ok changes) ok err = record {
+  pins = ap (λ (view : ProcessView). length view.state.received) ok;
+  end = ap (λ (view : ProcessView). view.state.end) ok;
+}
+drains old new bound (Err fault) ok err = record {
+  pins = ap (λ (view : ProcessView). length view.state.received) err;
+  end = ap (λ (view : ProcessView). view.state.end) err;
+}

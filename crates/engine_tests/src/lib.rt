@@ -9,6 +9,8 @@ mod circuits;
 #[cfg(test)]
 mod cones;
 #[cfg(test)]
+mod drains;
+#[cfg(test)]
 mod dumps;
 #[cfg(test)]
 mod kernels;

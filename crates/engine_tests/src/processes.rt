@@ -119,6 +119,11 @@ impl Probe {
         Ok(self.process.advance()?)
     }
 
+    fn drain_below(&mut self, rt: &impl Abort, bound: u64) -> Result<Vec<Change>, Fail> {
+        assert!(rt; bound <= self.process(rt).frontier());
+        Ok(self.process.drain_below(bound)?)
+    }
+
     // It tells just these messages.
     fn tells(&mut self, rt: &impl Abort, wanted: &[Message]) -> Result<(), Fail> {
         let messages = self.advance(rt)?;
@@ -230,6 +235,32 @@ fn flop_tells(rt: &impl Abort, process: &mut Probe) -> Result<(), Fail> {
 fn flop_process(rt: HostRuntime) -> Result<(), Fail> {
     let mut process = Probe::new(&rt, rt.alloc(), SAMPLER, b"", 4, b"q", 9)?;
     flop_tells(&rt, &mut process)
+}
+
+// What it shows before tick 9 is taken out, and nothing is left to take there.
+fn drain_flop(rt: &impl Abort, process: &mut Probe) -> Result<(), Fail> {
+    assert_eq!(rt; process.process(rt).floor(), 0);
+    let rise = Change {
+        tick: 5,
+        value: One,
+    };
+    assert_eq!(rt; process.drain_below(rt, 9)?.as_slice(), [rise].as_slice());
+    assert_eq!(rt; process.drain_below(rt, 9)?.len(), 0);
+    let fall = Change {
+        tick: 9,
+        value: Zero,
+    };
+    assert_eq!(rt; process.process(rt).floor(), 9);
+    assert_eq!(rt; process.process(rt).waveform().before(), One);
+    assert_eq!(rt; process.process(rt).waveform().changes(), [fall].as_slice());
+    Ok(())
+}
+
+#[test]
+fn drained_flop(rt: HostRuntime) -> Result<(), Fail> {
+    let mut process = Probe::new(&rt, rt.alloc(), SAMPLER, b"", 4, b"q", 9)?;
+    flop_tells(&rt, &mut process)?;
+    drain_flop(&rt, &mut process)
 }
 
 // The first pin is told a thousand changes over ten million ticks.

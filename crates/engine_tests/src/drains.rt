@@ -1,0 +1,274 @@
+//! Nets drained between the rounds of a run, over both fabrics: each change is taken out once.
+ghost use Rattle.std.specs.Prelude.{◌≡◌, ◌<◌, false, length};
+
+use crate::circuits::{
+    Circuit, GATED_OSCILLATOR, INVERTER, LATE_PIN, RING_COUNTER, SAMPLER, SELF_INVERTER,
+    SLOW_INVERTER,
+};
+use Step::{Drains, Goes, Keeps};
+use Value::{One, Unknown, Zero};
+use cmb_channels::{Fabric, Logs, Queues};
+use cmb_kernel::Kernel;
+use design::{Design, plain_waves};
+use logic3::{Change, Value, Waveform};
+use std::alloc::Global;
+use std::process::Abort;
+use std::test::Fail;
+use timing_text::Horizon;
+
+// A kernel, and how many nets its circuit has.
+#[derive(Drop)]
+struct Run<'d, F: Fabric> {
+    kernel: Kernel<'d, F>,
+    nets: u32,
+    ghost has_nets: { kernel.failed ≡ false → length kernel.circuit ≡ nets },
+}
+
+// A round, after which this is the least frontier; or a net's changes before a tick, which are taken
+// out; or the tick from which on a net is kept, and its value before and its changes from there on.
+#[derive(Clone, Copy)]
+enum Step {
+    Goes(u64),
+    Drains(u32, u64, &'static [Change]),
+    Keeps(u32, u64, Value, &'static [Change]),
+}
+
+impl<'d, F: Fabric> Run<'d, F> {
+    fn new(alloc: Global, design: &'d Design, horizon: Horizon) -> Result<Run<'d, F>, Fail> {
+        Ok(Run {
+            kernel: Kernel::new(alloc, design, horizon)?,
+            nets: design.nets(),
+        })
+    }
+
+    // The kernel, which memory sufficed for so far, and which has this net.
+    fn kernel(&self, rt: &impl Abort, net: u32) -> &Kernel<'d, F>
+        ensures same { result.now ≡ self.now.kernel }
+        ensures running { result.now.failed ≡ false }
+        ensures net { net < length result.now.circuit }
+    {
+        assert!(rt; !self.kernel.is_failed());
+        assert!(rt; net < self.nets);
+        &self.kernel
+    }
+
+    fn round(&mut self) -> Result<(), Fail> {
+        self.kernel.round()?;
+        Ok(())
+    }
+
+    fn complete(&mut self) -> Result<(), Fail> {
+        self.kernel.complete()?;
+        Ok(())
+    }
+
+    fn drain(&mut self, rt: &impl Abort, net: u32, bound: u64) -> Result<Vec<Change>, Fail> {
+        assert!(rt; self.kernel(rt, net).floor(net) <= bound);
+        assert!(rt; bound <= self.kernel(rt, net).least_frontier());
+        Ok(self.kernel.drain_below(net, bound)?)
+    }
+
+    fn keeps(&self, rt: &impl Abort, net: u32, floor: u64, before: Value, changes: &[Change]) {
+        let kernel = self.kernel(rt, net);
+        assert_eq!(rt; kernel.floor(net), floor);
+        assert_eq!(rt; kernel.waveform(net).before(), before);
+        assert_eq!(rt; kernel.waveform(net).changes(), changes);
+    }
+
+    fn step(&mut self, rt: &impl Abort, step: Step) -> Result<(), Fail> {
+        match step {
+            Goes(least) => {
+                self.round()?;
+                assert_eq!(rt; self.kernel(rt, 0).least_frontier(), least);
+            }
+            Drains(net, bound, changes) => {
+                assert_eq!(rt; self.drain(rt, net, bound)?.as_slice(), changes);
+                assert_eq!(rt; self.kernel(rt, net).floor(net), bound);
+            }
+            Keeps(net, floor, before, changes) => self.keeps(rt, net, floor, before, changes),
+        }
+        Ok(())
+    }
+}
+
+const LOW: Change = Change {
+    tick: 0,
+    value: Zero,
+};
+
+const HIGH: Change = Change {
+    tick: 3,
+    value: One,
+};
+
+const RISE: Change = Change {
+    tick: 1,
+    value: One,
+};
+
+const FALL: Change = Change {
+    tick: 4,
+    value: Zero,
+};
+
+// The input of the inverter goes low and high, and its output rises and falls.
+const IN_INVERTER: [Step; 16] = [
+    Keeps(0, 0, Unknown, &[]),
+    Goes(1),
+    Keeps(0, 0, Unknown, &[LOW, HIGH]),
+    Drains(0, 1, &[LOW]),
+    Drains(1, 1, &[]),
+    Drains(0, 1, &[]),
+    Keeps(0, 1, Zero, &[HIGH]),
+    Keeps(1, 1, Unknown, &[]),
+    Goes(6),
+    Drains(0, 6, &[HIGH]),
+    Keeps(0, 6, One, &[]),
+    Keeps(1, 1, Unknown, &[RISE, FALL]),
+    Drains(1, 6, &[RISE, FALL]),
+    Drains(0, 6, &[]),
+    Keeps(0, 6, One, &[]),
+    Keeps(1, 6, Zero, &[]),
+];
+
+const IN_RING_COUNTER: [Step; 9] = [
+    Goes(1),
+    Goes(4),
+    Drains(0, 4, &[]),
+    Goes(5),
+    Goes(7),
+    Drains(1, 6, &[]),
+    Goes(8),
+    Goes(10),
+    Goes(11),
+];
+
+// A run of the design takes these steps.
+fn follows<F: Fabric>(
+    rt: &impl Abort,
+    alloc: Global,
+    design: &Design,
+    horizon: u64,
+    steps: &[Step],
+) -> Result<(), Fail> {
+    let mut run: Run<F> = Run::new(alloc, design, Horizon::new(horizon)?)?;
+    for step in steps {
+        run.step(rt, *step)?;
+    }
+    Ok(())
+}
+
+#[test]
+fn drained_step_by_step(rt: HostRuntime) -> Result<(), Fail> {
+    for (circuit, horizon, steps) in [
+        (INVERTER, 5, IN_INVERTER.as_slice()),
+        (RING_COUNTER, 10, IN_RING_COUNTER.as_slice()),
+    ] {
+        let design = circuit.build(rt.alloc())?;
+        follows::<Queues>(&rt, rt.alloc(), &design, horizon, steps)?;
+        follows::<Logs>(&rt, rt.alloc(), &design, horizon, steps)?;
+    }
+    Ok(())
+}
+
+// What is taken out of the net in so many rounds.
+fn taken<F: Fabric>(
+    rt: &impl Abort,
+    alloc: Global,
+    run: &mut Run<F>,
+    net: u32,
+    rounds: u64,
+) -> Result<Vec<Change>, Fail> {
+    let mut taken = Vec::new(alloc);
+    for _round in 0..rounds {
+        run.round()?;
+        let least = run.kernel(rt, net).least_frontier();
+        taken.extend_from_slice(run.drain(rt, net, least)?.as_slice())?;
+    }
+    Ok(taken)
+}
+
+// The changes taken out in so many rounds, and those left when the run is complete, are the whole
+// waveform of the net; what is left begins where the last drain ended.
+fn adds_up<F: Fabric>(
+    rt: &impl Abort,
+    alloc: Global,
+    mut run: Run<F>,
+    net: u32,
+    rounds: u64,
+    whole: &Waveform,
+) -> Result<(), Fail> {
+    let mut changes = taken(rt, alloc, &mut run, net, rounds)?;
+    let floor = run.kernel(rt, net).least_frontier();
+    let before = changes.last().map_or(Unknown, |change| change.value);
+    run.complete()?;
+    let left = run.kernel(rt, net).waveform(net).changes();
+    run.keeps(rt, net, floor, before, left);
+    changes.extend_from_slice(left)?;
+    assert_eq!(rt; changes.as_slice(), whole.changes());
+    Ok(())
+}
+
+// So it is with each net of the design.
+fn each_adds_up<F: Fabric>(
+    rt: &impl Abort,
+    alloc: Global,
+    design: &Design,
+    horizon: Horizon,
+    rounds: u64,
+) -> Result<(), Fail> {
+    let waves = plain_waves(alloc, design, horizon)?;
+    for net in 0..design.nets() {
+        let whole = waves.get(net as usize).expect(rt, "a waveform of this net");
+        let run: Run<F> = Run::new(alloc, design, horizon)?;
+        adds_up(rt, alloc, run, net, rounds, whole)?;
+    }
+    Ok(())
+}
+
+fn all_add_up(
+    rt: &impl Abort,
+    alloc: Global,
+    circuit: Circuit,
+    horizon: u64,
+    rounds: u64,
+) -> Result<(), Fail> {
+    let horizon = Horizon::new(horizon)?;
+    let design = circuit.build(alloc)?;
+    each_adds_up::<Queues>(rt, alloc, &design, horizon, rounds)?;
+    each_adds_up::<Logs>(rt, alloc, &design, horizon, rounds)
+}
+
+#[test]
+fn nothing_is_lost(rt: HostRuntime) -> Result<(), Fail> {
+    for (circuit, horizon, rounds) in [
+        (INVERTER, 5, 1),
+        (LATE_PIN, 8, 2),
+        (SELF_INVERTER, 3, 2),
+        (GATED_OSCILLATOR, 12, 3),
+        (GATED_OSCILLATOR, 12, 9),
+        (SAMPLER, 9, 1),
+        (SLOW_INVERTER, 5, 0),
+    ] {
+        all_add_up(&rt, rt.alloc(), circuit, horizon, rounds)?;
+    }
+    Ok(())
+}
+
+// The input's whole waveform, made by hand.
+fn low_and_high(alloc: Global) -> Result<Waveform, Fail> {
+    let mut wave = Waveform::new(alloc);
+    wave.push(LOW)?;
+    wave.push(HIGH)?;
+    Ok(wave)
+}
+
+#[test]
+fn split_of_a_waveform(rt: HostRuntime) -> Result<(), Fail> {
+    let mut wave = low_and_high(rt.alloc())?;
+    assert!(rt; wave.copy()? == wave);
+    assert_eq!(rt; wave.split_below(3)?.as_slice(), [LOW].as_slice());
+    assert_eq!(rt; wave.before(), Zero);
+    assert_eq!(rt; wave.changes(), [HIGH].as_slice());
+    Ok(())
+}
