@@ -1,5 +1,5 @@
 -- A process stays the same net's up to the same end while it hears messages and advances.
-use Rattle.std.proofs.Common.{◌≡◌, ℕ, ◌∙◌, Bool, true, false, length, List, Result, Ok, Err, ap}
+use Rattle.std.proofs.Common.{◌≡◌, ℕ, ◌∙◌, true, false, length, Result, Ok, Err, ap}
 use Rattle.std.specs.Result.{OnOk, OnErr}
 use Rattle.cmb_channels.specs.declared.message.Message.{Message}
 use Rattle.cmb_channels.proofs.CallerLemmas.{length-update}
