@@ -200,11 +200,8 @@ module _ (one other : State) (alike : apart_from_waves one ≡ apart_from_waves 
   pub alike_counts : one.counts ≡ other.counts
   alike_counts = ap (λ (s : State). s.counts) alike
 
-  pub alike_lists : one.lists ≡ other.lists
-  alike_lists = ap (λ (s : State). s.lists) alike
-
   -- what doesn't depend on what nets show is the same for all nets
-  pub alike_views : {B : Type 0} (view : ProcessState → B) → ((process : ProcessState) → view (apart_from_wave process) ≡ view process) →
+  alike_views : {B : Type 0} (view : ProcessState → B) → ((process : ProcessState) → view (apart_from_wave process) ≡ view process) →
       map view one.processes ≡ map view other.processes
   alike_views view h = shown one ∙ ap (λ (s : State). map view s.processes) alike ∙ sym (shown other)
     where
@@ -214,9 +211,6 @@ module _ (one other : State) (alike : apart_from_waves one ≡ apart_from_waves 
 
       shown : (state : State) → map view state.processes ≡ map view (apart_from_waves state).processes
       shown state = shown_of state.processes
-
-  pub alike_frontier : (net : ℕ) → frontier_at one net ≡ frontier_at other net
-  alike_frontier net = ap (λ ns. slice_index_or ns net 0) (alike_views (λ (p : ProcessState). p.known.frontier) (λ p. refl))
 
   pub alike_least : (last : ℕ) → least_frontier last one ≡ least_frontier last other
   alike_least last = ap (least last) (alike_views (λ (p : ProcessState). p.known.frontier) (λ p. refl))

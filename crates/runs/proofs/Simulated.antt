@@ -1,27 +1,22 @@
 -- What a run by the kernel reaches.
-use Rattle.std.proofs.Common.{◌≡◌, ℕ, zero, suc, ◌+◌, ◌≤◌, Bool, true, false, cond, List, [], ◌∷◌, length, map, Option, None, Some, All, Result, Err, refl, sym, ap, ◌∙◌, arith}
+use Rattle.std.proofs.Common.{◌≡◌, ℕ, zero, suc, ◌+◌, ◌≤◌, Bool, true, false, cond, List, [], ◌∷◌, length, map, Option, None, Some, All, Result, Err, refl, ap, ◌∙◌, arith}
 use Rattle.std.specs.Prelude.{slice_index_or}
 use Rattle.std.proofs.lemmas.Bool.{lt-ltb, le-ltb}
 use Rattle.std.proofs.lemmas.List.Elements.{All-head, All-tail}
-use Rattle.std.proofs.lemmas.Option.{get_or_from_slice_get}
 use Rattle.logic3.specs.Wave.{wave_of}
 use Rattle.design.specs.Circuit.{Circuit, pin_count}
 use Rattle.design.specs.Equations.{value_of}
 use Rattle.cmb_channels.specs.declared.message.Message.{Message}
-use Rattle.cmb_channels.proofs.CallerLemmas.{view_at}
-use Rattle.gate_process.specs.Step.{ProcessState}
 use Rattle.cmb_events.specs.declared.event.Event.{Event}
 use Rattle.cmb_events.specs.declared.event.Event.TheVariants.{Deliver, Advance}
 use Rattle.cmb_kernel.specs.declared.fault.KernelFault.{KernelFault}
 use Rattle.cmb_kernel.specs.declared.fault.KernelFault.TheVariants as kernel
 use Rattle.cmb_kernel.specs.Refusals.{answer, first_fault, list_fault, refusal}
 use Rattle.cmb_events.specs.Schedule.{most_events, Exists}
-use Rattle.cmb_kernel.specs.Sound.{IsSound}
-use Rattle.cmb_kernel.specs.State.{KernelView, State, IsComplete, fresh, frontier_at, is_complete, most_rounds, started}
+use Rattle.cmb_kernel.specs.State.{KernelView, State, fresh, is_complete, most_rounds, started}
 use Rattle.cmb_kernel.specs.Step.{after_deliver, completed_within, round_events, round_of, step, steps}
-use Rattle.cmb_kernel.proofs.CallerLemmas.{net_count, get_below}
 use Rattle.runs.specs.Shown.{waves_up_to}
-use Rattle.runs.specs.Simulated.{IsKnown, RunView, report_of, reported}
+use Rattle.runs.specs.Simulated.{RunView, report_of, reported}
 
 -- ---- no event of a schedule is refused
 
@@ -49,19 +44,6 @@ pub memory_wants : (fault : KernelFault) (refused : Option KernelFault) → refu
     ◌≡◌ {A = Result (Unit {0}) KernelFault} (Err fault) (answer refused tt)) → fault ≡ kernel.Memory
 memory_wants kernel.Memory refused none told = refl
 memory_wants _ refused none told = absurd (unsaid _ refused none (told (λ e. (cc))))
-
--- ---- a complete run is known to its end
-
-pub IsKnown-complete : (run : KernelView) → IsSound run.circuit run.end run.state → IsComplete run.state → IsKnown run
-IsKnown-complete run sound complete net below =
-    let count = net_count run.circuit run.end run.state sound in
-    let process = get_below run.state.processes net (omega arith) in
-    let is : frontier_at run.state net ≡ (process.0).known.frontier =
-    view_at (λ (p : ProcessState). p.known.frontier) run.state.processes net process.0 process.1 in
-    let same = get_or_from_slice_get run.state.processes net process.0 process.0 process.1 in
-    let done = complete net process.0 (omega arith) in
-    is ∙ sym (ap (λ (p : ProcessState). p.known.frontier) same) ∙ done ∙ ap (λ (p : ProcessState). p.end) same
-    ∙ sound.ends net process.0 process.1
 
 -- ---- the rounds
 

@@ -1,7 +1,5 @@
-use Rattle.std.proofs.Common.{ap, ◌∙◌}
 use Rattle.std.proofs.lemmas.Result.{err_from_is_err_and}
-use Rattle.cmb_kernel.specs.State.{KernelView}
-use Rattle.runs.proofs.Simulated.{IsKnown-complete, memory_wants, unrefused}
+use Rattle.runs.proofs.Simulated.{memory_wants, unrefused}
 use Rattle.runs.proofs.simulation.run_to_end.Goals as goal
 
 pub returns-in_err-apply_all-clause-err : goal.returns-in_err-apply_all-clause-err
@@ -10,8 +8,3 @@ returns-in_err-apply_all-clause-err c =
     let fault = c.in_err-apply_all.field-0.0 in
     rw (p.1, p.2) (memory_wants fault _ (unrefused c.args.kernel.now c.args.events.now c.requires.running c.requires.exist c.requires.few)
     c.in_err-apply_all.ensures.outcome.answer)
-
-pub returns-clause-known : goal.returns-clause-known
-returns-clause-known c =
-    let running = ap (λ (k : KernelView). k.failed) c.in_ok-complete.ensures.outcome.ok ∙ ap (λ (k : KernelView). k.failed) c.in_ok-apply_all.ensures.outcome.ok ∙ c.requires.running in
-    IsKnown-complete c.complete.new.self (c.in_ok-complete.ensures.outcome.sound running) c.in_ok-complete.ensures.complete
