@@ -22,3 +22,5 @@ mod processes;
 mod rationed;
 #[cfg(test)]
 mod schedules;
+#[cfg(test)]
+mod streams;

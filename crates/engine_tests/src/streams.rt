@@ -1,0 +1,210 @@
+//! Streams by direct calls: the text after each span, wherever the spans are cut, and what is left of
+//! a stream after a fault.
+ghost use Rattle.std.specs.Prelude.{◌≡◌, false, true, IfOk, OnErr};
+ghost use Rattle.vcd_dump.specs.Spans.{IsPart};
+
+use crate::circuits::INVERTER;
+use Value::{One, Zero};
+use design::Design;
+use logic3::{Change, Value};
+use std::alloc::Global;
+use std::io::{ErrorKind, Write};
+use std::process::Abort;
+use std::test::Fail;
+use timing_text::Horizon;
+use vcd_dump::{DumpFault, Stream, TimeUnit};
+use worked_examples::dumps::INVERTER_DUMP;
+use worked_examples::{Narrow, Stumbling};
+
+// The changes of a net, in a span that begins and ends at these ticks.
+fn part(
+    rt: &impl Abort,
+    alloc: Global,
+    from: u64,
+    upto: u64,
+    changes: &[Change],
+) -> Result<Vec<Change>, Fail>
+    ensures { IfOk result (λ part. IsPart from upto part.items) }
+{
+    let mut part = Vec::new(alloc);
+    let mut next = from;
+    for change in changes {
+        assert!(rt; next <= change.tick);
+        assert!(rt; change.tick < upto);
+        part.push(*change)?;
+        next = change.tick + 1;
+    }
+    assert!(rt; next <= upto);
+    Ok(part)
+}
+
+// A span up to a tick, the changes of both nets in it, and how many bytes went out by its end.
+type Span = (u64, [&'static [Change]; 2], usize);
+
+// A stream of two nets up to tick 5.
+#[derive(Drop)]
+struct Pair {
+    stream: Stream,
+    ghost shows: { stream.failed ≡ false → stream.nets ≡ 2 },
+    ghost ends: { stream.failed ≡ false → stream.horizon ≡ 5 },
+}
+
+impl Pair {
+    fn begin<W: Write>(
+        rt: &impl Abort,
+        alloc: Global,
+        out: &mut W,
+        design: &Design,
+    ) -> Result<Pair, Fail> {
+        let nets = design.nets();
+        assert!(rt; 1 < nets);
+        let horizon = Horizon::new(5)?;
+        assert_eq!(rt; horizon.ticks(), 5);
+        let stream = Stream::begin(alloc, out, design, &[0, 1], horizon, TimeUnit::Ns)?;
+        assert_eq!(rt; stream.written(), 0);
+        Ok(Pair { stream })
+    }
+
+    // What a span up to a tick answers.
+    fn span<W: Write>(
+        &mut self,
+        rt: &impl Abort,
+        alloc: Global,
+        out: &mut W,
+        upto: u64,
+        changes: [&[Change]; 2],
+    ) -> Result<Result<(), DumpFault>, Fail>
+        ensures { IfOk result (λ answer. OnErr answer (self.new.stream.failed ≡ true)) }
+    {
+        let [first, second] = changes;
+        let from = self.stream.written();
+        assert!(rt; from < upto);
+        assert!(rt; upto <= 6);
+        let parts = [
+            part(rt, alloc, from, upto, first)?,
+            part(rt, alloc, from, upto, second)?,
+        ];
+        Ok(self.stream.span(out, upto, &parts))
+    }
+
+    // What the end answers, of a stream that wrote all spans.
+    fn finish<W: Write>(self, rt: &impl Abort, out: &mut W) -> Result<(), DumpFault> {
+        assert_eq!(rt; self.stream.written(), 6);
+        self.stream.finish(out)
+    }
+}
+
+const LOW: Change = Change {
+    tick: 0,
+    value: Zero,
+};
+
+const HIGH: Change = Change {
+    tick: 3,
+    value: One,
+};
+
+const RISE: Change = Change {
+    tick: 1,
+    value: One,
+};
+
+const FALL: Change = Change {
+    tick: 4,
+    value: Zero,
+};
+
+const AT_ONCE: [Span; 1] = [(6, [&[LOW, HIGH], &[RISE, FALL]], 187)];
+
+const IN_TWO: [Span; 2] = [(1, [&[LOW], &[]], 169), (6, [&[HIGH], &[RISE, FALL]], 187)];
+
+const EACH_TICK: [Span; 6] = [
+    (1, [&[LOW], &[]], 169),
+    (2, [&[], &[RISE]], 175),
+    (3, [&[], &[]], 175),
+    (4, [&[HIGH], &[]], 181),
+    (5, [&[], &[FALL]], 187),
+    (6, [&[], &[]], 187),
+];
+
+// The stream of the design by these spans is the inverter's dump.
+fn writes(rt: &impl Abort, alloc: Global, design: &Design, spans: &[Span]) -> Result<(), Fail> {
+    let mut out = Vec::new(alloc);
+    let mut pair = Pair::begin(rt, alloc, &mut out, design)?;
+    assert_eq!(rt; out.len(), 145);
+    for (upto, changes, bytes) in spans {
+        let answer = pair.span(rt, alloc, &mut out, *upto, *changes)?;
+        assert_eq!(rt; answer, Ok(()));
+        assert_eq!(rt; pair.stream.written(), *upto);
+        assert_eq!(rt; out.len(), *bytes);
+    }
+    assert_eq!(rt; pair.finish(rt, &mut out), Ok(()));
+    assert!(rt; out.as_slice() == INVERTER_DUMP);
+    Ok(())
+}
+
+#[test]
+fn streamed_inverter(rt: HostRuntime) -> Result<(), Fail> {
+    let design = INVERTER.build(rt.alloc())?;
+    for spans in [AT_ONCE.as_slice(), IN_TWO.as_slice(), EACH_TICK.as_slice()] {
+        writes(&rt, rt.alloc(), &design, spans)?;
+    }
+    Ok(())
+}
+
+// A span of all that is left, of which this is answered; the stream has failed then.
+fn stops<W: Write>(
+    rt: &impl Abort,
+    alloc: Global,
+    out: &mut W,
+    pair: &mut Pair,
+    fault: DumpFault,
+) -> Result<(), Fail>
+    ensures { IfOk result (λ _. pair.new.stream.failed ≡ true) }
+{
+    let answer = pair.span(rt, alloc, out, 6, [&[HIGH], &[RISE, FALL]])?;
+    assert_eq!(rt; answer.err().expect(rt, "a fault"), fault);
+    Ok(())
+}
+
+// The stream of the design to this writer stops with a fault at its second span; from then on it
+// answers that it has failed.
+fn fails<W: Write>(
+    rt: &impl Abort,
+    alloc: Global,
+    out: &mut W,
+    design: &Design,
+    fault: DumpFault,
+) -> Result<(), Fail> {
+    let mut pair = Pair::begin(rt, alloc, out, design)?;
+    let answer = pair.span(rt, alloc, out, 1, [&[LOW], &[]])?;
+    assert_eq!(rt; answer, Ok(()));
+    stops(rt, alloc, out, &mut pair, fault)?;
+    stops(rt, alloc, out, &mut pair, DumpFault::Failed)?;
+    assert_eq!(rt; pair.stream.finish(out), Err(DumpFault::Failed));
+    Ok(())
+}
+
+// The writer is called no more after a fault, though it would take all that it is given.
+#[test]
+fn failed_streams(rt: HostRuntime) -> Result<(), Fail> {
+    let design = INVERTER.build(rt.alloc())?;
+    let mut out = Stumbling::new(rt.alloc(), 2, ErrorKind::Other);
+    fails(&rt, rt.alloc(), &mut out, &design, DumpFault::Write)?;
+    assert_eq!(rt; out.calls, 3);
+    assert!(rt; out.taken.as_slice() == &INVERTER_DUMP[..169]);
+    Ok(())
+}
+
+// What went out before the fault is a prefix of the dump.
+#[test]
+fn cut_streams(rt: HostRuntime) -> Result<(), Fail> {
+    let design = INVERTER.build(rt.alloc())?;
+    for (fails_full, fault) in [(true, DumpFault::Write), (false, DumpFault::WroteNothing)] {
+        let mut out = Narrow::new(rt.alloc(), 179, 7);
+        out.fails = fails_full;
+        fails(&rt, rt.alloc(), &mut out, &design, fault)?;
+        assert!(rt; out.taken.as_slice() == &INVERTER_DUMP[..179]);
+    }
+    Ok(())
+}
