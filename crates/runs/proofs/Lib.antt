@@ -6,10 +6,10 @@ mod Drains
 mod Ends
 mod Isolated
 mod Nets
-mod Rounds
 mod Runs
 mod Signals
 mod Simulated
+mod Streamed
 mod Streams
 mod Twins
 mod Viewed

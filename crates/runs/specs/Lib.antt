@@ -5,8 +5,10 @@ pub mod Ends
 pub mod Events
 pub mod Faults
 pub mod Isolation
+pub mod Paces
 pub mod Shown
 pub mod Simulated
 pub mod Source
 pub mod Twins
 pub mod Viewed
+pub mod Windows

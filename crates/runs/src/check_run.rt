@@ -13,8 +13,9 @@ ghost use Rattle.runs.specs.declared.fault.SimFault.TheVariants.{Memory};
 
 use crate::fault::SimFault;
 use crate::preparation::{PreparedRun, prepare_run};
-use crate::simulation::{RunKernel, complete};
+use crate::simulation::RunKernel;
 use crate::source::Source;
+use crate::sweep_run::complete;
 use design::plain_waves;
 use logic3::Waveform;
 use std::alloc::Global;

@@ -13,6 +13,7 @@ ghost use Rattle.runs.specs.Viewed.{ShowsValues};
 ghost use Rattle.runs.specs.declared.fault.SimFault.TheVariants.{Memory};
 
 use crate::fault::SimFault;
+use crate::pace::Pace;
 use crate::preparation::{PreparedRun, prepare_run};
 use crate::source::Source;
 use crate::streaming::dump_by_kernel;
@@ -67,37 +68,5 @@ pub fn simulate<W: Write>(
     ensures memory { result ≡ Err Memory → MayWantMemory (seen_source source.now) view.now.horizon }
 {
     let run = prepare_run(alloc, source, view.horizon)?;
-    dump_by_kernel(alloc, &run, view, out)
-}
-
-/// A run's kernel at the end, where it knows each net up to the horizon.
-pub(crate) fn complete<'r>(alloc: Global, run: &'r PreparedRun) -> Result<RunKernel<'r>, SimFault>
-    requires exist { All (Exists run.now.design.circuit) run.now.schedule }
-    requires few { length run.now.schedule ≤ most_events }
-    ensures running { IfOk result (λ kernel. kernel.failed ≡ false) }
-    ensures circuit { IfOk result (λ kernel. kernel.circuit ≡ run.now.design.circuit) }
-    ensures end { IfOk result (λ kernel. kernel.end ≡ run.now.horizon + 1) }
-    ensures known { IfOk result IsKnown }
-    ensures undrained { IfOk result (λ kernel. IsUndrained kernel.state) }
-    ensures err { IfErr result (λ fault. fault ≡ SimFault.Memory) }
-{
-    let mut kernel = RunKernel::new(alloc, &run.design, run.horizon)?;
-    run_to_end(&mut kernel, run.schedule.events())?;
-    Ok(kernel)
-}
-
-/// Applies the events, and then completes the run.
-fn run_to_end(kernel: &mut RunKernel<'_>, events: &[Event]) -> Result<(), KernelFault>
-    requires running { kernel.old.failed ≡ false }
-    requires exist { All (Exists kernel.old.circuit) events.now }
-    requires few { length events.now ≤ most_events }
-    ensures ok { OnOk result (kernel.new ≡ record kernel.old {
-      state = completed_within (most_rounds kernel.old.end kernel.old.circuit) (steps kernel.old.state events.now);
-    }) }
-    ensures known { OnOk result (IsKnown kernel.new) }
-    ensures err { IfErr result (λ fault. fault ≡ KernelFault.Memory) }
-{
-    kernel.apply_all(events)?;
-    kernel.complete()?;
-    Ok(())
+    dump_by_kernel(alloc, &run, view, &mut Pace::Rounds, out)
 }

@@ -10,12 +10,15 @@ ghost use Rattle.vcd_dump.specs.Dump.{dump_text};
 ghost use Rattle.vcd_dump.specs.Spans.{parts_of, span_text, stream_at};
 ghost use Rattle.runs.specs.Drained.{EachFloor, DrainsTo, values_of};
 ghost use Rattle.runs.specs.Ends.{BreaksOff};
+ghost use Rattle.runs.specs.Paces.{Suits};
 ghost use Rattle.runs.specs.Simulated.{report_of, reported, seen_run};
 ghost use Rattle.runs.specs.Source.{dump_of_design, signals_of};
+ghost use Rattle.runs.specs.declared.pace.Pace.TheVariants.{Rounds};
 
 use crate::draining::{drain_nets, forget_below};
 use crate::dumping::shown_nets;
 use crate::fault::SimFault;
+use crate::pace::Pace;
 use crate::preparation::PreparedRun;
 use crate::simulation::{Report, RunKernel};
 use crate::view::View;
@@ -23,23 +26,35 @@ use std::alloc::Global;
 use std::io::Write;
 use vcd_dump::{Stream, TimeUnit};
 
-/// Runs to the end by the kernel, and writes the dump.
+/// Runs to the end by the kernel, and writes the dump. Answers the report, which is that of rounds where
+/// the run goes on by these.
 pub(crate) fn dump_by_kernel<W: Write>(
     alloc: Global,
     run: &PreparedRun,
     view: &View,
+    pace: &mut Pace,
     out: &mut W,
 ) -> Result<Report, SimFault>
+    requires suits { Suits pace.old run.now.design.circuit (run.now.horizon + 1) }
     requires exist { All (Exists run.now.design.circuit) run.now.schedule }
     requires few { length run.now.schedule ≤ most_events }
-    ensures ok { IfOk result (λ report. Appends (W.contents out.old) (W.contents out.new)
-        (dump_of_design view.now run.now.horizon run.now.design) × (report ≡ report_of (seen_run run.now))) }
+    ensures report { pace.old ≡ Rounds → IfOk result (λ report. report ≡ report_of (seen_run run.now)) }
+    ensures ok { OnOk result (Appends (W.contents out.old) (W.contents out.new)
+        (dump_of_design view.now run.now.horizon run.now.design)) }
     ensures err { IfErr result (BreaksOff (W.contents out.old) (W.contents out.new)
         (dump_of_design view.now run.now.horizon run.now.design)) }
 {
     let nets = shown_nets(alloc, &run.design, view.show)?;
     let mut kernel = RunKernel::new(alloc, &run.design, run.horizon)?;
-    stream_run(alloc, &mut kernel, run, view.unit, nets.as_slice(), out)
+    stream_run(
+        alloc,
+        &mut kernel,
+        run,
+        view.unit,
+        nets.as_slice(),
+        pace,
+        out,
+    )
 }
 
 /// Applies the run's events, and then runs to the end and writes the dump of these nets.
@@ -49,10 +64,12 @@ fn stream_run<W: Write>(
     run: &PreparedRun,
     unit: TimeUnit,
     nets: &[u32],
+    pace: &mut Pace,
     out: &mut W,
 ) -> Result<Report, SimFault>
     requires well_formed { IsDesign run.now.design }
     requires running { kernel.old.failed ≡ false }
+    requires suits { Suits pace.old run.now.design.circuit (run.now.horizon + 1) }
     requires undrained { IsUndrained kernel.old.state }
     requires circuit { kernel.old.circuit ≡ run.now.design.circuit }
     requires end { kernel.old.end ≡ run.now.horizon + 1 }
@@ -60,7 +77,7 @@ fn stream_run<W: Write>(
     requires few { length run.now.schedule ≤ most_events }
     requires nets { All (λ net. net < length run.now.design.circuit) nets.now }
     requires once { AllPairs (λ (earlier later : ℕ). earlier ≢ later) nets.now }
-    ensures report { IfOk result (λ report.
+    ensures report { pace.old ≡ Rounds → IfOk result (λ report.
         report ≡ reported kernel.old.end kernel.old.circuit (steps kernel.old.state run.now.schedule)) }
     ensures ok { OnOk result (Appends (W.contents out.old) (W.contents out.new)
         (dump_text unit run.now.horizon (signals_of run.now.design.circuit nets.now))) }
@@ -70,7 +87,7 @@ fn stream_run<W: Write>(
     kernel.apply_all(run.schedule.events())?;
     let after = kernel.counts();
     let least = kernel.least_frontier();
-    stream_rounds(alloc, kernel, run, unit, nets, out)?;
+    stream_to_end(alloc, kernel, run, unit, nets, pace, out)?;
     let total = kernel.counts();
     Ok(Report {
         after,
@@ -79,17 +96,19 @@ fn stream_run<W: Write>(
     })
 }
 
-/// Does rounds to the end, and writes the dump of these nets: after each round what every net knows.
-fn stream_rounds<W: Write>(
+/// Goes on to the end, and writes the dump of these nets: what every net knows, each time it is more.
+fn stream_to_end<W: Write>(
     alloc: Global,
     kernel: &mut RunKernel<'_>,
     run: &PreparedRun,
     unit: TimeUnit,
     nets: &[u32],
+    pace: &mut Pace,
     out: &mut W,
 ) -> Result<(), SimFault>
     requires well_formed { IsDesign run.now.design }
     requires running { kernel.old.failed ≡ false }
+    requires suits { Suits pace.old run.now.design.circuit (run.now.horizon + 1) }
     requires sound { IsSound kernel.old.circuit kernel.old.end kernel.old.state }
     requires undrained { IsUndrained kernel.old.state }
     requires circuit { kernel.old.circuit ≡ run.now.design.circuit }
@@ -98,7 +117,7 @@ fn stream_rounds<W: Write>(
     requires once { AllPairs (λ (earlier later : ℕ). earlier ≢ later) nets.now }
     ensures running { OnOk result (kernel.new.failed ≡ false) }
     // Drains play no part in the counts.
-    ensures counts { OnOk result (kernel.new.state.counts ≡
+    ensures counts { pace.old ≡ Rounds → OnOk result (kernel.new.state.counts ≡
         (completed_within (most_rounds kernel.old.end kernel.old.circuit) kernel.old.state).counts) }
     ensures ok { OnOk result (Appends (W.contents out.old) (W.contents out.new)
         (dump_text unit run.now.horizon (signals_of run.now.design.circuit nets.now))) }
@@ -112,7 +131,7 @@ fn stream_rounds<W: Write>(
             stream.finish(out)?;
             return Ok(());
         }
-        kernel.round()?;
+        pace.go_on(kernel)?;
     }
 }
 

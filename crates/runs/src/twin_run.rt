@@ -12,8 +12,8 @@ ghost use Rattle.runs.specs.declared.fault.SimFault.TheVariants.{Memory};
 
 use crate::fault::SimFault;
 use crate::preparation::{PreparedRun, prepare_run};
-use crate::simulation::complete;
 use crate::source::Source;
+use crate::sweep_run::complete;
 use design::Design;
 use fanin_cone::agree;
 use logic3::Waveform;

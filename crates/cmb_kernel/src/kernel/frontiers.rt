@@ -1,4 +1,4 @@
-ghost use Rattle.std.specs.Prelude.{◌≡◌, ◌<◌, false, length};
+ghost use Rattle.std.specs.Prelude.{◌≡◌, ℕ, ◌<◌, false, length};
 ghost use Rattle.std.specs.Bool.{OnTrue};
 ghost use Rattle.design.specs.Equations.{waves_of};
 ghost use Rattle.cmb_kernel.specs.State.{frontier_at, least_frontier, IsUndrained, is_complete, waves_in};
@@ -20,6 +20,8 @@ impl<'d, F: Fabric> Kernel<'d, F> {
     pub fn is_complete(&self) -> bool
         requires { self.now.failed ≡ false }
         ensures complete { result ≡ is_complete self.now.state }
+        ensures frontiers { OnTrue result ((net : ℕ) → net < length self.now.circuit →
+            frontier_at self.now.state net ≡ self.now.end) }
         ensures waves { OnTrue result (waves_in self.now.state ≡
             waves_kept self.now.circuit self.now.end self.now.state) }
         ensures undrained { IsUndrained self.now.state →

@@ -1,5 +1,5 @@
-use Rattle.std.proofs.Common.{◌+◌, ◌≤◌, sym, subst}
-use Rattle.std.proofs.lemmas.Result.{err_from_is_err_and, IfErr-weaker, IfOk-weaker}
+use Rattle.std.proofs.Common.{◌+◌, ◌≤◌, Result, Ok, Err, IfOk, OnOk, refl, sym, subst}
+use Rattle.std.proofs.lemmas.Result.{err_from_is_err_and, IfErr-weaker, IfOk-weaker, on_ok_weaker}
 use Rattle.cmb_kernel.specs.State.{most_rounds}
 use Rattle.runs.specs.declared.simulation.Report.{Report}
 use Rattle.runs.specs.Source.{seen_source}
@@ -18,15 +18,21 @@ returns-in_err-run-clause-err g c =
     let view = c.args.view.now in
     rw (p.1, p.2) (RunEndsBy-IsRefusal (run_of_source source view.horizon) _ _ _ (simulated-bad source view _) c.in_err-run.ensures.err)
 
+-- what holds of a result, and of its value
+both : {A F : Type 0} (P : Type 0) (Q : A → Type 0) (result : Result A F) → OnOk result P → IfOk result Q → IfOk result (λ value. P × Q value)
+both P Q (Ok value) p q = (p, q)
+both P Q (Err fault) p q = tt
+
 pub returns-clause-ok : goal.returns-clause-ok
 returns-clause-ok g c =
-    rw (simulated-good (seen_source c.args.source.now) c.args.view.now _ c.in_ok-run.ensures.ok) c.dump_by_kernel.ensures.ok
+    rw (simulated-good (seen_source c.args.source.now) c.args.view.now _ c.in_ok-run.ensures.ok)
+    (both _ _ c.dump_by_kernel.result c.dump_by_kernel.ensures.ok (c.dump_by_kernel.ensures.report refl))
 
 pub returns-clause-shows : goal.returns-clause-shows
 returns-clause-shows g c =
     rw c.in_ok-run.ensures.ok
-    (IfOk-weaker c.dump_by_kernel.result _ _
-    (λ report done empty. IfSome-appended _ _ _ _ empty done.0
+    (on_ok_weaker c.dump_by_kernel.result
+    (λ done empty. IfSome-appended _ _ _ _ empty done
     (ShowsValues-run_of_source (seen_source c.args.source.now) c.args.view.now _ c.in_ok-run.ensures.ok))
     c.dump_by_kernel.ensures.ok)
 
@@ -35,8 +41,8 @@ returns-clause-rounds g c =
     let run = seen_run c.in_ok-run.run' in
     rw c.in_ok-run.ensures.ok
     (IfOk-weaker c.dump_by_kernel.result _ _
-    (λ report done. subst (λ (r : Report). r.total.rounds ≤ most_rounds (run.horizon + 1) run.design.circuit) (sym done.1) (few_rounds run))
-    c.dump_by_kernel.ensures.ok)
+    (λ report is. subst (λ (r : Report). r.total.rounds ≤ most_rounds (run.horizon + 1) run.design.circuit) (sym is) (few_rounds run))
+    (c.dump_by_kernel.ensures.report refl))
 
 pub returns-clause-err : goal.returns-clause-err
 returns-clause-err g c =

@@ -1,7 +1,6 @@
-use Rattle.std.proofs.Common.{◌≡◌, ◌+◌, Result, Ok, Err, OnOk, refl, ap, subst, ◌∙◌}
-use Rattle.std.specs.Prelude.{IfOk}
+use Rattle.std.proofs.Common.{◌≡◌, ◌+◌, refl, ap, subst, ◌∙◌}
 use Rattle.std.specs.Io.KnownBytes.{Appends}
-use Rattle.std.proofs.lemmas.Result.{IfOk-weaker, IfErr-weaker}
+use Rattle.std.proofs.lemmas.Result.{IfOk-weaker, IfErr-weaker, on_ok_weaker}
 use Rattle.cmb_kernel.specs.State.{KernelView, fresh, floor_at}
 use Rattle.cmb_kernel.proofs.CallerLemmas.{started_floor}
 use Rattle.runs.specs.Simulated.{seen_run}
@@ -28,24 +27,19 @@ stream_run-requires-clause-once g c =
     rw (c.as_slice.ensures.value, c.in_ok-nets.ensures.nets)
     (AllPairs-shown_nets c.args.view.now.show c.args.run.now.design c.shown_nets.ensures.well_formed)
 
--- what holds of a result, and of its value
-both : {A F : Type 0} (P : Type 0) (Q : A → Type 0) (result : Result A F) → OnOk result P → IfOk result Q → IfOk result (λ value. P × Q value)
-both P Q (Ok value) p q = (p, q)
-both P Q (Err fault) p q = tt
-
-pub returns-clause-ok : goal.returns-clause-ok
-returns-clause-ok g c =
+pub returns-clause-report : goal.returns-clause-report
+returns-clause-report g c = λ by.
     let run = seen_run c.args.run.now in
     let told = c.in_ok-kernel.ensures (λ e. (cc)) in
     let start : c.in_ok-kernel.kernel ≡ fresh run.design.circuit (run.horizon + 1) = cc in
+    IfOk-weaker c.stream_run.result _ _ (λ report done. done ∙ report_of-fresh run c.in_ok-kernel.kernel c.args.run.now.schedule start refl)
+    (c.stream_run.ensures.report by)
+
+pub returns-clause-ok : goal.returns-clause-ok
+returns-clause-ok g c =
     let text = dump_of_design-nets c.args.view.now c.args.run.now.horizon c.args.run.now.design c.as_slice.result.now
     (c.as_slice.ensures.value ∙ c.in_ok-nets.ensures.nets) in
-    IfOk-weaker c.stream_run.result _ _
-    (λ report done. (
-      subst (Appends (g.W.Write.contents c.args.out.now) (g.W.Write.contents c.stream_run.new.out)) text done.0,
-      done.1 ∙ report_of-fresh run c.in_ok-kernel.kernel c.args.run.now.schedule start refl,
-    ))
-    (both _ _ c.stream_run.result c.stream_run.ensures.ok c.stream_run.ensures.report)
+    on_ok_weaker c.stream_run.result (subst (Appends (g.W.Write.contents c.args.out.now) (g.W.Write.contents c.stream_run.new.out)) text) c.stream_run.ensures.ok
 
 pub returns-clause-err : goal.returns-clause-err
 returns-clause-err g c =

@@ -8,7 +8,7 @@ use Rattle.vcd_dump.proofs.CallerLemmas.{stream_at-can, stream_at-spanned}
 use Rattle.runs.specs.Drained.{values_of}
 use Rattle.runs.proofs.Drains.{least_same}
 use Rattle.runs.proofs.Ends.{BreaksOff-dump}
-use Rattle.runs.proofs.Rounds.{parts_are}
+use Rattle.runs.proofs.Streamed.{parts_are}
 use Rattle.runs.proofs.streaming.write_known.Given.{Over}
 use Rattle.runs.proofs.streaming.write_known.Goals as goal
 use Rattle.runs.proofs.streaming.write_known.Goals.{After-as_slice}

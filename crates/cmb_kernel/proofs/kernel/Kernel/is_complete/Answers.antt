@@ -1,9 +1,9 @@
-use Rattle.std.proofs.Common.{◌==◌, eqb-true, ap, subst, ◌∙◌, arith}
+use Rattle.std.proofs.Common.{◌==◌, eqb-true, ap, sym, subst, ◌∙◌, arith}
 use Rattle.std.proofs.lemmas.Bool.{OnTrue_from, OnTrue_at}
 use Rattle.cmb_kernel.specs.State.{KernelView, least_frontier}
 use Rattle.cmb_kernel.specs.Sound.{IsSound}
 use Rattle.cmb_kernel.proofs.Running.{waves_are, waves_whole}
-use Rattle.cmb_kernel.proofs.Completion.{complete_from_least, least_tells}
+use Rattle.cmb_kernel.proofs.Completion.{complete_from_least, frontier_when_complete, is_complete-true, least_tells}
 use Rattle.cmb_kernel.proofs.kernel.Kernel.is_complete.Goals as goal
 use Rattle.cmb_kernel.proofs.kernel.Kernel.is_complete.Goals.{After-least_frontier}
 
@@ -14,6 +14,14 @@ returns-clause-complete g c =
     ∙ ap (λ n. least_frontier c.args.self.now.end c.args.self.now.state == n) (ap (λ (r : KernelView). r.end) c.self.view_is)
     ∙ least_tells c.args.self.now.circuit c.args.self.now.end c.args.self.now.state
     (subst (λ (kernel : KernelView). IsSound kernel.circuit kernel.end kernel.state) c.self.view_is all.sound)
+
+pub returns-clause-frontiers : goal.returns-clause-frontiers
+returns-clause-frontiers g c =
+    let all = c.self.invariant (rw (← c.self.view_is) at c.requires) in
+    let sound = subst (λ (kernel : KernelView). IsSound kernel.circuit kernel.end kernel.state) c.self.view_is all.sound in
+    OnTrue_from (c.least_frontier.result == c.self.inside.end) _ (λ is.
+    frontier_when_complete c.args.self.now.circuit c.args.self.now.end c.args.self.now.state sound
+    (is_complete-true c.args.self.now.state (sym (returns-clause-complete g c) ∙ is)))
 
 pub returns-clause-waves : goal.returns-clause-waves
 returns-clause-waves g c =

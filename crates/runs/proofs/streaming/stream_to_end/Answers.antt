@@ -10,9 +10,12 @@ use Rattle.vcd_dump.specs.Spans.{StreamView, begun, parts_of, span_text, stream_
 use Rattle.vcd_dump.proofs.CallerLemmas.{stream_at-begun}
 use Rattle.runs.specs.Drained.{values_of}
 use Rattle.runs.specs.Ends.{BreaksOff}
-use Rattle.runs.proofs.Rounds.{Streamed, streamed_begins, least_within, streamed_round, streamed_less, known_whole, counts_are}
+use Rattle.runs.specs.Paces.{Suits}
+use Rattle.runs.specs.declared.pace.Pace.{Pace}
+use Rattle.runs.specs.declared.pace.Pace.TheVariants.{Rounds}
+use Rattle.runs.proofs.Streamed.{Streamed, same, led, suits_of, suits_still, streamed_begins, least_within, streamed_more, streamed_less, known_whole, counts_are}
 use Rattle.runs.proofs.Streams.{text_before, text_begins, breaks_at_first, goes_on, breaks_in_span, breaks_here, ends, breaks_at_end}
-use Rattle.runs.proofs.streaming.stream_rounds.Goals as goal
+use Rattle.runs.proofs.streaming.stream_to_end.Goals as goal
 
 -- a stream that began
 begins_at : (circuit : Circuit) (nets : List ℕ) (horizon : ℕ) (stream : StreamView) → stream ≡ begun (length nets) horizon →
@@ -41,11 +44,20 @@ loop-stream-init g c =
     let start = c.args.kernel.now in
     let written : c.in_ok-stream.stream.written ≡ 0 = ap (λ (s : StreamView). s.written) c.in_ok-stream.ensures.stream in
     record {
-      streamed = subst (Streamed start start) (sym written) (streamed_begins start c.requires.sound c.requires.undrained);
+      streamed = subst (Streamed (c.args.pace.now ≡ Rounds) start start) (sym written)
+          (streamed_begins (c.args.pace.now ≡ Rounds) start c.requires.sound c.requires.undrained);
+      same = λ by. by;
+      suits = c.requires.suits;
       stream = begins_at circuit c.args.nets.now c.args.run.now.horizon c.in_ok-stream.stream c.in_ok-stream.ensures.stream;
       text = subst (λ to. Appends (g.W.Write.contents c.args.out.now) (g.W.Write.contents c.begin.new.out) (text_before c.args.unit c.args.run.now.horizon circuit c.args.nets.now to)) (sym written)
           (subst (Appends (g.W.Write.contents c.args.out.now) (g.W.Write.contents c.begin.new.out)) (text_begins c.args.unit c.args.run.now.horizon circuit c.args.nets.now) c.in_ok-stream.ensures.ok);
     }
+
+pub go_on-requires-clause-suits : goal.go_on-requires-clause-suits
+go_on-requires-clause-suits g c =
+    let inv = c.loop-stream.invariant in
+    suits_of c.loop-stream.pace c.args.run.now.design.circuit (c.args.run.now.horizon + 1) c.args.kernel.now c.write_known.new.kernel
+    (same inv.streamed c.in_ok-write_known.ensures.drains) c.requires.circuit c.requires.end inv.suits
 
 pub write_known-requires-clause-end : goal.write_known-requires-clause-end
 write_known-requires-clause-end g c =
@@ -99,7 +111,7 @@ returns-in_err-finish-clause-err g c =
 pub returns-then-is_complete-clause-counts : goal.returns-then-is_complete-clause-counts
 returns-then-is_complete-clause-counts g c =
     let ok = subst IsCircuit (sym c.requires.circuit) (IsCircuit-from_IsDesign c.args.run.now.design c.requires.well_formed) in
-    counts_are c.loop-stream.invariant.streamed c.in_ok-write_known.ensures.drains c.in_ok-write_known.ensures.floors ok c.requires.sound
+    λ by. counts_are c.loop-stream.invariant.streamed c.in_ok-write_known.ensures.drains c.in_ok-write_known.ensures.floors ok by c.requires.sound
     (sym c.is_complete.ensures.complete ∙ c.if-is_complete.true)
 
 pub returns-then-is_complete-clause-ok : goal.returns-then-is_complete-clause-ok
@@ -124,10 +136,8 @@ loop-stream-smaller g c =
     let inv = c.loop-stream.invariant in
     let ok = subst IsCircuit (sym c.requires.circuit) (IsCircuit-from_IsDesign c.args.run.now.design c.requires.well_formed) in
     let drains = c.in_ok-write_known.ensures.drains in
-    let runs = ap (λ (k : KernelView). k.failed) c.in_ok-round.ensures.outcome.ok ∙ ap (λ (k : KernelView). k.failed) drains.run
-    ∙ ap (λ (k : KernelView). k.failed) inv.streamed.run ∙ c.requires.running in
-    streamed_less inv.streamed drains c.in_ok-write_known.ensures.floors ok c.round.new.self c.in_ok-round.ensures.outcome.ok
-    (c.in_ok-round.ensures.outcome.sound runs) c.in_ok-round.ensures.raises (sym c.is_complete.ensures.complete ∙ c.if-is_complete.false)
+    streamed_less inv.streamed drains c.in_ok-write_known.ensures.floors ok c.go_on.new.kernel c.in_ok-go_on.ensures.goes
+    c.in_ok-go_on.ensures.sound c.in_ok-go_on.ensures.raises (sym c.is_complete.ensures.complete ∙ c.if-is_complete.false)
 
 pub loop-stream-preserved : goal.loop-stream-preserved
 loop-stream-preserved g c =
@@ -136,8 +146,6 @@ loop-stream-preserved g c =
     let circuit = ap (λ (k : KernelView). k.circuit) inv.streamed.run ∙ c.requires.circuit in
     let ok = subst IsCircuit (sym c.requires.circuit) (IsCircuit-from_IsDesign c.args.run.now.design c.requires.well_formed) in
     let drains = c.in_ok-write_known.ensures.drains in
-    let runs = ap (λ (k : KernelView). k.failed) c.in_ok-round.ensures.outcome.ok ∙ ap (λ (k : KernelView). k.failed) drains.run
-    ∙ ap (λ (k : KernelView). k.failed) inv.streamed.run ∙ c.requires.running in
     let next = goes_at c.args.run.now.design.circuit c.loop-stream.kernel.circuit c.args.nets.now c.args.run.now.horizon c.loop-stream.stream
     c.write_known.new.stream _ circuit inv.stream c.in_ok-write_known.ensures.stream in
     let from = c.loop-stream.stream.written in
@@ -146,16 +154,20 @@ loop-stream-preserved g c =
     let went = goes_on c.args.unit c.args.run.now.horizon c.args.run.now.design.circuit c.args.nets.now (g.W.Write.contents c.args.out.now) (g.W.Write.contents c.loop-stream.out) from inv.text (g.W.Write.contents c.write_known.new.out) to inv.streamed.ahead
     (subst (λ cs. Appends (g.W.Write.contents c.loop-stream.out) (g.W.Write.contents c.write_known.new.out) (span_text from to (parts_of (values_of cs c.args.nets.now) from to))) circuit c.in_ok-write_known.ensures.ok) in
     record {
-      streamed = subst (Streamed start c.round.new.self) (sym written)
-          (streamed_round inv.streamed drains c.in_ok-write_known.ensures.floors ok c.round.new.self c.in_ok-round.ensures.outcome.ok
-          (c.in_ok-round.ensures.outcome.sound runs) c.in_ok-round.ensures.raises (sym c.is_complete.ensures.complete ∙ c.if-is_complete.false));
+      streamed = subst (Streamed (c.args.pace.now ≡ Rounds) start c.go_on.new.kernel) (sym written)
+          (streamed_more inv.streamed drains c.in_ok-write_known.ensures.floors ok c.go_on.new.kernel c.in_ok-go_on.ensures.goes
+          c.in_ok-go_on.ensures.sound c.in_ok-go_on.ensures.raises (sym c.is_complete.ensures.complete ∙ c.if-is_complete.false)
+          (λ by. c.in_ok-go_on.ensures.rounds (inv.same by)) c.in_ok-go_on.ensures.floors);
+      same = λ by. c.go_on.ensures.same (inv.same by);
+      suits = suits_still c.go_on.new.self c.args.run.now.design.circuit (c.args.run.now.horizon + 1) c.args.kernel.now c.go_on.new.kernel
+          (led inv.streamed drains c.go_on.new.kernel c.in_ok-go_on.ensures.goes) c.requires.circuit c.requires.end c.in_ok-go_on.ensures.suits;
       stream = next ∙ ap (stream_at (values_of c.args.run.now.design.circuit c.args.nets.now) c.args.run.now.horizon) (sym written);
       text = subst (λ at. Appends (g.W.Write.contents c.args.out.now) (g.W.Write.contents c.write_known.new.out) (text_before c.args.unit c.args.run.now.horizon c.args.run.now.design.circuit c.args.nets.now at)) (sym written) went;
     }
 
-pub returns-in_err-round-clause-err : goal.returns-in_err-round-clause-err
-returns-in_err-round-clause-err g c =
-    let p = err_from_is_err_and c.from_residual-in_err-round.result c.from_residual-in_err-round.ensures.1 in
+pub returns-in_err-go_on-clause-err : goal.returns-in_err-go_on-clause-err
+returns-in_err-go_on-clause-err g c =
+    let p = err_from_is_err_and c.from_residual-in_err-go_on.result c.from_residual-in_err-go_on.ensures.1 in
     let inv = c.loop-stream.invariant in
     let circuit = ap (λ (k : KernelView). k.circuit) inv.streamed.run ∙ c.requires.circuit in
     let end = ap (λ (k : KernelView). k.end) inv.streamed.run ∙ c.requires.end in

@@ -1,16 +1,20 @@
--- What every net knew before the last round went out and was forgotten.
-use Rattle.std.proofs.Common.{◌≡◌, ◌-◌}
+-- What every net knew before the last step went out and was forgotten.
+use Rattle.std.proofs.Common.{◌≡◌, ◌+◌, ◌-◌}
 use Rattle.std.specs.Io.KnownBytes.{Appends}
 use Rattle.cmb_kernel.specs.State.{least_frontier}
 use Rattle.vcd_dump.specs.Spans.{stream_at}
 use Rattle.runs.specs.Drained.{values_of}
-use Rattle.runs.proofs.Rounds.{Streamed}
+use Rattle.runs.specs.Paces.{Suits}
+use Rattle.runs.specs.declared.pace.Pace.TheVariants.{Rounds}
+use Rattle.runs.proofs.Streamed.{Streamed}
 use Rattle.runs.proofs.Streams.{text_before}
-use Rattle.runs.proofs.streaming.stream_rounds.Given as goal
+use Rattle.runs.proofs.streaming.stream_to_end.Given as goal
 
 abbrev pub invariant-loop-stream : goal.invariant-loop-stream
 invariant-loop-stream g l = record {
-  streamed : Streamed l.fn.kernel l.kernel l.stream.written;
+  streamed : Streamed (l.fn.pace ≡ Rounds) l.fn.kernel l.kernel l.stream.written;
+  same : l.fn.pace ≡ Rounds → l.pace ≡ Rounds;
+  suits : Suits l.pace l.run.design.circuit (l.run.horizon + 1);
   stream : l.stream ≡ stream_at (values_of l.run.design.circuit l.nets) l.run.horizon l.stream.written;
   text : Appends (g.W.Write.contents l.fn.out) (g.W.Write.contents l.out) (text_before l.fn.unit l.run.horizon l.run.design.circuit l.nets l.stream.written);
 }

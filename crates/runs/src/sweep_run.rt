@@ -1,0 +1,104 @@
+//! A run by the kernel in sweeps.
+ghost use Rattle.std.specs.Prelude.{◌≡◌, ◌+◌, ◌≤◌, false, [], length, All, Some, Err, IfErr, IfOk, IfSome, IsOkAnd, OnOk};
+ghost use Rattle.std.specs.Io.KnownBytes.{Appends};
+ghost use Rattle.cmb_events.specs.Schedule.{most_events, Exists};
+ghost use Rattle.cmb_kernel.specs.State.{IsUndrained};
+ghost use Rattle.cmb_kernel.specs.Sound.{IsSound};
+ghost use Rattle.runs.specs.Ends.{BreaksOff, RunEndsBy};
+ghost use Rattle.runs.specs.Paces.{Suits};
+ghost use Rattle.runs.specs.Simulated.{IsKnown, dump_in, run_of_source, simulated};
+ghost use Rattle.runs.specs.Source.{dump_of_design, seen_source, MayWantMemory};
+ghost use Rattle.runs.specs.Viewed.{ShowsValues};
+ghost use Rattle.runs.specs.declared.fault.SimFault.TheVariants.{Memory};
+
+use crate::fault::SimFault;
+use crate::pace::Pace;
+use crate::preparation::{PreparedRun, prepare_run};
+use crate::simulation::RunKernel;
+use crate::source::Source;
+use crate::streaming::dump_by_kernel;
+use crate::view::View;
+use cmb_kernel::KernelFault;
+use std::alloc::Global;
+use std::io::Write;
+
+/// Runs a source by the kernel, which applies the events that are picked and then picks its own: it
+/// sweeps through the nets in the order in which values flow, some ticks at a time. After each sweep
+/// what every net knows goes out and is forgotten.
+///
+/// The text is that of [`simulate`](crate::simulate), since no order of events shows in it; it takes
+/// far fewer events, and memory for what is in flight in a window of ticks alone.
+///
+/// # Errors
+/// As [`simulate`](crate::simulate).
+pub fn sweep<W: Write>(
+    alloc: Global,
+    source: &Source<'_>,
+    view: &View,
+    out: &mut W,
+) -> Result<(), SimFault>
+    ensures ok { OnOk result (IsOkAnd (dump_in (simulated (seen_source source.now) view.now))
+        (Appends (W.contents out.old) (W.contents out.new))) }
+    ensures shows { OnOk result (W.contents out.old ≡ Some [] → IfSome (W.contents out.new) (λ text.
+        IsOkAnd (run_of_source (seen_source source.now) view.now.horizon)
+        (λ run. ShowsValues view.now run.design text))) }
+    ensures err { IfErr result (RunEndsBy (dump_in (simulated (seen_source source.now) view.now))
+        (W.contents out.old) (W.contents out.new)) }
+    ensures memory { result ≡ Err Memory → MayWantMemory (seen_source source.now) view.now.horizon }
+{
+    let run = prepare_run(alloc, source, view.horizon)?;
+    dump_by_sweeps(alloc, &run, view, out)
+}
+
+/// Runs to the end in sweeps, and writes the dump.
+fn dump_by_sweeps<W: Write>(
+    alloc: Global,
+    run: &PreparedRun,
+    view: &View,
+    out: &mut W,
+) -> Result<(), SimFault>
+    requires exist { All (Exists run.now.design.circuit) run.now.schedule }
+    requires few { length run.now.schedule ≤ most_events }
+    ensures ok { OnOk result (Appends (W.contents out.old) (W.contents out.new)
+        (dump_of_design view.now run.now.horizon run.now.design)) }
+    ensures err { IfErr result (BreaksOff (W.contents out.old) (W.contents out.new)
+        (dump_of_design view.now run.now.horizon run.now.design)) }
+{
+    let mut pace = Pace::sweeps(alloc, &run.design, run.horizon)?;
+    dump_by_kernel(alloc, run, view, &mut pace, out)?;
+    Ok(())
+}
+
+/// A run's kernel at the end, where it knows each net up to the horizon. Nothing was taken out.
+pub(crate) fn complete<'r>(alloc: Global, run: &'r PreparedRun) -> Result<RunKernel<'r>, SimFault>
+    requires exist { All (Exists run.now.design.circuit) run.now.schedule }
+    requires few { length run.now.schedule ≤ most_events }
+    ensures running { IfOk result (λ kernel. kernel.failed ≡ false) }
+    ensures circuit { IfOk result (λ kernel. kernel.circuit ≡ run.now.design.circuit) }
+    ensures end { IfOk result (λ kernel. kernel.end ≡ run.now.horizon + 1) }
+    ensures known { IfOk result IsKnown }
+    ensures undrained { IfOk result (λ kernel. IsUndrained kernel.state) }
+    ensures err { IfErr result (λ fault. fault ≡ SimFault.Memory) }
+{
+    let mut kernel = RunKernel::new(alloc, &run.design, run.horizon)?;
+    kernel.apply_all(run.schedule.events())?;
+    let mut pace = Pace::sweeps(alloc, &run.design, run.horizon)?;
+    run_to_end(&mut kernel, &mut pace)?;
+    Ok(kernel)
+}
+
+/// Goes on until each net is known to the end.
+fn run_to_end(kernel: &mut RunKernel<'_>, pace: &mut Pace) -> Result<(), KernelFault>
+    requires running { kernel.old.failed ≡ false }
+    requires suits { Suits pace.old kernel.old.circuit kernel.old.end }
+    requires undrained { IsUndrained kernel.old.state }
+    ensures goes { OnOk result (kernel.new ≡ record kernel.old { state = kernel.new.state }) }
+    ensures known { OnOk result (IsKnown kernel.new) }
+    ensures undrained { OnOk result (IsUndrained kernel.new.state) }
+    ensures err { IfErr result (λ fault. fault ≡ KernelFault.Memory) }
+{
+    while !kernel.is_complete() {
+        pace.go_on(kernel)?;
+    }
+    Ok(())
+}

@@ -1,0 +1,35 @@
+//! How many ticks past those that every net knows a sweep goes.
+//!
+//! A wide window lets few sweeps do; but what happens in it is in flight all at once. So it grows while a
+//! sweep tells few changes, and shrinks where one tells many.
+ghost use Rattle.std.specs.Prelude.{◌≡◌, ◌+◌, min};
+ghost use Rattle.runs.specs.Windows.{next_width};
+
+/// The width of a run's first window, in ticks.
+pub(crate) const FIRST_WIDTH: u64 = 64;
+
+/// The most changes that a sweep should tell: what is in flight in a run follows it.
+const MOST_TOLD: u64 = 262_144;
+
+/// The greatest width: longer than the longest run.
+const WIDEST: u64 = 16_777_216;
+
+/// The tick up to which the next sweep goes, where so many ticks are known of every net.
+pub(crate) fn reach(known: u64, width: u64, end: u64) -> u64
+    ensures { result ≡ min end (known + width) }
+{
+    end.min(known.saturating_add(width))
+}
+
+/// The width of the next window, behind a sweep over one of this width that told so many changes.
+pub(crate) fn next_width(width: u64, told: u64) -> u64
+    ensures { result ≡ next_width width told }
+{
+    if told < MOST_TOLD / 2 {
+        WIDEST.min(width.saturating_mul(2))
+    } else if told > MOST_TOLD {
+        1.max(width / 2)
+    } else {
+        width
+    }
+}
