@@ -1,11 +1,15 @@
+mod Behind
 mod Built
 pub mod CallerLemmas
 mod Joined
 mod Numbers
+mod Ordered
 mod Parts
 mod SampleTicks
 mod Solution
 mod Starts
 mod Stored
 mod Ticks
+mod Times
+mod Walking
 mod WellFormed
