@@ -5,11 +5,13 @@ mod Joined
 mod Numbers
 mod Ordered
 mod Parts
+mod Ranks
 mod SampleTicks
 mod Solution
 mod Starts
 mod Stored
 mod Ticks
 mod Times
+mod WalkEnds
 mod Walking
 mod WellFormed

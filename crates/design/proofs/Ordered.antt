@@ -1,111 +1,16 @@
 -- Inputs, gates and flip-flops in one list.
-use Rattle.std.proofs.Common.{◌≡◌, ◌≢◌, ℕ, ◌+◌, ◌==◌, ◌&&◌, ◌<◌, ◌≤◌, not, Bool, true, false, cond, IsTrue, List, [], ◌++◌, length, get_or, take, map, Option, option_map, Some, None, slice_get, refl, sym, ap, ◌∙◌, arith, All, AllPairs, Contains, ◌⊎◌, inl, inr, ⊎_elim, length-append}
+use Rattle.std.proofs.Common.{◌≡◌, ◌≢◌, ℕ, ◌+◌, ◌==◌, ◌<◌, ◌≤◌, Bool, true, false, cond, List, [], ◌++◌, length, get_or, take, refl, sym, ap, ◌∙◌, arith, All, AllPairs, Contains, inl, inr, ⊎_elim, length-append}
 use Rattle.std.specs.List.{range_with_len}
-use Rattle.std.specs.Option.{option_map_or}
 use Rattle.std.proofs.lemmas.Bool.{eqb-true, cases_lt}
 use Rattle.std.proofs.lemmas.Bool.Decides.{nat_tests}
 use Rattle.std.proofs.lemmas.List.{get_or_append_left, get_or-append_right}
 use Rattle.std.proofs.lemmas.List.Elements.{All-append, All-weaker, All-contains_itself, Contains-append_right, filter_passes}
-use Rattle.std.proofs.lemmas.List.FromFn.{length-map-range_with_len, get_or-map-range_with_len}
-use Rattle.std.proofs.lemmas.Option.{slice_get_cases, slice_get_within}
-use Rattle.netlist.specs.declared.part.Part.{Part}
-use Rattle.netlist.specs.declared.part.Part.TheVariants.{Input, Gate, Flop}
-use Rattle.design.specs.Circuit.{Net, Circuit}
-use Rattle.design.specs.Flow.{rank, rank_at, IsGate, FollowsFlow}
-use Rattle.design.specs.Walk.{times, nets_of_rank, is_seen, IsGateOrder, IsWalk}
-use Rattle.design.proofs.WellFormed.{net_there}
-use Rattle.design.proofs.Times.{the_count, times-append, some_time, contains_from_times, once_from_times, times_past, times_within}
+use Rattle.design.specs.Circuit.{Circuit}
+use Rattle.design.specs.Flow.{rank_at, IsGate, FollowsFlow}
+use Rattle.design.specs.Walk.{times, nets_of_rank, IsGateOrder}
+use Rattle.design.proofs.Ranks.{rank_within, rank_past}
+use Rattle.design.proofs.Times.{test_fails, the_count, times-append, some_time, contains_from_times, once_from_times, times_past, times_within}
 use Rattle.design.proofs.Behind.{Behind, AtEach, AtEach-append, follows_from_each, each_from_follows}
-
--- ---- ranks
-
-three_ranks : (part : Part) → rank part < 3
-three_ranks Input = omega arith
-three_ranks (Gate kind) = omega arith
-three_ranks Flop = omega arith
-
-abbrev rank_of : Option Net → ℕ
-rank_of found = option_map_or (λ (n : Net). rank n.part) found 3
-
--- a net has one of the three ranks, and what is past the last net has none of them
-rank_within : (circuit : Circuit) (net : ℕ) → net < length circuit → rank_at circuit net < 3
-rank_within circuit net below = go (slice_get_cases circuit net).1
-  where
-    go : ((n : Net) × (net < length circuit) × (slice_get circuit net ≡ Some n) × (get_or circuit net n ≡ n))
-        ⊎ ((length circuit ≤ net) × (slice_get circuit net ≡ None)) → rank_at circuit net < 3
-    go (inl (n, within, at, is)) = let same = ap rank_of at in omega (arith, same, three_ranks n.part)
-    go (inr (past, none)) = absurd (omega arith)
-
-rank_past : (circuit : Circuit) (net : ℕ) → length circuit ≤ net → rank_at circuit net ≡ 3
-rank_past circuit net past = go (slice_get_cases circuit net).1
-  where
-    go : ((n : Net) × (net < length circuit) × (slice_get circuit net ≡ Some n) × (get_or circuit net n ≡ n))
-        ⊎ ((length circuit ≤ net) × (slice_get circuit net ≡ None)) → rank_at circuit net ≡ 3
-    go (inl (n, within, at, is)) = absurd (omega arith)
-    go (inr (past, none)) = ap rank_of none
-
-pub rank_is : (circuit : Circuit) (net : ℕ) (part : Part) → option_map (λ (n : Net). n.part) (slice_get circuit net) ≡ Some part →
-    rank_at circuit net ≡ rank part
-rank_is circuit net part part_is =
-    let found = net_there (λ (n : Net). n.part) (slice_get circuit net) part part_is in
-    ap rank_of found.1 ∙ ap rank found.2
-
-pub test_fails : (m n : ℕ) → m ≢ n → (m == n) ≡ false
-test_fails m n other = grind (arith, nat_tests)
-
--- ---- the walk begins and ends
-
-unseen_gate : (test : Bool) → not test ≡ false → test ≡ true
-unseen_gate true e = refl
-unseen_gate false e = sym e
-
-no_seen_gate : (test : Bool) → (test && not test) ≡ false
-no_seen_gate true = refl
-no_seen_gate false = refl
-
-module _ (circuit : Circuit) where
-  abbrev is_other : ℕ → Bool
-  is_other net = not (rank_at circuit net == 1)
-
-  -- at first other nets were seen, and no gate
-  pub IsWalk-start : (seen : List Bool) → seen ≡ map is_other (range_with_len 0 (length circuit)) → IsWalk circuit seen [] []
-  IsWalk-start seen is = record {
-    size = ap length is ∙ length-map-range_with_len is_other 0 (length circuit);
-    gates = λ net below new. eqb-true (rank_at circuit net) 1 (unseen_gate (rank_at circuit net == 1) (sym (mark net below) ∙ new));
-    each = λ net. sym (ap the_count (none net));
-    looked = λ k d within. absurd (omega (arith, within));
-    hangs = λ i j d before within. absurd (omega (arith, within));
-    follows = λ place gate source at. absurd (omega (arith, slice_get_within [] place gate at));
-  }
-    where
-      mark : (net : ℕ) → net < length circuit → is_seen seen net ≡ is_other net
-      mark net below = ap (λ seen. is_seen seen net) is ∙ get_or-map-range_with_len is_other 0 (length circuit) net net false below (omega arith)
-
-      none : (net : ℕ) → ((rank_at circuit net == 1) && is_seen seen net) ≡ false
-      none net = ⊎_elim
-          (λ below. ap (λ seen. (rank_at circuit net == 1) && seen) (mark net below) ∙ no_seen_gate (rank_at circuit net == 1))
-          (λ past. ap (λ test. test && is_seen seen net) (test_fails (rank_at circuit net) 1 (λ one. omega (arith, one, rank_past circuit net past))))
-          (cases_lt net (length circuit))
-
-  -- in the end each gate was left
-  pub IsGateOrder-walk : (seen : List Bool) (left : List ℕ) → ((net : ℕ) → net < length circuit → IsTrue (is_seen seen net)) →
-      IsWalk circuit seen [] left → IsGateOrder circuit left
-  IsGateOrder-walk seen left all walk = record {
-    each = λ net. omega (arith, walk.each net, ap the_count (whole net));
-    follows = walk.follows;
-  }
-    where
-      and_true : (test : Bool) → (test && true) ≡ test
-      and_true true = refl
-      and_true false = refl
-
-      whole : (net : ℕ) → ((rank_at circuit net == 1) && is_seen seen net) ≡ (rank_at circuit net == 1)
-      whole net = ⊎_elim
-          (λ below. ap (λ seen. (rank_at circuit net == 1) && seen) (all net below) ∙ and_true (rank_at circuit net == 1))
-          (λ past.
-          let fails = test_fails (rank_at circuit net) 1 (λ one. omega (arith, one, rank_past circuit net past)) in
-          ap (λ test. test && is_seen seen net) fails ∙ sym fails)
-          (cases_lt net (length circuit))
 
 -- ---- lists of a rank
 

@@ -12,6 +12,19 @@ use Rattle.design.specs.Walk.{times}
 pub is_itself : (net : ℕ) → (net == net) ≡ true
 is_itself net = grind (arith, nat_tests)
 
+pub test_fails : (m n : ℕ) → m ≢ n → (m == n) ≡ false
+test_fails m n other = grind (arith, nat_tests)
+
+pub apart : (m n : ℕ) → (m == n) ≡ false → m ≢ n
+apart m n e = grind (arith, nat_tests)
+
+pub other_way : (m n : ℕ) → (m == n) ≡ false → (n == m) ≡ false
+other_way m n e = go (n == m) refl
+  where
+    go : (same : Bool) → (n == m) ≡ same → same ≡ false
+    go true same = absurd (apart m n e (sym (eqb-true n m same)))
+    go false same = refl
+
 -- how often a net stands in a list of one
 abbrev pub the_count : Bool → ℕ
 the_count same = cond same 1 0

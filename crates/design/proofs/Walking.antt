@@ -1,19 +1,18 @@
 -- The walk from gates back over their pins, step by step.
-use Rattle.std.proofs.Common.{◌≡◌, ◌≢◌, ℕ, zero, suc, ◌+◌, ◌==◌, ◌&&◌, ◌<◌, ◌≤◌, not, Bool, true, false, cond, IsTrue, true≢false, List, [], ◌∷◌, ◌++◌, length, get_or, set, map, Some, None, option_map, slice_get, refl, sym, ap, ◌∙◌, subst, arith, All, AllPairs, Contains, ◌⊎◌, inl, inr, ⊎_elim, length-set}
+use Rattle.std.proofs.Common.{◌≡◌, ℕ, zero, suc, ◌+◌, ◌==◌, ◌&&◌, ◌<◌, ◌≤◌, not, Bool, true, false, cond, IsTrue, true≢false, List, [], ◌∷◌, ◌++◌, length, get_or, set, map, Some, option_map, slice_get, refl, sym, ap, ◌∙◌, subst, arith, All, AllPairs, Contains, ◌⊎◌, inl, inr, ⊎_elim, length-set}
 use Rattle.std.proofs.lemmas.Bool.{eqb-true}
-use Rattle.std.proofs.lemmas.Bool.Decides.{nat_tests}
 use Rattle.std.proofs.lemmas.List.{get_or-set_same, get_or-set_other, length_push, get_or_push, get_or_append_left, get_or_default, map-append}
 use Rattle.std.proofs.lemmas.List.Elements.{All-push, All-weaker, All-pop, All-map, All-contains, Contains-get_or, Contains-push, Contains-push_cases}
 use Rattle.std.proofs.lemmas.List.Quantifiers.{all_pairs_push}
 use Rattle.std.proofs.lemmas.List.Sums.{sum_by-set}
-use Rattle.std.proofs.lemmas.Option.{slice_get_cases, same_Some}
-use Rattle.std.specs.Option.{option_map_or}
+use Rattle.std.proofs.lemmas.Option.{same_Some}
 use Rattle.design.specs.declared.order.Step.{Step}
 use Rattle.design.specs.Circuit.{Net, Circuit}
-use Rattle.design.specs.Flow.{rank, rank_at, IsGate, Feeds, FlowsTo, straight, through}
+use Rattle.design.specs.Flow.{rank_at, IsGate, Feeds, FlowsTo, straight, through}
 use Rattle.design.specs.Walk.{times, is_seen, unseen, KeepsSeen, SeenBefore, HasLooked, IsWalk}
 use Rattle.design.proofs.WellFormed.{net_there}
-use Rattle.design.proofs.Times.{times_push, some_time, contains_from_times, is_itself}
+use Rattle.design.proofs.Ranks.{gate_within}
+use Rattle.design.proofs.Times.{apart, other_way, times_push, some_time, contains_from_times, is_itself}
 use Rattle.design.proofs.Behind.{Behind, AtEach-push, follows_from_each, each_from_follows}
 
 -- ---- what flows to a gate flows on
@@ -23,16 +22,6 @@ flows_on {second = second} _ early (straight to feeds) = through second to early
 flows_on _ early (through middle to late feeds) = through middle to (flows_on middle early late) feeds
 
 -- ---- marks
-
-apart : (m n : ℕ) → (m == n) ≡ false → m ≢ n
-apart m n e = grind (arith, nat_tests)
-
-other_way : (m n : ℕ) → (m == n) ≡ false → (n == m) ≡ false
-other_way m n e = go (n == m) refl
-  where
-    go : (same : Bool) → (n == m) ≡ same → same ≡ false
-    go true same = absurd (apart m n e (sym (eqb-true n m same)))
-    go false same = refl
 
 pub seen_now : (seen : List Bool) (net : ℕ) → net < length seen → IsTrue (is_seen (set seen net true) net)
 seen_now seen net below = get_or-set_same seen net true false below
@@ -134,16 +123,6 @@ module _ {circuit : Circuit} {seen : List Bool} {left : List ℕ} where
 
 -- ---- the gate that the path ends with
 
-below_from_rank : (circuit : Circuit) (net : ℕ) → IsGate circuit net → net < length circuit
-below_from_rank circuit net gate = go (slice_get_cases circuit net).1
-  where
-    go : ((n : Net) × (net < length circuit) × (slice_get circuit net ≡ Some n) × (get_or circuit net n ≡ n))
-        ⊎ ((length circuit ≤ net) × (slice_get circuit net ≡ None)) → net < length circuit
-    go (inl (n, below, at, is)) = below
-    go (inr (past, none)) =
-        let other : rank_at circuit net ≡ 3 = ap (λ found. option_map_or (λ (n : Net). rank n.part) found 3) none in
-        absurd (omega (arith, other, gate))
-
 -- a gate that was entered is a gate that was seen
 entered_gate : (gate seen : Bool) → 0 < cond (gate && seen) 1 0 → (gate ≡ true) × (seen ≡ true)
 entered_gate true true some = (refl, refl)
@@ -160,7 +139,7 @@ module _ {circuit : Circuit} {seen : List Bool} {left : List ℕ} (rest : List S
       (eqb-true (rank_at circuit step.gate) 1 both.0, both.1)
 
   pub last_below : step.gate < length circuit
-  last_below = below_from_rank circuit step.gate last_gate.0
+  last_below = gate_within circuit step.gate last_gate.0
 
   -- values flow from it to each gate below it on the path
   last_hangs : All (λ (below : Step). FlowsTo circuit step.gate below.gate) rest

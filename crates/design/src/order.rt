@@ -61,6 +61,13 @@ fn rank(part: Part) -> u8
     }
 }
 
+/// Whether a part is a gate.
+fn is_gate(part: Part) -> bool
+    ensures { result ≡ (rank part == 1) }
+{
+    matches!(part, Part::Gate(_))
+}
+
 /// The gates, in the order in which a walk leaves them.
 fn gates_in_order(alloc: Global, design: &Design) -> Result<Vec<u32>, AllocError>
     ensures { IfOk result (λ gates. IsGateOrder design.now.circuit gates.items) }
@@ -86,7 +93,7 @@ fn other_nets(alloc: Global, design: &Design) -> Result<Vec<bool>, AllocError>
 {
     let mut others = Vec::new(alloc);
     for net in 0..design.nets() {
-        others.push(rank(design.part(net)) != 1)?;
+        others.push(!is_gate(design.part(net)))?;
     }
     Ok(others)
 }
@@ -137,15 +144,15 @@ impl Walk {
         while let Some(step) = self.path.pop() {
             let pins = design.pins_of(step.gate);
             let place = first_unseen(pins, step.place, self.seen.as_slice());
-            if place < pins.len() {
-                self.path.push(Step {
-                    gate: step.gate,
-                    place,
-                })?;
-                self.enter(pins[place])?;
-            } else {
+            if place >= pins.len() {
                 self.left.push(step.gate)?;
+                continue;
             }
+            self.path.push(Step {
+                gate: step.gate,
+                place,
+            })?;
+            self.enter(pins[place])?;
         }
         Ok(())
     }

@@ -1,7 +1,7 @@
 use Rattle.std.proofs.Common.{◌≡◌, [], false, get_or, sym, ap, ◌∙◌, arith}
 use Rattle.design.specs.Walk.{is_seen}
 use Rattle.design.proofs.Walking.{IsWalk-enter}
-use Rattle.design.proofs.Ordered.{IsWalk-start, IsGateOrder-walk}
+use Rattle.design.proofs.WalkEnds.{IsWalk-start, IsGateOrder-walk}
 use Rattle.design.proofs.order.gates_in_order.Goals as goal
 
 pub loop-net-init : goal.loop-net-init

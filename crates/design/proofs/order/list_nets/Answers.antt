@@ -1,7 +1,7 @@
 use Rattle.std.proofs.Common.{◌==◌, sym, ap, ◌∙◌}
 use Rattle.design.specs.Flow.{rank, rank_at}
-use Rattle.design.proofs.Times.{is_itself, listed_more, listed_same}
-use Rattle.design.proofs.Ordered.{rank_is, test_fails}
+use Rattle.design.proofs.Times.{test_fails, is_itself, listed_more, listed_same}
+use Rattle.design.proofs.Ranks.{rank_is}
 use Rattle.design.proofs.order.list_nets.Goals as goal
 use Rattle.design.proofs.order.list_nets.Goals.{then-rank+in_ok-push, else-rank}
 
