@@ -1,11 +1,17 @@
+mod Behind
 mod Built
 pub mod CallerLemmas
 mod Joined
 mod Numbers
+mod Ordered
 mod Parts
+mod Ranks
 mod SampleTicks
 mod Solution
 mod Starts
 mod Stored
 mod Ticks
+mod Times
+mod WalkEnds
+mod Walking
 mod WellFormed

@@ -11,5 +11,7 @@ pub mod Joined
 pub mod Samples
 pub mod Equations
 pub mod Pins
+pub mod Flow
+pub mod Walk
 pub mod Build
 pub mod Faults

@@ -4,10 +4,12 @@
 mod design;
 mod fault;
 pub mod laws;
+mod order;
 mod plain;
 mod samples;
 
 pub use design::Design;
 pub use fault::BuildFault;
+pub use order::flow_order;
 pub use plain::plain_waves;
 pub use samples::Timing;

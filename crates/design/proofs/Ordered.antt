@@ -1,0 +1,112 @@
+-- Inputs, gates and flip-flops in one list.
+use Rattle.std.proofs.Common.{◌≡◌, ◌≢◌, ℕ, ◌+◌, ◌==◌, ◌<◌, ◌≤◌, Bool, true, false, cond, List, [], ◌++◌, length, get_or, take, refl, sym, ap, ◌∙◌, arith, All, AllPairs, Contains, inl, inr, ⊎_elim, length-append}
+use Rattle.std.specs.List.{range_with_len}
+use Rattle.std.proofs.lemmas.Bool.{eqb-true, cases_lt}
+use Rattle.std.proofs.lemmas.Bool.Decides.{nat_tests}
+use Rattle.std.proofs.lemmas.List.{get_or_append_left, get_or-append_right}
+use Rattle.std.proofs.lemmas.List.Elements.{All-append, All-weaker, All-contains_itself, Contains-append_right, filter_passes}
+use Rattle.design.specs.Circuit.{Circuit}
+use Rattle.design.specs.Flow.{rank_at, IsGate, FollowsFlow}
+use Rattle.design.specs.Walk.{times, nets_of_rank, IsGateOrder}
+use Rattle.design.proofs.Ranks.{rank_within, rank_past}
+use Rattle.design.proofs.Times.{test_fails, the_count, times-append, some_time, contains_from_times, once_from_times, times_past, times_within}
+use Rattle.design.proofs.Behind.{Behind, AtEach, AtEach-append, follows_from_each, each_from_follows}
+
+-- ---- lists of a rank
+
+AllPairs-behind : (f : ℕ → ℕ) (m : ℕ) (xs ys : List ℕ) → AllPairs (λ (earlier later : ℕ). f earlier ≤ f later) xs →
+    All (λ x. f x ≤ m) xs → All (λ y. f y ≡ m) ys → AllPairs (λ (earlier later : ℕ). f earlier ≤ f later) (xs ++ ys)
+AllPairs-behind f m xs ys first low high i j d before within = ⊎_elim
+    (λ early. rw (get_or_append_left xs ys d j early, get_or_append_left xs ys d i (omega (arith, before, early))) (first i j d before early))
+    (λ late.
+    let top : f (get_or (xs ++ ys) j d) ≡ m = rw (get_or-append_right xs ys (length xs) j d refl late) (high _ d (omega (arith, late, within, length-append xs ys))) in
+    let most = All-append (λ x. f x ≤ m) xs ys low (All-weaker (λ y. f y ≡ m) (λ y. f y ≤ m) (λ y e. omega (arith, e)) ys high) i d (omega (arith, before, within)) in
+    omega (arith, top, most))
+    (cases_lt j (length xs))
+
+all_of_rank : (circuit : Circuit) (r : ℕ) → All (λ net. rank_at circuit net ≡ r) (nets_of_rank circuit r)
+all_of_rank circuit r =
+    All-weaker (λ net. (rank_at circuit net == r) ≡ true) (λ net. rank_at circuit net ≡ r) (λ net. eqb-true (rank_at circuit net) r)
+    (nets_of_rank circuit r) (filter_passes (λ net. rank_at circuit net == r) (range_with_len 0 (length circuit)))
+
+times_of_rank : (circuit : Circuit) (r net : ℕ) → r < 3 → times net (nets_of_rank circuit r) ≡ cond (rank_at circuit net == r) 1 0
+times_of_rank circuit r net low = ⊎_elim
+    (λ below. times_within (λ net. rank_at circuit net == r) net (length circuit) below)
+    (λ past. times_past (λ net. rank_at circuit net == r) net (length circuit) past
+    ∙ sym (ap the_count (test_fails (rank_at circuit net) r (λ same. omega (arith, same, low, rank_past circuit net past)))))
+    (cases_lt net (length circuit))
+
+passes : (test : Bool) → 0 < cond test 1 0 → test ≡ true
+passes true some = refl
+passes false some = absurd (omega (arith, some))
+
+-- one of three tests at most passes
+abbrev tests : ℕ → ℕ
+tests r = cond (r == 0) 1 0 + cond (r == 1) 1 0 + cond (r == 2) 1 0
+
+one_test : (r : ℕ) → tests r ≤ 1
+one_test r = grind (arith, nat_tests)
+
+some_test : (r : ℕ) → r < 3 → 0 < tests r
+some_test r low = grind (arith, nat_tests)
+
+no_test : (r : ℕ) → 3 ≤ r → tests r ≡ 0
+no_test r high = grind (arith, nat_tests)
+
+-- ---- the whole order
+
+module _ (circuit : Circuit) (gates : List ℕ) (known : IsGateOrder circuit gates) where
+  abbrev pub order : List ℕ
+  order = (nets_of_rank circuit 0 ++ gates) ++ nets_of_rank circuit 2
+
+  times_in_all : (net : ℕ) → times net order ≡ tests (rank_at circuit net)
+  times_in_all net =
+      let inputs = times_of_rank circuit 0 net (omega arith) in
+      let flops = times_of_rank circuit 2 net (omega arith) in
+      omega (arith, times-append net (nets_of_rank circuit 0 ++ gates) (nets_of_rank circuit 2), times-append net (nets_of_rank circuit 0) gates, inputs, known.each net, flops)
+
+  pub order_once : AllPairs (λ (earlier later : ℕ). earlier ≢ later) order
+  order_once = once_from_times order (λ net. omega (arith, times_in_all net, one_test (rank_at circuit net)))
+
+  pub order_all : (net : ℕ) → net < length circuit → Contains order net
+  order_all net below = contains_from_times net order (omega (arith, times_in_all net, some_test (rank_at circuit net) (rank_within circuit net below)))
+
+  pub order_within : All (λ net. net < length circuit) order
+  order_within = All-weaker (Contains order) (λ net. net < length circuit) (λ net at. ⊎_elim
+      (λ below. below)
+      (λ past. absurd (omega (arith, some_time net order at, times_in_all net, no_test (rank_at circuit net) (omega (arith, rank_past circuit net past)))))
+      (cases_lt net (length circuit))) order (All-contains_itself order)
+
+  all_gates : All (IsGate circuit) gates
+  all_gates = All-weaker (Contains gates) (IsGate circuit) (λ net at.
+      eqb-true (rank_at circuit net) 1 (passes (rank_at circuit net == 1) (omega (arith, some_time net gates at, known.each net)))) gates (All-contains_itself gates)
+
+  pub order_parts : AllPairs (λ (earlier later : ℕ). rank_at circuit earlier ≤ rank_at circuit later) order
+  order_parts =
+      let inputs = all_of_rank circuit 0 in
+      AllPairs-behind (rank_at circuit) 2 (nets_of_rank circuit 0 ++ gates) (nets_of_rank circuit 2)
+      (AllPairs-behind (rank_at circuit) 1 (nets_of_rank circuit 0) gates
+      (AllPairs-behind (rank_at circuit) 0 [] (nets_of_rank circuit 0) (λ i j d before within. absurd (omega (arith, within))) (λ k d within. absurd (omega (arith, within))) inputs)
+      (All-weaker (λ net. rank_at circuit net ≡ 0) (λ net. rank_at circuit net ≤ 1) (λ net e. omega (arith, e)) (nets_of_rank circuit 0) inputs)
+      all_gates)
+      (All-append (λ net. rank_at circuit net ≤ 2) (nets_of_rank circuit 0) gates
+      (All-weaker (λ net. rank_at circuit net ≡ 0) (λ net. rank_at circuit net ≤ 2) (λ net e. omega (arith, e)) (nets_of_rank circuit 0) inputs)
+      (All-weaker (IsGate circuit) (λ net. rank_at circuit net ≤ 2) (λ net e. omega (arith, e)) gates all_gates))
+      (all_of_rank circuit 2)
+
+  -- what is no gate has nothing to stand behind
+  no_gates : (r : ℕ) → r ≢ 1 → (before : List ℕ) → AtEach (λ more. Behind circuit (before ++ more)) (nets_of_rank circuit r)
+  no_gates r other before place d within source gate feeds =
+      absurd (other (sym (all_of_rank circuit r place d within) ∙ feeds.is_gate))
+
+  pub order_follows : FollowsFlow circuit order
+  order_follows =
+      follows_from_each circuit order
+      (AtEach-append (Behind circuit) (nets_of_rank circuit 0 ++ gates) (nets_of_rank circuit 2)
+      (AtEach-append (Behind circuit) (nets_of_rank circuit 0) gates
+      (no_gates 0 (λ same. omega (arith, same)) [])
+      (λ place d within source gate feeds. ⊎_elim
+      (λ at. inl (Contains-append_right (nets_of_rank circuit 0) (take place gates) source at))
+      (λ flows. inr flows)
+      (each_from_follows circuit gates known.follows place d within source gate feeds)))
+      (no_gates 2 (λ same. omega (arith, same)) (nets_of_rank circuit 0 ++ gates)))

@@ -1,0 +1,231 @@
+-- The walk from gates back over their pins, step by step.
+use Rattle.std.proofs.Common.{◌≡◌, ℕ, zero, suc, ◌+◌, ◌==◌, ◌&&◌, ◌<◌, ◌≤◌, not, Bool, true, false, cond, IsTrue, true≢false, List, [], ◌∷◌, ◌++◌, length, get_or, set, map, Some, option_map, slice_get, refl, sym, ap, ◌∙◌, subst, arith, All, AllPairs, Contains, ◌⊎◌, inl, inr, ⊎_elim, length-set}
+use Rattle.std.proofs.lemmas.Bool.{eqb-true}
+use Rattle.std.proofs.lemmas.List.{get_or-set_same, get_or-set_other, length_push, get_or_push, get_or_append_left, get_or_default, map-append}
+use Rattle.std.proofs.lemmas.List.Elements.{All-push, All-weaker, All-pop, All-map, All-contains, Contains-get_or, Contains-push, Contains-push_cases}
+use Rattle.std.proofs.lemmas.List.Quantifiers.{all_pairs_push}
+use Rattle.std.proofs.lemmas.List.Sums.{sum_by-set}
+use Rattle.std.proofs.lemmas.Option.{same_Some}
+use Rattle.design.specs.declared.order.Step.{Step}
+use Rattle.design.specs.Circuit.{Net, Circuit}
+use Rattle.design.specs.Flow.{rank_at, IsGate, Feeds, FlowsTo, straight, through}
+use Rattle.design.specs.Walk.{times, is_seen, unseen, KeepsSeen, SeenBefore, HasLooked, IsWalk}
+use Rattle.design.proofs.WellFormed.{net_there}
+use Rattle.design.proofs.Ranks.{gate_within}
+use Rattle.design.proofs.Times.{apart, other_way, times_push, some_time, contains_from_times, is_itself}
+use Rattle.design.proofs.Behind.{Behind, AtEach-push, follows_from_each, each_from_follows}
+
+-- ---- what flows to a gate flows on
+
+pub flows_on : {circuit : Circuit} {first second : ℕ} (third : ℕ) → FlowsTo circuit first second → FlowsTo circuit second third → FlowsTo circuit first third
+flows_on {second = second} _ early (straight to feeds) = through second to early feeds
+flows_on _ early (through middle to late feeds) = through middle to (flows_on middle early late) feeds
+
+-- ---- marks
+
+pub seen_now : (seen : List Bool) (net : ℕ) → net < length seen → IsTrue (is_seen (set seen net true) net)
+seen_now seen net below = get_or-set_same seen net true false below
+
+-- another net is as it was
+still_so : (seen : List Bool) (net other : ℕ) → (other == net) ≡ false → is_seen (set seen net true) other ≡ is_seen seen other
+still_so seen net other e = get_or-set_other seen net other true false (apart other net e)
+
+pub seen_still : (seen : List Bool) (net : ℕ) → net < length seen → KeepsSeen seen (set seen net true)
+seen_still seen net below other was = go (other == net) refl
+  where
+    go : (same : Bool) → (other == net) ≡ same → IsTrue (is_seen (set seen net true) other)
+    go true e = ap (is_seen (set seen net true)) (eqb-true other net e) ∙ seen_now seen net below
+    go false e = still_so seen net other e ∙ was
+
+pub fewer_unseen : (seen : List Bool) (net : ℕ) → net < length seen → is_seen seen net ≡ false → unseen (set seen net true) + 1 ≡ unseen seen
+fewer_unseen seen net below new =
+    let one = ap (λ mark. unseen (set seen net true) + cond (not mark) 1 0) (sym new) ∙ sum_by-set (λ mark. cond (not mark) 1 0) seen net true false below in
+    omega (arith, one)
+
+-- ---- lists
+
+AllPairs-front : {A : Type 0} (R : A → A → Type 0) (xs : List A) (y : A) → AllPairs R (xs ++ y ∷ []) → AllPairs R xs
+AllPairs-front R xs y all i j d before within =
+    subst (λ x. R x (get_or xs j d)) (get_or_append_left xs (y ∷ []) d i (omega (arith, before, within)))
+    (subst (R (get_or (xs ++ y ∷ []) i d)) (get_or_append_left xs (y ∷ []) d j within)
+    (all i j d before (omega (arith, within, length_push xs y))))
+
+AllPairs-last : {A : Type 0} (R : A → A → Type 0) (xs : List A) (y : A) → AllPairs R (xs ++ y ∷ []) →
+    (k : ℕ) (d : A) → k < length xs → R (get_or xs k d) y
+AllPairs-last R xs y all k d within =
+    subst (λ x. R x y) (get_or_append_left xs (y ∷ []) d k within)
+    (subst (R (get_or (xs ++ y ∷ []) k d)) (get_or_push xs y d (length xs) refl)
+    (all k (length xs) d within (omega (arith, length_push xs y))))
+
+cases_zero : (n : ℕ) → (n ≡ 0) ⊎ (0 < n)
+cases_zero zero = inl refl
+cases_zero (suc n) = inr (omega arith)
+
+abbrev pub gates_on : List Step → List ℕ
+gates_on path = map (λ (step : Step). step.gate) path
+
+gates_on_push : (path : List Step) (step : Step) → gates_on (path ++ step ∷ []) ≡ gates_on path ++ step.gate ∷ []
+gates_on_push path step = map-append (λ (step : Step). step.gate) path (step ∷ [])
+
+-- ---- the steps
+
+is_one : (n : ℕ) → n ≡ 1 → (n == 1) ≡ true
+is_one n e = ap (λ n. n == 1) e
+
+module _ {circuit : Circuit} {seen : List Bool} {left : List ℕ} where
+  -- a gate that was not seen is entered
+  pub IsWalk-enter : (path : List Step) → IsWalk circuit seen path left → (gate : ℕ) → gate < length circuit → is_seen seen gate ≡ false →
+      All (λ (below : Step). FlowsTo circuit gate below.gate) path →
+      IsWalk circuit (set seen gate true) (path ++ record { gate = gate; place = 0 } ∷ []) left
+  IsWalk-enter path walk gate below new hang =
+      record {
+        size = length-set seen gate true ∙ walk.size;
+        gates = λ net within unseen. walk.gates net within (was_unseen net unseen);
+        each = λ net. ap (λ on. times net left + times net on) (gates_on_push path _) ∙ ap (λ n. times net left + n) (times_push net (gates_on path) gate)
+            ∙ entered net;
+        looked = All-push (HasLooked circuit (set seen gate true)) path _
+            (All-weaker (HasLooked circuit seen) (HasLooked circuit (set seen gate true)) (λ step old net at k before within. kept _ (old net at k before within)) path walk.looked)
+            (λ net at k before within. absurd (omega (arith, before)));
+        hangs = all_pairs_push (λ (below above : Step). FlowsTo circuit above.gate below.gate) path _ walk.hangs hang;
+        follows = walk.follows;
+      }
+    where
+      here : gate < length seen
+      here = rw walk.size below
+
+      kept : KeepsSeen seen (set seen gate true)
+      kept = seen_still seen gate here
+
+      was_unseen : (net : ℕ) → is_seen (set seen gate true) net ≡ false → is_seen seen net ≡ false
+      was_unseen net now = go (is_seen seen net) refl
+        where
+          go : (was : Bool) → is_seen seen net ≡ was → was ≡ false
+          go true e = absurd (true≢false (sym (kept net e) ∙ now))
+          go false e = refl
+
+      entered : (net : ℕ) → times net left + (times net (gates_on path) + cond (gate == net) 1 0)
+          ≡ cond ((rank_at circuit net == 1) && is_seen (set seen gate true) net) 1 0
+      entered net = go (net == gate) refl
+        where
+          go : (same : Bool) → (net == gate) ≡ same → times net left + (times net (gates_on path) + cond (gate == net) 1 0)
+              ≡ cond ((rank_at circuit net == 1) && is_seen (set seen gate true) net) 1 0
+          go true e =
+              let same : net ≡ gate = eqb-true net gate e in
+              subst (λ net. times net left + (times net (gates_on path) + cond (gate == net) 1 0)
+              ≡ cond ((rank_at circuit net == 1) && is_seen (set seen gate true) net) 1 0) (sym same)
+              (rw (is_itself gate, is_one (rank_at circuit gate) (walk.gates gate below new), seen_now seen gate here)
+              (omega (arith, none)))
+            where
+              none : times gate left + times gate (gates_on path) ≡ 0
+              none = walk.each gate ∙ rw (new, is_one (rank_at circuit gate) (walk.gates gate below new)) refl
+          go false e =
+              rw (still_so seen gate net e, other_way net gate e) (omega (arith, walk.each net))
+
+-- ---- the gate that the path ends with
+
+-- a gate that was entered is a gate that was seen
+entered_gate : (gate seen : Bool) → 0 < cond (gate && seen) 1 0 → (gate ≡ true) × (seen ≡ true)
+entered_gate true true some = (refl, refl)
+entered_gate true false some = absurd (omega (arith, some))
+entered_gate false true some = absurd (omega (arith, some))
+entered_gate false false some = absurd (omega (arith, some))
+
+module _ {circuit : Circuit} {seen : List Bool} {left : List ℕ} (rest : List Step) (step : Step) (walk : IsWalk circuit seen (rest ++ step ∷ []) left) where
+  last_gate : IsGate circuit step.gate × IsTrue (is_seen seen step.gate)
+  last_gate =
+      let on : 0 < times step.gate (gates_on (rest ++ step ∷ [])) =
+      rw (gates_on_push rest step) (some_time step.gate (gates_on rest ++ step.gate ∷ []) (Contains-push (gates_on rest) step.gate)) in
+      let both = entered_gate (rank_at circuit step.gate == 1) (is_seen seen step.gate) (omega (arith, on, walk.each step.gate)) in
+      (eqb-true (rank_at circuit step.gate) 1 both.0, both.1)
+
+  pub last_below : step.gate < length circuit
+  last_below = gate_within circuit step.gate last_gate.0
+
+  -- values flow from it to each gate below it on the path
+  last_hangs : All (λ (below : Step). FlowsTo circuit step.gate below.gate) rest
+  last_hangs k d within = AllPairs-last (λ (below above : Step). FlowsTo circuit above.gate below.gate) rest step walk.hangs k d within
+
+  module _ (pins : List ℕ) (pins_are : option_map (λ (net : Net). net.pins) (slice_get circuit step.gate) ≡ Some pins) where
+    pub last_looked : SeenBefore seen pins step.place
+    last_looked =
+        let found = net_there (λ (net : Net). net.pins) (slice_get circuit step.gate) pins pins_are in
+        let looked = All-contains (HasLooked circuit seen) (rest ++ step ∷ []) step walk.looked (Contains-push rest step) in
+        subst (λ pins. SeenBefore seen pins step.place) found.2 (looked found.0 found.1)
+
+    -- its pins before a place were seen
+    IsWalk-stay : (place : ℕ) → SeenBefore seen pins place → IsWalk circuit seen (rest ++ record { gate = step.gate; place = place } ∷ []) left
+    IsWalk-stay place before = record {
+      size = walk.size;
+      gates = walk.gates;
+      each = λ net. ap (λ on. times net left + times net on) (gates_on_push rest _ ∙ sym (gates_on_push rest step)) ∙ walk.each net;
+      looked = All-push (HasLooked circuit seen) rest _ (All-pop (HasLooked circuit seen) (rest ++ step ∷ []) rest (Some step) refl walk.looked).0
+          (λ net at. subst (λ pins. SeenBefore seen pins place) (same_pins net at) before);
+      hangs = all_pairs_push (λ (below above : Step). FlowsTo circuit above.gate below.gate) rest _
+          (AllPairs-front (λ (below above : Step). FlowsTo circuit above.gate below.gate) rest step walk.hangs) last_hangs;
+      follows = walk.follows;
+    }
+      where
+        same_pins : (net : Net) → slice_get circuit step.gate ≡ Some net → pins ≡ net.pins
+        same_pins net at = sym (same_Some net.pins pins (sym (ap (option_map (λ (net : Net). net.pins)) at) ∙ pins_are))
+
+    -- on to a gate at one of its pins
+    pub IsWalk-on : (place : ℕ) → SeenBefore seen pins place → place < length pins → get_or pins place 0 < length circuit →
+        is_seen seen (get_or pins place 0) ≡ false →
+        IsWalk circuit (set seen (get_or pins place 0) true)
+        (rest ++ record { gate = step.gate; place = place } ∷ [] ++ record { gate = get_or pins place 0; place = 0 } ∷ []) left
+    IsWalk-on place before within below new =
+        IsWalk-enter (rest ++ record { gate = step.gate; place = place } ∷ []) (IsWalk-stay place before) (get_or pins place 0) below new
+        (All-push (λ (below : Step). FlowsTo circuit (get_or pins place 0) below.gate) rest _
+        (All-weaker (λ (below : Step). FlowsTo circuit step.gate below.gate) (λ (below : Step). FlowsTo circuit (get_or pins place 0) below.gate)
+        (λ below flows. flows_on below.gate flow flows) rest last_hangs)
+        flow)
+      where
+        flow : FlowsTo circuit (get_or pins place 0) step.gate
+        flow =
+            let found = net_there (λ (net : Net). net.pins) (slice_get circuit step.gate) pins pins_are in
+            straight step.gate (record {
+              net = found.0;
+              there = found.1;
+              is_gate = last_gate.0;
+              at_pin = subst (λ those. Contains those (get_or pins place 0)) (sym found.2) (Contains-get_or pins place 0 within);
+            })
+
+    -- back from it, when all its pins were seen
+    pub IsWalk-leave : (place : ℕ) → SeenBefore seen pins place → length pins ≤ place → IsWalk circuit seen rest (left ++ step.gate ∷ [])
+    IsWalk-leave place before all = record {
+      size = walk.size;
+      gates = walk.gates;
+      each = λ net. moved net;
+      looked = (All-pop (HasLooked circuit seen) (rest ++ step ∷ []) rest (Some step) refl walk.looked).0;
+      hangs = AllPairs-front (λ (below above : Step). FlowsTo circuit above.gate below.gate) rest step walk.hangs;
+      follows = follows_from_each circuit (left ++ step.gate ∷ [])
+          (AtEach-push (Behind circuit) left step.gate (each_from_follows circuit left walk.follows) behind);
+    }
+      where
+        moved : (net : ℕ) → times net (left ++ step.gate ∷ []) + times net (gates_on rest)
+            ≡ cond ((rank_at circuit net == 1) && is_seen seen net) 1 0
+        moved net =
+            let on = ap (times net) (gates_on_push rest step) ∙ times_push net (gates_on rest) step.gate in
+            omega (arith, on, times_push net left step.gate, walk.each net)
+
+        behind : Behind circuit left step.gate
+        behind source gate feeds = ⊎_elim
+            (λ none. inr (⊎_elim
+            (λ earlier. All-contains (FlowsTo circuit step.gate) (gates_on rest) source (All-map (FlowsTo circuit step.gate) (λ (step : Step). step.gate) rest last_hangs) earlier)
+            (λ same. subst (FlowsTo circuit step.gate) same (straight step.gate (subst (λ n. Feeds circuit n step.gate) (sym same) feeds)))
+            (Contains-push_cases (gates_on rest) step.gate source
+            (contains_from_times source (gates_on rest ++ step.gate ∷ []) (omega (arith, counted, none, ap (times source) (gates_on_push rest step)))))))
+            (λ some. inl (contains_from_times source left some))
+            (cases_zero (times source left))
+          where
+            source_seen : IsTrue (is_seen seen source)
+            source_seen =
+                let same : feeds.net.pins ≡ pins = same_Some feeds.net.pins pins (sym (ap (option_map (λ (net : Net). net.pins)) feeds.there) ∙ pins_are) in
+                seen_pin (subst (λ pins. Contains pins source) same feeds.at_pin)
+              where
+                seen_pin : Contains pins source → IsTrue (is_seen seen source)
+                seen_pin (k, within, is) =
+                    ap (is_seen seen) (sym is ∙ get_or_default pins k source 0 within) ∙ before k (omega (arith, within, all)) within
+
+            counted : times source left + times source (gates_on (rest ++ step ∷ [])) ≡ 1
+            counted = walk.each source ∙ rw (source_seen, is_one (rank_at circuit source) gate) refl
