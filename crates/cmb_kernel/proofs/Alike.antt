@@ -24,7 +24,7 @@ use Rattle.gate_process.proofs.CallerLemmas.{advanced_knows}
 use Rattle.cmb_events.specs.declared.event.Event.{Event}
 use Rattle.cmb_events.specs.declared.event.Event.TheVariants.{Deliver, Advance}
 use Rattle.cmb_events.specs.Schedule.{Exists}
-use Rattle.cmb_kernel.specs.State.{State, nets_of, frontier_at, least_frontier, is_complete}
+use Rattle.cmb_kernel.specs.State.{State, nets_of, least_frontier, is_complete}
 use Rattle.cmb_kernel.specs.Step.{counted, news_at, step, steps, after_deliver, after_drain, deliveries_from, round_events, with_round, round_of}
 use Rattle.cmb_kernel.specs.Sound.{IsSound}
 use Rattle.cmb_kernel.specs.Drains.{apart_from_wave, apart_from_waves}
