@@ -201,7 +201,7 @@ module _ (one other : State) (alike : apart_from_waves one ≡ apart_from_waves 
   alike_counts = ap (λ (s : State). s.counts) alike
 
   -- what doesn't depend on what nets show is the same for all nets
-  alike_views : {B : Type 0} (view : ProcessState → B) → ((process : ProcessState) → view (apart_from_wave process) ≡ view process) →
+  pub alike_views : {B : Type 0} (view : ProcessState → B) → ((process : ProcessState) → view (apart_from_wave process) ≡ view process) →
       map view one.processes ≡ map view other.processes
   alike_views view h = shown one ∙ ap (λ (s : State). map view s.processes) alike ∙ sym (shown other)
     where

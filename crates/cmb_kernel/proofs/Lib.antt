@@ -21,5 +21,6 @@ mod Running
 mod Soundness
 mod SweepLoops
 mod Sweeping
+mod SweepsAlike
 mod Together
 mod UsefulEvents

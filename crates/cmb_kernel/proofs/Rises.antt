@@ -28,10 +28,10 @@ view_there view (x ∷ xs) zero = refl
 view_there view (x ∷ xs) (suc at) = view_there view xs at
 
 -- how far the pin of a net at a place knows its source
-abbrev known_at : List ProcessState → ℕ → ℕ → ℕ
+abbrev pub known_at : List ProcessState → ℕ → ℕ → ℕ
 known_at processes net place = slice_index_or (map (λ (p : ProcessState). received_of p place) processes) net 0
 
-received_is : (state : State) (pin : ℕ) →
+pub received_is : (state : State) (pin : ℕ) →
     received_at state pin ≡ known_at state.processes (net_of_pin (nets_of state) pin) (place_of_pin (nets_of state) pin)
 received_is state pin =
     view_there (λ (p : ProcessState). received_of p (place_of_pin (nets_of state) pin)) state.processes (net_of_pin (nets_of state) pin)

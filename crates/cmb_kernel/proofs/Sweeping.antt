@@ -100,6 +100,11 @@ module _ (circuit : Circuit) where
       (sweep_leads ok last tick order (swept_net tick state net) (lead_sound circuit ok last first sound)
       (All-tail (λ net. net < length circuit) net order exist))
 
+pub sweep_sound : (circuit : Circuit) → IsCircuit circuit → (last tick : ℕ) (order : List ℕ) (state : State) → IsSound circuit last state →
+    All (λ net. net < length circuit) order → IsSound circuit last (swept tick order state)
+sweep_sound circuit ok last tick order state sound exist =
+    lead_sound circuit ok last (sweep_leads circuit ok last tick order state sound exist) sound
+
 -- ---- what pins know after they caught up
 
 module _ (circuit : Circuit) (ok : IsCircuit circuit) (last : ℕ) where
@@ -212,7 +217,7 @@ pub sweep_raises : (circuit : Circuit) → IsCircuit circuit → (last : ℕ) (s
 sweep_raises circuit ok last state sound tick order exist holds in_time =
     let within = least-bound last (map (λ (p : ProcessState). p.known.frontier) state.processes) in
     least_frontier_greatest circuit last (min last (least_frontier last state + least_delay last circuit)) (swept tick order state)
-    (lead_sound circuit ok last (sweep_leads circuit ok last tick order state sound exist) sound) (omega arith)
+    (sweep_sound circuit ok last tick order state sound exist) (omega arith)
     (λ net below.
     sweep_farther circuit ok last (least_frontier last state) tick in_time within order state sound
     (λ number h. least_frontier-le circuit last state sound number h) exist net (holds net below))

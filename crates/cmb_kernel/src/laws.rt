@@ -70,6 +70,10 @@ pub fn drains_play_no_part()
         apart_from_waves (all_acted state actions) ≡ apart_from_waves (steps state (events_among actions))) }
     ensures sound { ForSound (λ circuit last state. (actions : List Action) → CanAct circuit state actions →
         IsSound circuit last (all_acted state actions)) }
+    ensures sweeps { (circuit : Circuit) → IsCircuit circuit → (last : ℕ) (one other : State) →
+        IsSound circuit last one → IsSound circuit last other → apart_from_waves one ≡ apart_from_waves other →
+        (tick : ℕ) (order : List ℕ) → All (λ net. net < length circuit) order →
+        apart_from_waves (swept tick order one) ≡ apart_from_waves (swept tick order other) }
     // Drains alone move floors.
     ensures floors { (state : State) (events : List Event) (net : ℕ) → floor_at (steps state events) net ≡ floor_at state net }
     ensures values { ForSound (λ circuit last state. (actions : List Action) → CanAct circuit state actions →
