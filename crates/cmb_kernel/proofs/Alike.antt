@@ -24,7 +24,7 @@ use Rattle.gate_process.proofs.CallerLemmas.{advanced_knows}
 use Rattle.cmb_events.specs.declared.event.Event.{Event}
 use Rattle.cmb_events.specs.declared.event.Event.TheVariants.{Deliver, Advance}
 use Rattle.cmb_events.specs.Schedule.{Exists}
-use Rattle.cmb_kernel.specs.State.{State, nets_of, frontier_at, least_frontier, is_complete}
+use Rattle.cmb_kernel.specs.State.{State, nets_of, least_frontier, is_complete}
 use Rattle.cmb_kernel.specs.Step.{counted, news_at, step, steps, after_deliver, after_drain, deliveries_from, round_events, with_round, round_of}
 use Rattle.cmb_kernel.specs.Sound.{IsSound}
 use Rattle.cmb_kernel.specs.Drains.{apart_from_wave, apart_from_waves}
@@ -201,7 +201,7 @@ module _ (one other : State) (alike : apart_from_waves one ≡ apart_from_waves 
   alike_counts = ap (λ (s : State). s.counts) alike
 
   -- what doesn't depend on what nets show is the same for all nets
-  alike_views : {B : Type 0} (view : ProcessState → B) → ((process : ProcessState) → view (apart_from_wave process) ≡ view process) →
+  pub alike_views : {B : Type 0} (view : ProcessState → B) → ((process : ProcessState) → view (apart_from_wave process) ≡ view process) →
       map view one.processes ≡ map view other.processes
   alike_views view h = shown one ∙ ap (λ (s : State). map view s.processes) alike ∙ sym (shown other)
     where

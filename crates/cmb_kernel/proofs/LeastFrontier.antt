@@ -43,7 +43,7 @@ deliver_lists state pin = go (at_pin state pin)
     go [] = refl
     go (message ∷ messages) = length-taken pin state.lists
 
-deliver_there : (state : State) (pin : ℕ) → pin < length state.lists → at_pin (step state (Deliver pin)) pin ≡ drop 1 (at_pin state pin)
+pub deliver_there : (state : State) (pin : ℕ) → pin < length state.lists → at_pin (step state (Deliver pin)) pin ≡ drop 1 (at_pin state pin)
 deliver_there state pin h = go (at_pin state pin) refl
   where
     go : (waiting : List Message) → at_pin state pin ≡ waiting → at_pin (after_deliver state pin waiting) pin ≡ drop 1 (at_pin state pin)
@@ -156,10 +156,14 @@ frontiers_rise circuit ok last state (event ∷ events) sound exist number =
 
 -- ---- pins that know up to a tick, and what an Advance makes of them
 
+-- each pin of a net knows its source up to this tick
+abbrev pub NetKnows : ℕ → State → ℕ → Type 0
+NetKnows low state number = (place : ℕ) (process : ProcessState) (received : Knowledge) →
+    slice_get state.processes number ≡ Some process → slice_get process.received place ≡ Some received → low ≤ received.frontier
+
 -- each pin knows its source up to this tick
 abbrev pub PinsKnow : ℕ → State → Type 0
-PinsKnow low state = (number place : ℕ) (process : ProcessState) (received : Knowledge) →
-    slice_get state.processes number ≡ Some process → slice_get process.received place ≡ Some received → low ≤ received.frontier
+PinsKnow low state = (number : ℕ) → NetKnows low state number
 
 -- an Advance leaves what the pins know
 pins_know_on : (low : ℕ) (state : State) (net : ℕ) → PinsKnow low state → PinsKnow low (step state (Advance net))
@@ -175,17 +179,18 @@ pins_know_on low state net h number place process received a b = go (get_of_upda
         omega arith
     go (inr other) = h number place process received other.1 b
 
--- where no message waits each pin knows what its source knows
-pub pins_know : (circuit : Circuit) (last low : ℕ) (state : State) → IsSound circuit last state → IsCircuit circuit →
-    ((pin : ℕ) → at_pin state pin ≡ []) →
-    ((number : ℕ) → number < length circuit → low ≤ frontier_at state number) → PinsKnow low state
-pins_know circuit last low state sound ok empty frontiers number place process received a b =
+-- where no message waits a pin knows what its source knows
+pub pin_knows : (circuit : Circuit) (last low : ℕ) (state : State) → IsSound circuit last state → IsCircuit circuit →
+    (number place : ℕ) → at_pin state (first_pin circuit number + place) ≡ [] →
+    ((source : ℕ) → source < length circuit → low ≤ frontier_at state source) → (process : ProcessState) (received : Knowledge) →
+    slice_get state.processes number ≡ Some process → slice_get process.received place ≡ Some received → low ≤ received.frontier
+pin_knows circuit last low state sound ok number place empty frontiers process received a b =
     let pins : length process.received ≡ length process.net.pins = (sound.processes number process a).pins in
     let within : place < length process.received = slice_get_within process.received place received b in
     let source = get_below process.net.pins place (omega arith) in
     let tells : received.frontier ≡ frontier_at state source.0 =
     subst (λ ms. Tells (value_of circuit source.0) received.frontier (frontier_at state source.0) ms)
-    (empty (first_pin circuit number + place)) (sound.waiting number place source.0 process received a source.1 b) in
+    empty (sound.waiting number place source.0 process received a source.1 b) in
     let there : get_or process.net.pins place 0 < length circuit =
     All-get_or (λ pin. pin < length circuit) process.net.pins place 0 (omega arith)
     (pins_at circuit ok number process.net (net_at circuit ok last state sound number process a)) in
@@ -193,12 +198,18 @@ pins_know circuit last low state sound ok empty frontiers number place process r
     let known = frontiers source.0 (omega arith) in
     omega arith
 
+pub pins_know : (circuit : Circuit) (last low : ℕ) (state : State) → IsSound circuit last state → IsCircuit circuit →
+    ((pin : ℕ) → at_pin state pin ≡ []) →
+    ((number : ℕ) → number < length circuit → low ≤ frontier_at state number) → PinsKnow low state
+pins_know circuit last low state sound ok empty frontiers number place =
+    pin_knows circuit last low state sound ok number place (empty (first_pin circuit number + place)) frontiers
+
 pub net_count : (circuit : Circuit) (last : ℕ) (state : State) → IsSound circuit last state → length state.processes ≡ length circuit
 net_count circuit last state sound = sym (length-map state.processes (λ (p : ProcessState). p.net)) ∙ ap length sound.nets
 
 -- an advancing net comes at least the least delay farther than its pins
 pub advances_farther : (circuit : Circuit) (last low : ℕ) (state : State) (net : ℕ) → IsSound circuit last state → IsCircuit circuit →
-    low ≤ last → PinsKnow low state → net < length circuit →
+    low ≤ last → NetKnows low state net → net < length circuit →
     min last (low + least_delay last circuit) ≤ frontier_at (step state (Advance net)) net
 advances_farther circuit last low state net sound ok h know below =
     let nets = net_count circuit last state sound in
@@ -209,7 +220,7 @@ advances_farther circuit last low state net sound ok h know below =
     let safe : low ≤ safe_of mover.0 =
     least_greatest (mover.0).end (map (λ (k : Knowledge). k.frontier) (mover.0).received) low (omega arith) (λ place x e.
     let known = get_of_map (λ (k : Knowledge). k.frontier) (mover.0).received place x e in
-    let farther = know net place mover.0 known.0 mover.1 known.1 in
+    let farther = know place mover.0 known.0 mover.1 known.1 in
     let is = known.2 in omega arith) in
     let delay : least_delay last circuit ≤ own_delay (mover.0).net.part last (mover.0).net.delay =
     least-le last (map (λ (n : Net). own_delay n.part last n.delay) circuit) net _
@@ -262,7 +273,7 @@ all_advance circuit ok last low state from (suc count) sound h know e number a b
         ≤ frontier_at (steps (step state (Advance from)) (map Advance (range_with_len (from + 1) count))) number
     go (inl later) rest = rest later
     go (inr early) rest =
-        let now = advances_farther circuit last low state from sound ok h know (omega arith) in
+        let now = advances_farther circuit last low state from sound ok h (know from) (omega arith) in
         let rises = frontiers_rise circuit ok last (step state (Advance from)) (map Advance (range_with_len (from + 1) count)) after
         (advances_exist circuit (from + 1) count (omega arith)) from in
         subst (λ n. min last (low + least_delay last circuit)

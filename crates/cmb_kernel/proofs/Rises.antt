@@ -3,7 +3,8 @@ use Rattle.std.proofs.Common.{◌≡◌, ℕ, zero, suc, ◌+◌, ◌<◌, ◌�
 use Rattle.std.specs.Option.{option_map_or}
 use Rattle.std.proofs.lemmas.Bool.{cases_eq, cases_lt}
 use Rattle.design.specs.Circuit.{Circuit, IsCircuit, pin_count}
-use Rattle.design.specs.Pins.{net_of_pin, place_of_pin}
+use Rattle.design.specs.Pins.{first_pin, net_of_pin, place_of_pin}
+use Rattle.design.proofs.CallerLemmas.{pin_is}
 use Rattle.cmb_channels.specs.declared.message.Message.{Message}
 use Rattle.cmb_channels.proofs.CallerLemmas.{map-update, view_at, view_of_update_other, view_of_update_same}
 use Rattle.gate_process.specs.Knowledge.{Knowledge, told}
@@ -27,10 +28,10 @@ view_there view (x ∷ xs) zero = refl
 view_there view (x ∷ xs) (suc at) = view_there view xs at
 
 -- how far the pin of a net at a place knows its source
-abbrev known_at : List ProcessState → ℕ → ℕ → ℕ
+abbrev pub known_at : List ProcessState → ℕ → ℕ → ℕ
 known_at processes net place = slice_index_or (map (λ (p : ProcessState). received_of p place) processes) net 0
 
-received_is : (state : State) (pin : ℕ) →
+pub received_is : (state : State) (pin : ℕ) →
     received_at state pin ≡ known_at state.processes (net_of_pin (nets_of state) pin) (place_of_pin (nets_of state) pin)
 received_is state pin =
     view_there (λ (p : ProcessState). received_of p (place_of_pin (nets_of state) pin)) state.processes (net_of_pin (nets_of state) pin)
@@ -48,7 +49,7 @@ kept_frontiers : (process : ProcessState) (place : ℕ) (received : List Knowled
 kept_frontiers process place [] = refl
 kept_frontiers process place (known ∷ received) = ap (λ ks. known.frontier ∷ ks) (kept_frontiers process (place + 1) received)
 
-advance_received : (state : State) (net pin : ℕ) → received_at (step state (Advance net)) pin ≡ received_at state pin
+pub advance_received : (state : State) (net pin : ℕ) → received_at (step state (Advance net)) pin ≡ received_at state pin
 advance_received state net pin =
     received_then state (after_advance state net) pin (map-update (λ (p : ProcessState). p.net) advanced net state.processes (λ p. refl))
     ∙ ap (λ ks. slice_index_or ks (net_of_pin (nets_of state) pin) 0)
@@ -70,16 +71,16 @@ module _ (process : ProcessState) (place : ℕ) (message : Message) (known : Kno
       let old : received_of process place ≡ known.frontier = view_at (λ (k : Knowledge). k.frontier) process.received place known at in
       omega arith
 
+  heard_elsewhere : (other : ℕ) → (other ≡ place → ⊥) → received_of (heard place message process) other ≡ received_of process other
+  heard_elsewhere other apart = view_of_update_other (λ (k : Knowledge). k.frontier) hears place process.received other apart
+
   heard_anywhere : (other : ℕ) → received_of process other ≤ received_of (heard place message process) other
   heard_anywhere other = go (cases_eq other place)
     where
       go : (other ≡ place) ⊎ (other ≡ place → ⊥) → received_of process other ≤ received_of (heard place message process) other
       go (inl is) =
           subst (λ o. received_of process o ≤ received_of (heard place message process) o) (sym is) (let less = heard_here in omega arith)
-      go (inr apart) =
-          let same : received_of (heard place message process) other ≡ received_of process other =
-          view_of_update_other (λ (k : Knowledge). k.frontier) hears place process.received other apart in
-          omega arith
+      go (inr apart) = let same = heard_elsewhere other apart in omega (arith, same)
 
 module _ (circuit : Circuit) (ok : IsCircuit circuit) (last : ℕ) (state : State) (sound : IsSound circuit last state) (pin : ℕ)
     (exists : pin < length state.lists) (message : Message) (messages : List Message) (waiting : slice_index_or state.lists pin [] ≡ message ∷ messages) where
@@ -101,35 +102,60 @@ module _ (circuit : Circuit) (ok : IsCircuit circuit) (last : ℕ) (state : Stat
       ∙ view_of_update_same view (heard (place_of_pin (nets_of state) pin) message) (net_of_pin (nets_of state) pin) state.processes process.0 process.1 in
       omega (arith, here, old, new)
 
+  -- a pin of another net
+  other_net : (other : ℕ) → (net_of_pin (nets_of state) other ≡ net_of_pin (nets_of state) pin → ⊥) → received_at after other ≡ received_at state other
+  other_net other apart =
+      received_then state (after_deliver state pin (message ∷ messages)) other same_nets
+      ∙ view_of_update_other (λ (p : ProcessState). received_of p (place_of_pin (nets_of state) other)) (heard (place_of_pin (nets_of state) pin) message)
+      (net_of_pin (nets_of state) pin) state.processes (net_of_pin (nets_of state) other) apart
+      ∙ sym (received_is state other)
+
+  -- a pin of the same net
+  own_net : (other : ℕ) → net_of_pin (nets_of state) other ≡ net_of_pin (nets_of state) pin →
+      (process : ProcessState) → slice_get state.processes (net_of_pin (nets_of state) pin) ≡ Some process →
+      (received_at state other ≡ received_of process (place_of_pin (nets_of state) other))
+      × (received_at after other ≡ received_of (heard (place_of_pin (nets_of state) pin) message process) (place_of_pin (nets_of state) other))
+  own_net other is process at = (
+    received_is state other ∙ ap (λ n. known_at state.processes n (place_of_pin (nets_of state) other)) is
+        ∙ view_at (λ (p : ProcessState). received_of p (place_of_pin (nets_of state) other)) state.processes (net_of_pin (nets_of state) pin) process at,
+    received_then state (after_deliver state pin (message ∷ messages)) other same_nets
+        ∙ ap (λ n. known_at (after_deliver state pin (message ∷ messages)).processes n (place_of_pin (nets_of state) other)) is
+        ∙ view_of_update_same (λ (p : ProcessState). received_of p (place_of_pin (nets_of state) other)) (heard (place_of_pin (nets_of state) pin) message)
+        (net_of_pin (nets_of state) pin) state.processes process at,
+  )
+
   deliver_lowers_none : (other : ℕ) → received_at state other ≤ received_at after other
   deliver_lowers_none other = go (cases_eq (net_of_pin (nets_of state) other) (net_of_pin (nets_of state) pin))
     where
-      new : received_at (after_deliver state pin (message ∷ messages)) other
-          ≡ known_at (after_deliver state pin (message ∷ messages)).processes (net_of_pin (nets_of state) other) (place_of_pin (nets_of state) other)
-      new = received_then state (after_deliver state pin (message ∷ messages)) other same_nets
-
       go : (net_of_pin (nets_of state) other ≡ net_of_pin (nets_of state) pin) ⊎ (net_of_pin (nets_of state) other ≡ net_of_pin (nets_of state) pin → ⊥) →
           received_at state other ≤ received_at (after_deliver state pin (message ∷ messages)) other
       go (inl is) =
           let process = process_of_pin circuit last state sound pin exists in
           let told_there = message_raises circuit ok last state sound pin message messages waiting exists process.0 process.1 in
           let more = heard_anywhere process.0 (place_of_pin (nets_of state) pin) message told_there.0 told_there.1 told_there.2 (place_of_pin (nets_of state) other) in
-          let old_there : received_at state other ≡ received_of process.0 (place_of_pin (nets_of state) other) =
-          received_is state other ∙ ap (λ n. known_at state.processes n (place_of_pin (nets_of state) other)) is
-          ∙ view_at (λ (p : ProcessState). received_of p (place_of_pin (nets_of state) other)) state.processes (net_of_pin (nets_of state) pin) process.0 process.1 in
-          let new_there : received_at (after_deliver state pin (message ∷ messages)) other
-          ≡ received_of (heard (place_of_pin (nets_of state) pin) message process.0) (place_of_pin (nets_of state) other) =
-          new ∙ ap (λ n. known_at (after_deliver state pin (message ∷ messages)).processes n (place_of_pin (nets_of state) other)) is
-          ∙ view_of_update_same (λ (p : ProcessState). received_of p (place_of_pin (nets_of state) other)) (heard (place_of_pin (nets_of state) pin) message)
-          (net_of_pin (nets_of state) pin) state.processes process.0 process.1 in
-          omega (arith, more, old_there, new_there)
-      go (inr apart) =
-          let same : received_at (after_deliver state pin (message ∷ messages)) other ≡ received_at state other =
-          new
-          ∙ view_of_update_other (λ (p : ProcessState). received_of p (place_of_pin (nets_of state) other)) (heard (place_of_pin (nets_of state) pin) message)
-          (net_of_pin (nets_of state) pin) state.processes (net_of_pin (nets_of state) other) apart
-          ∙ sym (received_is state other) in
-          omega (arith, same)
+          let there = own_net other is process.0 process.1 in
+          omega (arith, more, there)
+      go (inr apart) = let same = other_net other apart in omega (arith, same)
+
+  -- and leaves what another pin knows
+  deliver_leaves : (other : ℕ) → other < length state.lists → (other ≡ pin → ⊥) → received_at after other ≡ received_at state other
+  deliver_leaves other there apart = go (cases_eq (net_of_pin (nets_of state) other) (net_of_pin (nets_of state) pin))
+    where
+      go : (net_of_pin (nets_of state) other ≡ net_of_pin (nets_of state) pin) ⊎ (net_of_pin (nets_of state) other ≡ net_of_pin (nets_of state) pin → ⊥) →
+          received_at (after_deliver state pin (message ∷ messages)) other ≡ received_at state other
+      go (inl is) =
+          let count : pin_count (nets_of state) ≡ length state.lists = ap pin_count sound.nets ∙ sym sound.lists in
+          let here = (pin_is (nets_of state) pin (omega (arith, exists, count))).number_is in
+          let beside = (pin_is (nets_of state) other (omega (arith, there, count))).number_is in
+          let process = process_of_pin circuit last state sound pin exists in
+          let told_there = message_raises circuit ok last state sound pin message messages waiting exists process.0 process.1 in
+          let same = heard_elsewhere process.0 (place_of_pin (nets_of state) pin) message told_there.0 told_there.1 told_there.2
+          (place_of_pin (nets_of state) other) (λ place.
+          apart (sym beside ∙ ap (λ n. first_pin (nets_of state) n + place_of_pin (nets_of state) other) is
+          ∙ ap (λ at. first_pin (nets_of state) (net_of_pin (nets_of state) pin) + at) place ∙ here)) in
+          let known = own_net other is process.0 process.1 in
+          known.1 ∙ same ∙ sym known.0
+      go (inr apart) = other_net other apart
 
 -- ---- any event
 
@@ -147,6 +173,17 @@ module _ (circuit : Circuit) (ok : IsCircuit circuit) (last : ℕ) (state : Stat
           go : (messages : List Message) → slice_index_or state.lists pin [] ≡ messages → received_at state other ≤ received_at (after_deliver state pin messages) other
           go [] e = omega arith
           go (message ∷ messages) e = deliver_lowers_none circuit ok last state sound pin (there pin exists) message messages e other
+
+  -- a Deliver leaves what other pins know
+  pub deliver_elsewhere : (pin other : ℕ) → pin < pin_count circuit → other < pin_count circuit → (other ≡ pin → ⊥) →
+      received_at (step state (Deliver pin)) other ≡ received_at state other
+  deliver_elsewhere pin other exists other_exists apart = go (slice_index_or state.lists pin []) refl
+    where
+      go : (messages : List Message) → slice_index_or state.lists pin [] ≡ messages →
+          received_at (after_deliver state pin messages) other ≡ received_at state other
+      go [] e = refl
+      go (message ∷ messages) e =
+          deliver_leaves circuit ok last state sound pin (there pin exists) message messages e other (there other other_exists) apart
 
   -- a useful event raises some frontier
   pub useful_rises : (event : Event) → Exists circuit event → is_useful state event ≡ true → SomeRises state (step state event)

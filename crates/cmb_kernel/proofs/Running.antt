@@ -20,6 +20,7 @@ use Rattle.cmb_kernel.specs.Running.{state_of, IsRunning}
 use Rattle.cmb_kernel.specs.Sound.{waves_kept}
 use Rattle.cmb_kernel.proofs.Soundness.{net_at}
 use Rattle.cmb_kernel.proofs.LeastFrontier.{net_count}
+use Rattle.cmb_kernel.proofs.PinPlaces.{received_there}
 use Rattle.cmb_kernel.proofs.Completion.{frontier_within}
 use Rattle.cmb_kernel.proofs.Measure.{received_within}
 use Rattle.cmb_kernel.proofs.Consequences.{knows_net}
@@ -139,6 +140,31 @@ module _ {design : DesignView} {end : ℕ} {processes : List ProcessView} {sourc
       sym own ∙ ap (received_of process.state) place_there
       ∙ ap (λ at. option_map_or (λ (p : ProcessState). received_of p (place_of_pin (nets_of (state_of processes lists counts)) pin)) at 0)
       (sym here ∙ ap (slice_get (map (λ (p : ProcessView). p.state) processes)) net_there)
+
+  -- the same by the net of a pin and its place there
+  pub place_there : (net place : ℕ) (process : ProcessView) → net < length design.circuit → process ≡ slice_index_or processes net process →
+      ForSome (slice_get design.circuit net) (λ (n : Net). place < length n.pins) → place < length process.state.received
+  place_there net place process below is inside =
+      let here = (runs_at net process below is).at in
+      let own = net_at design.circuit circuit_ok end (state_of processes lists counts) all.sound net process.state here in
+      let pins = (all.sound.processes net process.state here).pins in
+      let within = inside process.state.net own in
+      omega (arith, pins, within)
+
+  pub received_by_place : (net place frontier : ℕ) (process : ProcessView) → net < length design.circuit →
+      process ≡ slice_index_or processes net process →
+      option_map (λ (known : Knowledge). known.frontier) (slice_get process.state.received place) ≡ Some frontier →
+      frontier ≡ received_at (state_of processes lists counts) (first_pin design.circuit net + place)
+  received_by_place net place frontier process below is told = go (slice_get process.state.received place) refl told
+    where
+      go : (found : Option Knowledge) → slice_get process.state.received place ≡ found →
+          option_map (λ (known : Knowledge). known.frontier) found ≡ Some frontier →
+          frontier ≡ received_at (state_of processes lists counts) (first_pin design.circuit net + place)
+      go None e told = cc
+      go (Some known) e told =
+          sym (same_Some known.frontier frontier told)
+          ∙ sym (received_there design.circuit circuit_ok end (state_of processes lists counts) all.sound net place process.state known
+          (runs_at net process below is).at e)
 
   pub received_in_time : (net place frontier : ℕ) (process : ProcessView) → net < length design.circuit → process ≡ slice_index_or processes net process →
       option_map (λ (known : Knowledge). known.frontier) (slice_get process.state.received place) ≡ Some frontier → frontier ≤ end

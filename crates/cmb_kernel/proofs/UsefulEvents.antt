@@ -188,7 +188,7 @@ slowest_useful circuit ok last state sound empty net below slowest early =
     view_at (λ (p : ProcessState). p.known.frontier) state.processes net process.0 process.1 in
     let known = pins_know circuit last (least_frontier last state) state sound ok empty
     (λ n h. least_frontier-le circuit last state sound n h) in
-    let farther = advances_farther circuit last (least_frontier last state) state net sound ok (omega arith) known below in
+    let farther = advances_farther circuit last (least_frontier last state) state net sound ok (omega arith) (known net) below in
     let new : frontier_at (step state (Advance net)) net ≡ next_frontier process.0 =
     view_of_update_same (λ (p : ProcessState). p.known.frontier) advanced net state.processes process.0 process.1 in
     let delay = least_delay-positive circuit last ok (omega arith) in

@@ -1,5 +1,6 @@
 pub mod State
 pub mod Step
+pub mod Sweeps
 pub mod Useful
 pub mod Sound
 pub mod Drains

@@ -11,6 +11,7 @@ mod drains;
 mod events;
 mod frontiers;
 mod rounds;
+mod sweeps;
 mod useful;
 
 use crate::counts::Counts;

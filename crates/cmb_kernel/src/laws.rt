@@ -1,12 +1,13 @@
 //! Facts about the steps of a run alone.
-ghost use Rattle.std.specs.Prelude.{◌≡◌, ℕ, ◌+◌, ◌*◌, ◌≤◌, ◌↔◌, min, List, ◌++◌, length, All, true};
+ghost use Rattle.std.specs.Prelude.{◌≡◌, ℕ, ◌+◌, ◌*◌, ◌<◌, ◌≤◌, ◌↔◌, min, List, ◌++◌, length, All, true};
 ghost use Rattle.logic3.specs.Wave.{changes_between, wave_of};
 ghost use Rattle.design.specs.Circuit.{Circuit, IsCircuit, pin_count};
 ghost use Rattle.design.specs.Equations.{value_of};
 ghost use Rattle.gate_process.specs.Step.{kept_from};
 ghost use Rattle.cmb_events.specs.declared.event.Event.{Event};
-ghost use Rattle.cmb_kernel.specs.State.{State, started, frontier_at, floor_at, least_frontier, least_delay, IsComplete};
+ghost use Rattle.cmb_kernel.specs.State.{State, started, frontier_at, received_at, floor_at, least_frontier, least_delay, IsComplete};
 ghost use Rattle.cmb_kernel.specs.Step.{step, steps, after_drain, round_of, rounds};
+ghost use Rattle.cmb_kernel.specs.Sweeps.{swept, HoldsAll, EventsLead};
 ghost use Rattle.cmb_kernel.specs.Useful.{NoneFalls, SomeRises, is_useful, progress, useful_count, useful_advances};
 ghost use Rattle.cmb_events.specs.Schedule.{Exists};
 ghost use Rattle.cmb_kernel.specs.Sound.{EachNet, EachPin, coming_to, CanDrain, IsSound, ForSound, KnowsNet, HearsSource};
@@ -48,6 +49,20 @@ pub fn no_deadlock()
         frontier_at (rounds count (started circuit last)) number ≤ frontier_at (rounds count state) number) }
 {}
 
+/// A sweep is events and nothing else, so that what holds of any events holds of sweeps; and a run that
+/// isn't complete can go on by a sweep.
+pub fn sweeps()
+    ensures events { ForSound (λ circuit last state. (tick : ℕ) (order : List ℕ) → All (λ net. net < length circuit) order →
+        EventsLead circuit state (swept tick order state)) }
+    ensures raises { ForSound (λ circuit last state. (tick : ℕ) (order : List ℕ) → All (λ net. net < length circuit) order →
+        HoldsAll circuit order → least_frontier last state ≤ tick →
+        min last (least_frontier last state + least_delay last circuit) ≤ least_frontier last (swept tick order state)) }
+    // A pin that is known up to the tick takes nothing.
+    ensures enough { ForSound (λ circuit last state. (tick : ℕ) (order : List ℕ) → All (λ net. net < length circuit) order →
+        (pin : ℕ) → pin < pin_count circuit → tick ≤ received_at state pin →
+        received_at (swept tick order state) pin ≡ received_at state pin) }
+{}
+
 /// A run goes the same whether nets are drained between its events or not, and nothing is lost: what is
 /// handed out of a net, and what is left of it, are what the equations give.
 pub fn drains_play_no_part()
@@ -55,6 +70,10 @@ pub fn drains_play_no_part()
         apart_from_waves (all_acted state actions) ≡ apart_from_waves (steps state (events_among actions))) }
     ensures sound { ForSound (λ circuit last state. (actions : List Action) → CanAct circuit state actions →
         IsSound circuit last (all_acted state actions)) }
+    ensures sweeps { (circuit : Circuit) → IsCircuit circuit → (last : ℕ) (one other : State) →
+        IsSound circuit last one → IsSound circuit last other → apart_from_waves one ≡ apart_from_waves other →
+        (tick : ℕ) (order : List ℕ) → All (λ net. net < length circuit) order →
+        apart_from_waves (swept tick order one) ≡ apart_from_waves (swept tick order other) }
     // Drains alone move floors.
     ensures floors { (state : State) (events : List Event) (net : ℕ) → floor_at (steps state events) net ≡ floor_at state net }
     ensures values { ForSound (λ circuit last state. (actions : List Action) → CanAct circuit state actions →

@@ -1,5 +1,6 @@
 use Rattle.std.proofs.Common.{refl}
 use Rattle.cmb_kernel.proofs.Mixed.{acted_alike, all_acted_sound, steps_floor, nothing_lost, all_given_out}
+use Rattle.cmb_kernel.proofs.SweepsAlike.{alike_sweep}
 use Rattle.cmb_kernel.proofs.laws.drains_play_no_part.Goals as goal
 
 pub returns-clause-same : goal.returns-clause-same
@@ -7,6 +8,10 @@ returns-clause-same c circuit ok last state sound actions allowed = acted_alike 
 
 pub returns-clause-sound : goal.returns-clause-sound
 returns-clause-sound c circuit ok last state sound actions = all_acted_sound circuit ok last state actions sound
+
+pub returns-clause-sweeps : goal.returns-clause-sweeps
+returns-clause-sweeps c circuit ok last one other sound_one sound_other alike tick order exist =
+    alike_sweep circuit ok last tick order one other sound_one sound_other exist alike
 
 pub returns-clause-floors : goal.returns-clause-floors
 returns-clause-floors c = steps_floor

@@ -1,0 +1,51 @@
+-- Sweeps: nets in some order take what they need to reach a tick, and advance.
+use Rattle.std.specs.Prelude.{◌≡◌, ℕ, ◌<◌, nat_lt, if◌then◌else◌, List, [], ◌∷◌, All, length, slice_get, slice_index_or}
+use Rattle.std.specs.List.{range_with_len, Contains}
+use Rattle.std.specs.Option.{option_map_or}
+use Rattle.design.specs.Circuit.{Net, Circuit}
+use Rattle.design.specs.Pins.{first_pin}
+use Rattle.cmb_channels.specs.declared.message.Message.{Message}
+use Rattle.cmb_events.specs.Schedule.{Exists}
+use Rattle.cmb_events.specs.declared.event.Event.{Event}
+use Rattle.cmb_events.specs.declared.event.Event.TheVariants.{Deliver, Advance}
+use Rattle.cmb_kernel.specs.State.{State, nets_of, received_at}
+use Rattle.cmb_kernel.specs.Step.{step, steps}
+
+-- the numbers of a net's pins
+abbrev pub pin_numbers : Circuit → ℕ → List ℕ
+pin_numbers circuit net =
+    range_with_len (first_pin circuit net) (option_map_or (λ (at : Net). length at.pins) (slice_get circuit net) 0)
+
+-- the state after a pin takes these messages, which wait there, one by one as long as it knows its source less far than to a tick
+abbrev pub taken_below : ℕ → ℕ → State → List Message → State
+taken_below tick pin state [] = state
+taken_below tick pin state (message ∷ messages) =
+    if nat_lt (received_at state pin) tick then taken_below tick pin (step state (Deliver pin)) messages else state
+
+-- the state after a pin catches up with a tick, as far as what waits there goes
+abbrev pub caught_up : ℕ → State → ℕ → State
+caught_up tick state pin = taken_below tick pin state (slice_index_or state.lists pin [])
+
+-- the state after these pins catch up, one after another
+abbrev pub all_caught_up : ℕ → State → List ℕ → State
+all_caught_up tick state [] = state
+all_caught_up tick state (pin ∷ pins) = all_caught_up tick (caught_up tick state pin) pins
+
+-- the state after the pins of a net catch up and the net advances
+abbrev pub swept_net : ℕ → State → ℕ → State
+swept_net tick state net = step (all_caught_up tick state (pin_numbers (nets_of state) net)) (Advance net)
+
+-- the state after a sweep: these nets do so, one after another
+abbrev pub swept : ℕ → List ℕ → State → State
+swept tick [] state = state
+swept tick (net ∷ order) state = swept tick order (swept_net tick state net)
+
+-- the list holds every net of a circuit
+abbrev pub HoldsAll : Circuit → List ℕ → Type 0
+HoldsAll circuit order = (net : ℕ) → net < length circuit → Contains order net
+
+-- some events lead from the one state to the other
+pub record EventsLead (circuit : Circuit) (old new : State) : Type 0 where
+  pub events : List Event
+  pub exist : All (Exists circuit) events
+  pub leads : steps old events ≡ new

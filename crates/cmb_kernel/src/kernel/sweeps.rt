@@ -1,0 +1,93 @@
+ghost use Rattle.std.specs.Prelude.{◌≡◌, ℕ, ◌+◌, ◌<◌, ◌≤◌, min, false, true, None, All, length, slice_get, OnOk, OnErr};
+ghost use Rattle.std.specs.Option.{ForSome};
+ghost use Rattle.design.specs.Circuit.{Net};
+ghost use Rattle.design.specs.Pins.{first_pin};
+ghost use Rattle.cmb_kernel.specs.State.{floor_at, received_at, least_frontier, least_delay};
+ghost use Rattle.cmb_kernel.specs.Sweeps.{caught_up, swept_net, swept, HoldsAll};
+ghost use Rattle.cmb_kernel.specs.Useful.{NoneFalls};
+ghost use Rattle.cmb_kernel.specs.Sound.{IsSound};
+ghost use Rattle.cmb_kernel.specs.Calls.{IsOutcome};
+
+use crate::fault::KernelFault;
+use crate::kernel::Kernel;
+use cmb_channels::Fabric;
+use cmb_events::Event;
+use std::alloc::AllocError;
+
+impl<'d, F: Fabric> Kernel<'d, F> {
+    /// Lets the nets of a list, one after another, take what they need to reach a tick, and advance: at
+    /// each pin of the net in order messages are taken as long as the pin is known up to less than the
+    /// tick, and then the net advances.
+    ///
+    /// A pin that is known up to the tick takes nothing. What is taken and each advance count as events;
+    /// a sweep is no round.
+    ///
+    /// # Errors
+    /// [`KernelFault::Failed`]; nothing changed. [`KernelFault::Memory`]; the kernel has failed from
+    /// then on.
+    pub fn sweep(&mut self, order: &[u32], tick: u64) -> Result<(), KernelFault>
+        requires nets { All (λ net. net < length self.old.circuit) order.now }
+        ensures outcome { IsOutcome self.old self.new None (swept tick order.now self.old.state) tt result }
+        // Where it goes over all nets, to a tick that is not below the least frontier, it raises that by
+        // at least the least delay, or to the end.
+        ensures raises { HoldsAll self.old.circuit order.now → least_frontier self.old.end self.old.state ≤ tick →
+            OnOk result
+            (min self.old.end (least_frontier self.old.end self.old.state + least_delay self.old.end self.old.circuit)
+            ≤ least_frontier self.new.end self.new.state) }
+        ensures none_falls { OnOk result (NoneFalls self.old.state self.new.state) }
+        // It takes out no changes.
+        ensures floors { OnOk result ((net : ℕ) → floor_at self.new.state net ≡ floor_at self.old.state net) }
+    {
+        self.check_running()?;
+        for net in order {
+            self.sweep_net(*net, tick)?;
+        }
+        Ok(())
+    }
+
+    /// Lets the pins of a net catch up with a tick, and advances the net. After an `AllocError` the
+    /// kernel has failed.
+    fn sweep_net(&mut self, net: u32, tick: u64) -> Result<(), AllocError>
+        requires running { self.old.failed ≡ false }
+        requires net { net < length self.old.circuit }
+        ensures ok { OnOk result (self.new ≡ record self.old { state = swept_net tick self.old.state net }) }
+        ensures err { OnErr result (self.new.failed ≡ true) }
+        ensures sound { OnOk result (IsSound self.new.circuit self.new.end self.new.state) }
+    {
+        for place in 0..self.design.pins_of(net).len() {
+            self.catch_up(net, place, tick)?;
+        }
+        self.step(Event::Advance(net))?;
+        Ok(())
+    }
+
+    /// Lets the pin at a place of a net take messages as long as it is known up to less than a tick.
+    /// After an `AllocError` the kernel has failed.
+    fn catch_up(&mut self, net: u32, place: usize, tick: u64) -> Result<(), AllocError>
+        requires running { self.old.failed ≡ false }
+        requires net { net < length self.old.circuit }
+        requires place { ForSome (slice_get self.old.circuit net) (λ (n : Net). place < length n.pins) }
+        ensures ok { OnOk result (self.new ≡ record self.old {
+          state = caught_up tick self.old.state (first_pin self.old.circuit net + place);
+        }) }
+        ensures err { OnErr result (self.new.failed ≡ true) }
+        ensures sound { OnOk result (IsSound self.new.circuit self.new.end self.new.state) }
+    {
+        let pin = self.design.pin(net, place);
+        let place = place as u32;
+        while self.received_there(net, place) < tick && self.waiting(pin) > 0 {
+            self.step(Event::Deliver(pin))?;
+        }
+        Ok(())
+    }
+
+    /// How many ticks of its source the pin at a place of a net knows.
+    fn received_there(&self, net: u32, place: u32) -> u64
+        requires running { self.now.failed ≡ false }
+        requires net { net < length self.now.circuit }
+        requires place { ForSome (slice_get self.now.circuit net) (λ (n : Net). place < length n.pins) }
+        ensures { result ≡ received_at self.now.state (first_pin self.now.circuit net + place) }
+    {
+        self.processes[net as usize].received(place)
+    }
+}
