@@ -177,6 +177,15 @@ least_delay-positive circuit last ok h =
     omega arith) in
     omega arith
 
+-- so what rises by it rises, but at the end
+pub rises_by_delay : (circuit : Circuit) (last from after : ℕ) → IsCircuit circuit → min last (from + least_delay last circuit) ≤ after →
+    from < last → from < after
+rises_by_delay circuit last from after ok raised below = farther last from (least_delay last circuit) after below
+    (least_delay-positive circuit last ok (omega arith)) raised
+  where
+    farther : (n a d b : ℕ) → a < n → 0 < d → min n (a + d) ≤ b → a < b
+    farther n a d b h some e = omega arith
+
 -- where no message waits, an Advance of a net of the least frontier is useful, unless that is the end
 pub slowest_useful : (circuit : Circuit) → IsCircuit circuit → (last : ℕ) (state : State) → IsSound circuit last state →
     ((pin : ℕ) → slice_index_or state.lists pin [] ≡ []) → (net : ℕ) → net < length circuit →

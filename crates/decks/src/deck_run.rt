@@ -1,13 +1,15 @@
 //! A run from one text.
-ghost use Rattle.std.specs.Prelude.{◌≡◌, Err, IfErr, IfOk, IsOkAnd};
+ghost use Rattle.std.specs.Prelude.{◌≡◌, Err, IfErr, IfOk, IsOkAnd, OnOk};
 ghost use Rattle.std.specs.Io.KnownBytes.{Appends};
+ghost use Rattle.deck_text.specs.Seen.{seen_sections};
+ghost use Rattle.runs.specs.Source.{seen_source};
 ghost use Rattle.runs.specs.declared.fault.SimFault.TheVariants.{Memory};
 ghost use Rattle.decks.specs.declared.deck_run.DeckFault.TheVariants.{Sim};
-ghost use Rattle.decks.specs.DeckRun.{DeckEndsBy, DeckMayWantMemory, deck_of_text, dump_of_deck, fault_of_deck, simulated_deck};
+ghost use Rattle.decks.specs.DeckRun.{DeckEndsBy, DeckMayWantMemory, deck_of_text, dump_of_deck, fault_of_deck, simulated_deck, source_of_deck, view_of_deck};
 
-use deck_text::{DeckTextFault, read_sections};
+use deck_text::{DeckTextFault, Sections, read_sections};
 use program_io::ProgramFault;
-use runs::{Picks, Report, Show, SimFault, Source, View, simulate};
+use runs::{Picks, Report, Show, SimFault, Source, View, simulate, sweep};
 use std::alloc::Global;
 use std::io::Write;
 use thiserror::Error;
@@ -73,6 +75,34 @@ pub fn deck<W: Write>(alloc: Global, text: &[u8], out: &mut W) -> Result<Report,
     ensures memory { result ≡ Err (Sim Memory) → DeckMayWantMemory text.now }
 {
     let sections = read_sections(text)?;
+    let (source, view) = run_of(sections);
+    Ok(simulate(alloc, &source, &view, out)?)
+}
+
+/// Writes the same dump, by a run in sweeps.
+///
+/// # Errors
+/// As [`deck`].
+pub(crate) fn deck_in_sweeps<W: Write>(
+    alloc: Global,
+    text: &[u8],
+    out: &mut W,
+) -> Result<(), DeckFault>
+    ensures ok { OnOk result (IsOkAnd (dump_of_deck text.now)
+        (Appends (W.contents out.old) (W.contents out.new))) }
+    ensures err { IfErr result (DeckEndsBy (dump_of_deck text.now)
+        (W.contents out.old) (W.contents out.new)) }
+{
+    let (source, view) = run_of(read_sections(text)?);
+    sweep(alloc, &source, &view, out)?;
+    Ok(())
+}
+
+/// What the sections of a deck run, and what its dump shows.
+fn run_of(sections: Sections<'_>) -> (Source<'_>, View)
+    ensures source { seen_source result.0 ≡ source_of_deck (seen_sections sections) }
+    ensures view { result.1 ≡ view_of_deck (seen_sections sections) }
+{
     let source = Source {
         bench: sections.bench,
         delays: sections.delays,
@@ -86,5 +116,5 @@ pub fn deck<W: Write>(alloc: Global, text: &[u8], out: &mut W) -> Result<Report,
         show: Show::All,
         unit: TimeUnit::Ns,
     };
-    Ok(simulate(alloc, &source, &view, out)?)
+    (source, view)
 }

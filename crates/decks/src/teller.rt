@@ -2,7 +2,7 @@
 ghost use Rattle.decks.specs.DeckRun.{dump_of_deck};
 ghost use Rattle.decks.specs.Tell.{DeckTold, IsUnreadDeck, TellEnds};
 
-use crate::deck_run::deck;
+use crate::deck_run::deck_in_sweeps;
 use program_io::status::DONE;
 use program_io::{ProgramFault, ReadFault, SECTIONS, flush, read_text, report};
 use std::alloc::Global;
@@ -43,8 +43,8 @@ pub fn answer_deck<W: Write, E: Write>(alloc: Global, text: &[u8], out: &mut W, 
     ensures { DeckTold (W.contents out.old) (W.contents out.new) (E.contents err.old) (E.contents err.new)
         result (dump_of_deck text.now) }
 {
-    match deck(alloc, text, out) {
-        Ok(_) => match flush(out) {
+    match deck_in_sweeps(alloc, text, out) {
+        Ok(()) => match flush(out) {
             Ok(()) => DONE,
             Err(fault) => report(err, fault, SECTIONS),
         },

@@ -30,9 +30,9 @@ module _ (P : Result Answer ProgramFault → Type 0) where
   -- ---- before a byte is written
 
   -- a fault of the only run, which is the answer unless memory was wanting
-  pub AnswerEndsBy-unwritten : (held : Option (List ℕ)) (fault : SimFault) → ((failed : DumpFault) → fault ≢ Dump failed) →
+  pub AnswerEndsBy-unwritten : (held : Option (List ℕ)) (fault : SimFault) → ((broken : DumpFault) → fault ≢ Dump broken) →
       (fault ≢ Memory → P (Err (fault_of_run First fault))) → AnswerEndsBy P held held (fault_of_run First fault)
-  AnswerEndsBy-unwritten held (Dump failed) unwritten refused = absurd (unwritten failed refl)
+  AnswerEndsBy-unwritten held (Dump broken) unwritten refused = absurd (unwritten broken refl)
   AnswerEndsBy-unwritten held Memory unwritten refused = inl (Keeps-refl held)
   AnswerEndsBy-unwritten held _ unwritten refused = (refused (λ e. (cc)), Keeps-refl held)
 
@@ -46,7 +46,7 @@ module _ (P : Result Answer ProgramFault → Type 0) where
       stands other refused = rw refused refl
 
       go : (at : Side) (fault : SimFault) → IsTwinRefusal twins (on at fault) → AnswerEndsBy P held held (fault_of_run at fault)
-      go at (Dump failed) refusal = absurd refusal
+      go at (Dump broken) refusal = absurd refusal
       go at Memory refusal = inl (Keeps-refl held)
       go at fault refusal = (is _ (stands (on at fault) refusal), Keeps-refl held)
 
@@ -59,7 +59,7 @@ module _ (P : Result Answer ProgramFault → Type 0) where
     -- is refused before a byte is written
     pub AnswerEndsBy-refused : (result : Result A SimFault) → P (answered answer_of result) → (held : Option (List ℕ)) (fault : SimFault) →
         IsRefusal result fault → AnswerEndsBy P held held (fault_of_run First fault)
-    AnswerEndsBy-refused result is held (Dump failed) refused = absurd refused
+    AnswerEndsBy-refused result is held (Dump broken) refused = absurd refused
     AnswerEndsBy-refused result is held Memory refused = inl (Keeps-refl held)
     AnswerEndsBy-refused result is held _ refused = (subst (λ (r : Result A SimFault). P (answered answer_of r)) refused is, Keeps-refl held)
 
@@ -70,8 +70,8 @@ module _ (P : Result Answer ProgramFault → Type 0) where
     -- ends by a fault of it
     pub AnswerEndsBy-run : (result : Result A SimFault) → P (answered answer_of result) → (old new : Option (List ℕ)) (fault : SimFault) →
         RunEndsBy (text_in result) old new fault → AnswerEndsBy P old new (fault_of_run First fault)
-    AnswerEndsBy-run (Ok value) is old new (Dump failed) part = (answer_of value, is, part)
-    AnswerEndsBy-run (Err fault) is old new (Dump failed) part = absurd part
+    AnswerEndsBy-run (Ok value) is old new (Dump broken) part = (answer_of value, is, part)
+    AnswerEndsBy-run (Err fault) is old new (Dump broken) part = absurd part
     AnswerEndsBy-run (Ok value) is old new Memory part = inr (answer_of value, is, part)
     AnswerEndsBy-run (Err fault) is old new Memory kept = inl kept
     AnswerEndsBy-run result is old new fault ends = (subst (P) (answered-refused result fault ends.0) is, ends.1)
@@ -89,10 +89,10 @@ module _ (P : Result Answer ProgramFault → Type 0) where
 
   -- the dump of a run went out, and its counts are those asked for
   pub GoesOut-run : (counts : Bool) (result : Result (List ℕ × Report) SimFault) → P (answered (with_counts counts) result) →
-      (old new : Option (List ℕ)) (report : Report) → IsOkAnd result (λ done. Appends old new done.0 × (report ≡ done.1)) →
-      GoesOut P old new (then_some counts report.total)
-  GoesOut-run counts (Ok done) is old new report went = (with_counts counts done, is, (went.0, ap (λ (r : Report). then_some counts r.total) went.1))
-  GoesOut-run counts (Err fault) is old new report went = absurd went
+      (old new : Option (List ℕ)) (total : Option Counts) →
+      IsOkAnd result (λ done. Appends old new done.0 × (total ≡ then_some counts (done.1).total)) → GoesOut P old new total
+  GoesOut-run counts (Ok done) is old new total went = (with_counts counts done, is, went)
+  GoesOut-run counts (Err fault) is old new total went = absurd went
 
   -- the same where the run's answer is a text alone
   pub GoesOut-dump : (result : Result (List ℕ) SimFault) → P (answered just result) → (old new : Option (List ℕ)) →
@@ -106,7 +106,7 @@ module _ (P : Result Answer ProgramFault → Type 0) where
     GoesOut-text done = (just text, is, (rw (← same) done, refl))
 
     pub AnswerEndsBy-text : (fault : ProgramFault) → WriteEndsBy old new written fault → AnswerEndsBy P old new fault
-    AnswerEndsBy-text fault (inl (failed, is_output, part)) = rw is_output (just text, is, rw (← same) part)
+    AnswerEndsBy-text fault (inl (broken, is_output, part)) = rw is_output (just text, is, rw (← same) part)
     AnswerEndsBy-text fault (inr (is_flush, done)) = rw is_flush (just text, is, rw (← same) done)
 
   -- a flush keeps what was written
@@ -120,12 +120,12 @@ module _ (P : Result Answer ProgramFault → Type 0) where
 -- ---- none of these faults is a failed read
 
 pub fault_of_run-no_read : (side : Side) (fault : SimFault) → IsNoRead (fault_of_run side fault)
-fault_of_run-no_read side (Dump failed) = tt
+fault_of_run-no_read side (Dump broken) = tt
 fault_of_run-no_read side Memory = tt
 fault_of_run-no_read side fault = tt
 
 pub WriteEndsBy-no_read : (old new : Option (List ℕ)) (text : List ℕ) (fault : ProgramFault) → WriteEndsBy old new text fault → IsNoRead fault
-WriteEndsBy-no_read old new text fault (inl (failed, is, part)) = rw is tt
+WriteEndsBy-no_read old new text fault (inl (broken, is, part)) = rw is tt
 WriteEndsBy-no_read old new text fault (inr (is, done)) = rw is tt
 
 -- ---- an answer of one kind is one of another
@@ -138,7 +138,7 @@ module _ (P Q : Result Answer ProgramFault → Type 0) (turns : (answer : Result
   AnswerEndsBy-weaker (Read name) ends = ends
   AnswerEndsBy-weaker program.Memory (inl kept) = inl kept
   AnswerEndsBy-weaker program.Memory (inr (answer, is, part)) = inr (answer, turns (Ok answer) is, part)
-  AnswerEndsBy-weaker (Output failed) (answer, is, part) = (answer, turns (Ok answer) is, part)
+  AnswerEndsBy-weaker (Output broken) (answer, is, part) = (answer, turns (Ok answer) is, part)
   AnswerEndsBy-weaker Flush (answer, is, done) = (answer, turns (Ok answer) is, done)
   AnswerEndsBy-weaker fault ends = (turns (Err fault) ends.0, ends.1)
 

@@ -1,6 +1,10 @@
 //! Answers to texts, written out.
-ghost use Rattle.std.specs.Prelude.{◌≡◌, IfErr, IfOk};
+ghost use Rattle.std.specs.Prelude.{◌≡◌, IfErr, IfOk, IsOkAnd};
+ghost use Rattle.std.specs.Bool.{then_some};
+ghost use Rattle.std.specs.Io.KnownBytes.{Appends};
 ghost use Rattle.netlist.specs.Names.{seen_names};
+ghost use Rattle.runs.specs.Ends.{RunEndsBy};
+ghost use Rattle.runs.specs.Simulated.{dump_in, simulated};
 ghost use Rattle.runs.specs.Source.{seen_source};
 ghost use Rattle.program_io.specs.Answers.{AnswerEndsBy, GoesOut, IsAnswerOfCone, IsAnswerOfTwin, IsNoRead, check_answer, plain_answer, run_answer};
 
@@ -8,12 +12,12 @@ use crate::answer_text::{check_text, twin_text};
 use crate::output::{flush, write_text};
 use crate::program_fault::ProgramFault;
 use cmb_kernel::Counts;
-use runs::{Source, View, check, cone_text, plain, simulate, twin};
+use runs::{SimFault, Source, View, check, cone_text, plain, simulate, sweep, twin};
 use std::alloc::Global;
 use std::io::Write;
 
 /// Writes the dump of a run by the kernel and flushes once. Answers the counts at its end, where they
-/// are asked for.
+/// are asked for: then the run goes by rounds, and else in sweeps.
 ///
 /// # Errors
 /// Where the source or the view is refused nothing is written. After a failed write or a want of
@@ -31,9 +35,30 @@ pub fn write_run<W: Write>(
         (W.contents out.old) (W.contents out.new)) }
     ensures no_read { IfErr result IsNoRead }
 {
-    let report = simulate(alloc, source, view, out)?;
+    let total = dump_and_count(alloc, source, view, counts, out)?;
     flush(out)?;
-    Ok(counts.then_some(report.total))
+    Ok(total)
+}
+
+/// Writes the dump of a run by the kernel. Answers the counts at its end, where they are asked for.
+fn dump_and_count<W: Write>(
+    alloc: Global,
+    source: &Source<'_>,
+    view: &View,
+    counts: bool,
+    out: &mut W,
+) -> Result<Option<Counts>, SimFault>
+    ensures ok { IfOk result (λ total. IsOkAnd (simulated (seen_source source.now) view.now) (λ done.
+        Appends (W.contents out.old) (W.contents out.new) done.0 × (total ≡ then_some counts (done.1).total))) }
+    ensures err { IfErr result (RunEndsBy (dump_in (simulated (seen_source source.now) view.now))
+        (W.contents out.old) (W.contents out.new)) }
+{
+    if !counts {
+        sweep(alloc, source, view, out)?;
+        return Ok(None);
+    }
+    let report = simulate(alloc, source, view, out)?;
+    Ok(Some(report.total))
 }
 
 /// Writes the dump of a run by the plain engine and flushes once. Nothing is picked.

@@ -56,6 +56,8 @@ impl Pace {
         ensures raises { OnOk result
             (min kernel.old.end (least_frontier kernel.old.end kernel.old.state + least_delay kernel.old.end kernel.old.circuit)
             ≤ least_frontier kernel.new.end kernel.new.state) }
+        ensures rises { OnOk result (least_frontier kernel.old.end kernel.old.state < kernel.old.end →
+            least_frontier kernel.old.end kernel.old.state < least_frontier kernel.new.end kernel.new.state) }
         ensures floors { OnOk result
             ((net : ℕ) → floor_at kernel.new.state net ≡ floor_at kernel.old.state net) }
         ensures rounds { self.old ≡ Rounds → OnOk result (kernel.new.state ≡ round_of kernel.old.state) }
@@ -85,6 +87,8 @@ impl Sweeps {
         ensures raises { OnOk result
             (min kernel.old.end (least_frontier kernel.old.end kernel.old.state + least_delay kernel.old.end kernel.old.circuit)
             ≤ least_frontier kernel.new.end kernel.new.state) }
+        ensures rises { OnOk result (least_frontier kernel.old.end kernel.old.state < kernel.old.end →
+            least_frontier kernel.old.end kernel.old.state < least_frontier kernel.new.end kernel.new.state) }
         ensures floors { OnOk result
             ((net : ℕ) → floor_at kernel.new.state net ≡ floor_at kernel.old.state net) }
         ensures width { OnOk result (self.new ≡ record self.old {

@@ -91,6 +91,7 @@ pub(crate) fn complete<'r>(alloc: Global, run: &'r PreparedRun) -> Result<RunKer
 fn run_to_end(kernel: &mut RunKernel<'_>, pace: &mut Pace) -> Result<(), KernelFault>
     requires running { kernel.old.failed ≡ false }
     requires suits { Suits pace.old kernel.old.circuit kernel.old.end }
+    requires sound { IsSound kernel.old.circuit kernel.old.end kernel.old.state }
     requires undrained { IsUndrained kernel.old.state }
     ensures goes { OnOk result (kernel.new ≡ record kernel.old { state = kernel.new.state }) }
     ensures known { OnOk result (IsKnown kernel.new) }

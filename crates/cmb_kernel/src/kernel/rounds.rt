@@ -28,6 +28,8 @@ impl<'d, F: Fabric> Kernel<'d, F> {
         ensures raises { OnOk result
             (min self.old.end (least_frontier self.old.end self.old.state + least_delay self.old.end self.old.circuit)
             ≤ least_frontier self.new.end self.new.state) }
+        ensures rises { OnOk result (least_frontier self.old.end self.old.state < self.old.end →
+            least_frontier self.old.end self.old.state < least_frontier self.new.end self.new.state) }
     {
         self.check_running()?;
         self.deliver_all()?;

@@ -34,6 +34,9 @@ impl<'d, F: Fabric> Kernel<'d, F> {
             OnOk result
             (min self.old.end (least_frontier self.old.end self.old.state + least_delay self.old.end self.old.circuit)
             ≤ least_frontier self.new.end self.new.state) }
+        ensures rises { HoldsAll self.old.circuit order.now → least_frontier self.old.end self.old.state ≤ tick →
+            OnOk result (least_frontier self.old.end self.old.state < self.old.end →
+            least_frontier self.old.end self.old.state < least_frontier self.new.end self.new.state) }
         ensures none_falls { OnOk result (NoneFalls self.old.state self.new.state) }
         // It takes out no changes.
         ensures floors { OnOk result ((net : ℕ) → floor_at self.new.state net ≡ floor_at self.old.state net) }

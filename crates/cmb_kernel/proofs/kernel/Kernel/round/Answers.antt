@@ -1,4 +1,4 @@
-use Rattle.std.proofs.Common.{◌≡◌, ◌+◌, ◌≤◌, min, map, length, ap, sym, subst, ◌∙◌, rules}
+use Rattle.std.proofs.Common.{◌≡◌, ◌+◌, ◌<◌, ◌≤◌, min, map, length, ap, sym, subst, ◌∙◌, rules}
 use Rattle.std.specs.List.{range_with_len}
 use Rattle.cmb_events.specs.declared.event.Event.TheVariants.{Advance}
 use Rattle.cmb_kernel.specs.State.{State, KernelView, least_frontier, least_delay}
@@ -6,6 +6,7 @@ use Rattle.cmb_kernel.specs.Step.{steps, round_events, with_round}
 use Rattle.cmb_kernel.proofs.Running.{with_rounds}
 use Rattle.cmb_kernel.proofs.Moved.{moved_on, round_steps}
 use Rattle.cmb_kernel.proofs.LeastFrontier.{round_raises}
+use Rattle.cmb_kernel.proofs.UsefulEvents.{rises_by_delay}
 use Rattle.cmb_kernel.proofs.kernel.Kernel.round.Given.{Over}
 use Rattle.cmb_kernel.proofs.kernel.Kernel.round.Goals as goal
 use Rattle.cmb_kernel.proofs.kernel.Kernel.round.Goals.{In_ok-advance_all}
@@ -38,3 +39,11 @@ returns-clause-raises g c =
     + least_delay c.args.self.now.end c.args.self.now.circuit) ≤ least_frontier r.end r.state) (sym came)
     (round_raises c.args.self.now.circuit c.in_ok-check_running.ensures.circuit c.args.self.now.end c.args.self.now.state
     c.in_ok-check_running.ensures.sound)
+
+pub returns-clause-rises : goal.returns-clause-rises
+returns-clause-rises g c = λ below.
+    let now = c.args.self.now in
+    let came = c.self.view_is ∙ stepped g (goal.at.returns-clause-rises g c).In_ok-advance_all in
+    subst (λ (r : KernelView). least_frontier now.end now.state < least_frontier r.end r.state) (sym came)
+    (rises_by_delay now.circuit now.end _ _ c.in_ok-check_running.ensures.circuit
+    (round_raises now.circuit c.in_ok-check_running.ensures.circuit now.end now.state c.in_ok-check_running.ensures.sound) below)

@@ -1,4 +1,4 @@
-use Rattle.std.proofs.Common.{◌+◌, ◌≤◌, min, get_or, ap, sym, subst, ◌∙◌, arith}
+use Rattle.std.proofs.Common.{◌+◌, ◌<◌, ◌≤◌, min, get_or, ap, sym, subst, ◌∙◌, arith}
 use Rattle.cmb_kernel.specs.State.{KernelView, floor_at, least_frontier, least_delay}
 use Rattle.cmb_kernel.specs.Sweeps.{swept_net}
 use Rattle.cmb_kernel.specs.Useful.{NoneFalls}
@@ -6,6 +6,7 @@ use Rattle.cmb_kernel.proofs.Moved.{moved_on}
 use Rattle.cmb_kernel.proofs.EventsLead.{lead_falls, lead_floor}
 use Rattle.cmb_kernel.proofs.Sweeping.{sweep_leads, sweep_raises}
 use Rattle.cmb_kernel.proofs.SweepLoops.{one_more_net, all_nets}
+use Rattle.cmb_kernel.proofs.UsefulEvents.{rises_by_delay}
 use Rattle.cmb_kernel.proofs.kernel.Kernel.sweep.Goals as goal
 
 pub loop-net-preserved : goal.loop-net-preserved
@@ -22,6 +23,15 @@ returns-clause-raises g c = λ holds in_time.
     + least_delay c.args.self.now.end c.args.self.now.circuit) ≤ least_frontier r.end r.state) (sym came)
     (sweep_raises c.args.self.now.circuit c.in_ok-check_running.ensures.circuit c.args.self.now.end c.args.self.now.state
     c.in_ok-check_running.ensures.sound c.args.tick c.args.order.now c.requires.nets holds in_time)
+
+pub returns-clause-rises : goal.returns-clause-rises
+returns-clause-rises g c = λ holds in_time below.
+    let now = c.args.self.now in
+    let came = all_nets c.args.tick c.loop-net.net-index c.args.order.now now c.loop-net.invariant.run (omega arith) in
+    subst (λ (r : KernelView). least_frontier now.end now.state < least_frontier r.end r.state) (sym came)
+    (rises_by_delay now.circuit now.end _ _ c.in_ok-check_running.ensures.circuit
+    (sweep_raises now.circuit c.in_ok-check_running.ensures.circuit now.end now.state c.in_ok-check_running.ensures.sound c.args.tick c.args.order.now
+    c.requires.nets holds in_time) below)
 
 pub returns-clause-none_falls : goal.returns-clause-none_falls
 returns-clause-none_falls g c =
