@@ -7,7 +7,7 @@ use Rattle.std.proofs.lemmas.List.{get_or_append_left, get_or-append_right}
 use Rattle.std.proofs.lemmas.List.Elements.{All-append, All-weaker, All-contains_itself, Contains-append_right, filter_passes}
 use Rattle.design.specs.Circuit.{Circuit}
 use Rattle.design.specs.Flow.{rank_at, IsGate, FollowsFlow}
-use Rattle.design.specs.Walk.{times, nets_of_rank, IsGateOrder}
+use Rattle.design.specs.Walk.{times, nets_of_rank, with_gates, IsGateOrder}
 use Rattle.design.proofs.Ranks.{rank_within, rank_past}
 use Rattle.design.proofs.Times.{test_fails, the_count, times-append, some_time, contains_from_times, once_from_times, times_past, times_within}
 use Rattle.design.proofs.Behind.{Behind, AtEach, AtEach-append, follows_from_each, each_from_follows}
@@ -56,8 +56,8 @@ no_test r high = grind (arith, nat_tests)
 -- ---- the whole order
 
 module _ (circuit : Circuit) (gates : List ℕ) (known : IsGateOrder circuit gates) where
-  abbrev pub order : List ℕ
-  order = (nets_of_rank circuit 0 ++ gates) ++ nets_of_rank circuit 2
+  abbrev order : List ℕ
+  order = with_gates circuit gates
 
   times_in_all : (net : ℕ) → times net order ≡ tests (rank_at circuit net)
   times_in_all net =

@@ -11,10 +11,11 @@ rank Input = 0
 rank (Gate kind) = 1
 rank Flop = 2
 
--- the rank of the net of a number, and 3 past the last net
+-- the rank of the net of a number; past the last net it is none of these
 abbrev pub rank_at : Circuit → ℕ → ℕ
 rank_at circuit net = option_map_or (λ (n : Net). rank n.part) (slice_get circuit net) 3
 
+-- a gate drives the net
 abbrev pub IsGate : Circuit → ℕ → Type 0
 IsGate circuit net = rank_at circuit net ≡ 1
 
@@ -25,7 +26,7 @@ pub record Feeds (circuit : Circuit) (source gate : ℕ) : Type 0 where
   pub is_gate : IsGate circuit gate
   pub at_pin : Contains net.pins source
 
--- what a net shows comes to a gate: one that has the net at a pin, or one that has at a pin a gate to which it comes
+-- values flow from a net to the gates that have it at a pin, and from there on through gates alone
 pub data FlowsTo (circuit : Circuit) (from : ℕ) : ℕ → Type 0 where
   straight : (to : ℕ) → Feeds circuit from to → FlowsTo circuit from to
   through : (middle to : ℕ) → FlowsTo circuit from middle → Feeds circuit middle to → FlowsTo circuit from to

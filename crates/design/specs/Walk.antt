@@ -1,5 +1,5 @@
 -- The walk from gates back over their pins: which nets were seen, the gates on its path, and those that it has left.
-use Rattle.std.specs.Prelude.{◌≡◌, ℕ, ◌+◌, ◌<◌, ◌==◌, ◌&&◌, not, Bool, false, IsTrue, if◌then◌else◌, List, length, map, count_by, filter, slice_get, slice_index_or, Some, All, AllPairs}
+use Rattle.std.specs.Prelude.{◌≡◌, ℕ, ◌+◌, ◌<◌, ◌==◌, ◌&&◌, not, Bool, false, IsTrue, if◌then◌else◌, List, ◌++◌, length, map, count_by, filter, slice_get, slice_index_or, Some, All, AllPairs}
 use Rattle.std.specs.List.{range_with_len}
 use Rattle.design.specs.declared.order.Step.{Step}
 use Rattle.design.specs.Circuit.{Net, Circuit}
@@ -12,6 +12,10 @@ times net nets = count_by (λ other. other == net) nets
 -- the nets of a rank, rising
 abbrev pub nets_of_rank : Circuit → ℕ → List ℕ
 nets_of_rank circuit wanted = filter (λ net. rank_at circuit net == wanted) (range_with_len 0 (length circuit))
+
+-- inputs, these gates, and flip-flops
+abbrev pub with_gates : Circuit → List ℕ → List ℕ
+with_gates circuit gates = nets_of_rank circuit 0 ++ gates ++ nets_of_rank circuit 2
 
 -- each gate once and nothing else, and each behind the gates at its pins, unless values flow back
 pub record IsGateOrder (circuit : Circuit) (gates : List ℕ) : Type 0 where

@@ -3,11 +3,11 @@
 //! A walk goes from gates back over their pins, as deep as it can, and leaves a gate once it has
 //! seen all its pins. It keeps its path in a list of its own, so that long chains of gates take no
 //! stack.
-ghost use Rattle.std.specs.Prelude.{◌≡◌, ◌≢◌, ℕ, ◌+◌, ◌<◌, ◌≤◌, ◌==◌, not, [], ◌∷◌, ◌++◌, false, length, map, set, slice_index_or, true, All, AllPairs, Contains, IfOk, OnOk};
+ghost use Rattle.std.specs.Prelude.{◌≡◌, ◌≢◌, ℕ, ◌<◌, ◌≤◌, ◌==◌, not, [], ◌∷◌, ◌++◌, false, length, map, set, slice_index_or, true, All, AllPairs, Contains, IfOk, OnOk};
 ghost use Rattle.std.specs.List.{range_with_len};
 ghost use Rattle.design.specs.Design.{IsDesign};
 ghost use Rattle.design.specs.Flow.{rank, rank_at, FollowsFlow};
-ghost use Rattle.design.specs.Walk.{nets_of_rank, is_seen, IsGateOrder, IsWalk, KeepsSeen, SeenBefore};
+ghost use Rattle.design.specs.Walk.{nets_of_rank, with_gates, is_seen, IsGateOrder, IsWalk, KeepsSeen, SeenBefore};
 
 use crate::design::Design;
 use netlist::Part;
@@ -31,9 +31,17 @@ pub fn flow_order(alloc: Global, design: &Design) -> Result<Vec<u32>, AllocError
     ensures behind { IfOk result (λ order. FollowsFlow design.now.circuit order.items) }
 {
     let gates = gates_in_order(alloc, design)?;
+    let order = with_gates(alloc, design, gates.as_slice())?;
+    Ok(order)
+}
+
+/// The inputs, these gates, and the flip-flops.
+fn with_gates(alloc: Global, design: &Design, gates: &[u32]) -> Result<Vec<u32>, AllocError>
+    ensures { IfOk result (λ order. order.items ≡ with_gates design.now.circuit gates.now) }
+{
     let mut order = Vec::new(alloc);
     list_nets(design, Part::Input, &mut order)?;
-    order.extend_from_slice(gates.as_slice())?;
+    order.extend_from_slice(gates)?;
     list_nets(design, Part::Flop, &mut order)?;
     Ok(order)
 }
