@@ -16,7 +16,7 @@ abbrev pub pin_numbers : Circuit → ℕ → List ℕ
 pin_numbers circuit net =
     range_with_len (first_pin circuit net) (option_map_or (λ (at : Net). length at.pins) (slice_get circuit net) 0)
 
--- the state after a pin takes these messages, which wait there, one by one as long as it knows its source less far than to a tick
+-- the state after a pin takes these messages, which wait there, one by one as long as it is known up to less than a tick
 abbrev pub taken_below : ℕ → ℕ → State → List Message → State
 taken_below tick pin state [] = state
 taken_below tick pin state (message ∷ messages) =
@@ -44,7 +44,7 @@ swept tick (net ∷ order) state = swept tick order (swept_net tick state net)
 abbrev pub HoldsAll : Circuit → List ℕ → Type 0
 HoldsAll circuit order = (net : ℕ) → net < length circuit → Contains order net
 
--- some events lead from the one state to the other
+-- some events, each of a pin or net that is there, lead from the one state to the other
 pub record EventsLead (circuit : Circuit) (old new : State) : Type 0 where
   pub events : List Event
   pub exist : All (Exists circuit) events

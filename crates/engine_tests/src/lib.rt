@@ -24,3 +24,5 @@ mod rationed;
 mod schedules;
 #[cfg(test)]
 mod streams;
+#[cfg(test)]
+mod sweeps;

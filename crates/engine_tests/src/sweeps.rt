@@ -1,0 +1,125 @@
+//! The kernel by sweeps, over both fabrics: what is counted, and that each net shows what the plain
+//! engine says.
+ghost use Rattle.std.specs.Prelude.{◌≡◌, OnOk};
+
+use crate::circuits::{Circuit, GATED_OSCILLATOR, INVERTER, LATE_PIN};
+use cmb_channels::{Fabric, Logs, Queues};
+use cmb_kernel::{Counts, Kernel};
+use design::{Design, plain_waves};
+use std::alloc::Global;
+use std::process::Abort;
+use std::test::Fail;
+use timing_text::Horizon;
+
+// Sweeps to some ticks, and what is counted after them.
+#[derive(Clone, Copy)]
+struct Sweeps {
+    circuit: Circuit,
+    horizon: u64,
+    order: &'static [u32],
+    ticks: &'static [u64],
+    events: u64,
+    changes: u64,
+    nulls: u64,
+}
+
+// Sweeps to these ticks, one after another.
+fn sweep<F: Fabric>(
+    rt: &impl Abort,
+    design: &Design,
+    kernel: &mut Kernel<F>,
+    order: &[u32],
+    ticks: &[u64],
+) -> Result<(), Fail>
+    requires { kernel.old.circuit ≡ design.now.circuit }
+    ensures { OnOk result (kernel.new.circuit ≡ kernel.old.circuit) }
+{
+    let nets = design.nets();
+    assert!(rt; order.iter().all(|net| *net < nets));
+    for tick in ticks {
+        kernel.sweep(order, *tick)?;
+    }
+    Ok(())
+}
+
+// Each net shows what the plain engine says, to the end.
+fn shows_all<F: Fabric>(
+    rt: &impl Abort,
+    alloc: Global,
+    design: &Design,
+    horizon: Horizon,
+    kernel: &Kernel<F>,
+) -> Result<(), Fail>
+    requires { kernel.now.circuit ≡ design.now.circuit }
+{
+    assert!(rt; !kernel.is_failed());
+    assert!(rt; kernel.is_complete());
+    let waves = plain_waves(alloc, design, horizon)?;
+    for net in 0..design.nets() {
+        let wanted = waves.get(net as usize).expect(rt, "a waveform of this net");
+        assert!(rt; kernel.waveform(net) == wanted);
+    }
+    Ok(())
+}
+
+fn run<F: Fabric>(rt: &impl Abort, alloc: Global, sweeps: Sweeps) -> Result<(), Fail> {
+    let horizon = Horizon::new(sweeps.horizon)?;
+    let design = sweeps.circuit.build(alloc)?;
+    let mut kernel: Kernel<F> = Kernel::new(alloc, &design, horizon)?;
+    sweep(rt, &design, &mut kernel, sweeps.order, sweeps.ticks)?;
+    shows_all(rt, alloc, &design, horizon, &kernel)?;
+    assert!(rt; !kernel.is_failed());
+    let wanted = Counts {
+        events: sweeps.events,
+        changes: sweeps.changes,
+        nulls: sweeps.nulls,
+        rounds: 0,
+    };
+    assert_eq!(rt; kernel.counts(), wanted);
+    Ok(())
+}
+
+#[test]
+fn by_sweeps(rt: HostRuntime) -> Result<(), Fail> {
+    let inverter = Sweeps {
+        circuit: INVERTER,
+        horizon: 5,
+        order: &[0, 1],
+        ticks: &[6],
+        events: 5,
+        changes: 4,
+        nulls: 2,
+    };
+    for sweeps in [
+        inverter,
+        // The first sweep takes two of the three messages.
+        Sweeps {
+            ticks: &[2, 6],
+            events: 7,
+            ..inverter
+        },
+        // Each gate goes before those that feed it.
+        Sweeps {
+            circuit: LATE_PIN,
+            horizon: 8,
+            order: &[2, 1, 0],
+            ticks: &[9, 9, 9],
+            events: 19,
+            changes: 7,
+            nulls: 6,
+        },
+        Sweeps {
+            circuit: GATED_OSCILLATOR,
+            horizon: 12,
+            order: &[0, 1],
+            ticks: &[13, 13, 13, 13, 13, 13, 13],
+            events: 24,
+            changes: 6,
+            nulls: 5,
+        },
+    ] {
+        run::<Queues>(&rt, rt.alloc(), sweeps)?;
+        run::<Logs>(&rt, rt.alloc(), sweeps)?;
+    }
+    Ok(())
+}
