@@ -16,7 +16,8 @@ use Rattle.runs.specs.declared.simulation.Report.{Report}
 use Rattle.deck_text.specs.Deck.{Sections, ended_lines, sections_of, sections_of_lines}
 use Rattle.decks.specs.DeckRun.{DeckEndsBy, DeckMayWantMemory, deck_of_text, dump_of_deck, simulated_deck, source_of_deck, view_of_deck}
 use Rattle.runs.specs.Ends.{WritesPart, RunEndsBy}
-use Rattle.runs.specs.Source.{MayWantMemory, design_of_source, or_fault, dump_of_design}
+use Rattle.runs.specs.declared.view.View.{View}
+use Rattle.runs.specs.Source.{SourceView, MayWantMemory, design_of_source, or_fault, dump_of_design}
 use Rattle.deck_text.specs.Seen.{held, on_sections}
 use Rattle.runs.specs.Simulated.{dump_in, run_of_source, simulated}
 use Rattle.program_io.proofs.CallerLemmas.{cut, limited-cut}
@@ -48,6 +49,13 @@ simulated_deck-sections bytes found is = go (sections_of bytes) is
         ap (or_fault Sim) (sym (simulated-held s) ∙ ap (λ (d : Sections). simulated (source_of_deck d) (view_of_deck d)) same)
     go (Err fault) e = cc
 
+-- by a run that says the same
+pub simulated_deck-run : (bytes : List ℕ) (found : Sections) (source : SourceView) (view : View) → on_sections held (sections_of bytes) ≡ Ok found →
+    source ≡ source_of_deck found → view ≡ view_of_deck found → simulated_deck bytes ≡ or_fault Sim (simulated source view)
+simulated_deck-run bytes found source view is same_source same_view =
+    simulated_deck-sections bytes found is ∙ ap (λ s. or_fault Sim (simulated s (view_of_deck found))) (sym same_source)
+    ∙ ap (λ v. or_fault Sim (simulated source v)) (sym same_view)
+
 -- the answer to a text in which it found none
 dump_of_deck-bad_text : (bytes : List ℕ) (fault : DeckTextFault) → on_sections held (sections_of bytes) ≡ Err fault →
     dump_of_deck bytes ≡ Err (deck_of_text fault)
@@ -78,6 +86,11 @@ dump_of_deck-cut bytes = rw (sections_of-cut bytes) refl
 pub IsOkAnd-Sim : {A : Type 0} (answer : Result A SimFault) (P : A → Type 0) → IsOkAnd answer P → IsOkAnd (or_fault Sim answer) P
 IsOkAnd-Sim (Ok value) P done = done
 IsOkAnd-Sim (Err fault) P done = absurd done
+
+pub IsOkAnd-dump : (answer : Result (List ℕ × Report) SimFault) (P : List ℕ → Type 0) → IsOkAnd (dump_in answer) P →
+    IsOkAnd (dump_in (or_fault Sim answer)) P
+IsOkAnd-dump (Ok done) P went = went
+IsOkAnd-dump (Err fault) P went = absurd went
 
 WritesPart-Sim : (answer : Result (List ℕ) SimFault) (old new : Option (List ℕ)) → WritesPart answer old new → WritesPart (or_fault Sim answer) old new
 WritesPart-Sim (Ok text) old new part = part

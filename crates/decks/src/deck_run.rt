@@ -100,8 +100,8 @@ pub(crate) fn deck_in_sweeps<W: Write>(
 
 /// What the sections of a deck run, and what its dump shows.
 fn run_of(sections: Sections<'_>) -> (Source<'_>, View)
-    ensures source { seen_source result.0 ≡ source_of_deck (seen_sections sections) }
-    ensures view { result.1 ≡ view_of_deck (seen_sections sections) }
+    ensures source { seen_source result.0 ≡ source_of_deck (seen_sections sections.entry) }
+    ensures view { result.1 ≡ view_of_deck (seen_sections sections.entry) }
 {
     let source = Source {
         bench: sections.bench,
