@@ -54,11 +54,11 @@ impl<F: Fabric> Channels<F> {
             }
             Waits(pin, wanted) => {
                 assert!(rt; pin < self.pins);
-                assert_eq!(rt; self.fabric.waiting(pin), wanted);
+                assert!(rt; self.fabric.waiting(pin) == wanted);
             }
             Takes(pin, wanted) => {
                 assert!(rt; pin < self.pins);
-                assert_eq!(rt; self.fabric.take(pin), wanted);
+                assert!(rt; self.fabric.take(pin) == wanted);
             }
         }
         Ok(())
@@ -69,7 +69,7 @@ impl Channels<Logs> {
     // The log of a net holds so many messages.
     fn keeps(&self, rt: &impl Abort, net: u32, wanted: u64) {
         assert!(rt; net < self.nets);
-        assert_eq!(rt; self.fabric.kept(net), wanted);
+        assert!(rt; self.fabric.kept(net) == wanted);
     }
 }
 
@@ -92,8 +92,8 @@ fn follows<F: Fabric>(
     steps: &[Step],
 ) -> Result<(), Fail> {
     let mut channels: Channels<F> = Channels::empty_for(alloc, design)?;
-    assert_eq!(rt; channels.nets, joined.0);
-    assert_eq!(rt; channels.pins, joined.1);
+    assert!(rt; channels.nets == joined.0);
+    assert!(rt; channels.pins == joined.1);
     for step in steps {
         channels.step(rt, *step)?;
     }

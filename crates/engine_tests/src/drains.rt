@@ -70,20 +70,20 @@ impl<'d, F: Fabric> Run<'d, F> {
 
     fn keeps(&self, rt: &impl Abort, net: u32, floor: u64, before: Value, changes: &[Change]) {
         let kernel = self.kernel(rt, net);
-        assert_eq!(rt; kernel.floor(net), floor);
-        assert_eq!(rt; kernel.waveform(net).before(), before);
-        assert_eq!(rt; kernel.waveform(net).changes(), changes);
+        assert!(rt; kernel.floor(net) == floor);
+        assert!(rt; kernel.waveform(net).before() == before);
+        assert!(rt; kernel.waveform(net).changes() == changes);
     }
 
     fn step(&mut self, rt: &impl Abort, step: Step) -> Result<(), Fail> {
         match step {
             Goes(least) => {
                 self.round()?;
-                assert_eq!(rt; self.kernel(rt, 0).least_frontier(), least);
+                assert!(rt; self.kernel(rt, 0).least_frontier() == least);
             }
             Drains(net, bound, changes) => {
-                assert_eq!(rt; self.drain(rt, net, bound)?.as_slice(), changes);
-                assert_eq!(rt; self.kernel(rt, net).floor(net), bound);
+                assert!(rt; self.drain(rt, net, bound)?.as_slice() == changes);
+                assert!(rt; self.kernel(rt, net).floor(net) == bound);
             }
             Keeps(net, floor, before, changes) => self.keeps(rt, net, floor, before, changes),
         }
@@ -205,7 +205,7 @@ fn adds_up<F: Fabric>(
     let left = run.kernel(rt, net).waveform(net).changes();
     run.keeps(rt, net, floor, before, left);
     changes.extend_from_slice(left)?;
-    assert_eq!(rt; changes.as_slice(), whole.changes());
+    assert!(rt; changes.as_slice() == whole.changes());
     Ok(())
 }
 
@@ -267,8 +267,8 @@ fn low_and_high(alloc: Global) -> Result<Waveform, Fail> {
 fn split_of_a_waveform(rt: HostRuntime) -> Result<(), Fail> {
     let mut wave = low_and_high(rt.alloc())?;
     assert!(rt; wave.copy()? == wave);
-    assert_eq!(rt; wave.split_below(3)?.as_slice(), [LOW].as_slice());
-    assert_eq!(rt; wave.before(), Zero);
-    assert_eq!(rt; wave.changes(), [HIGH].as_slice());
+    assert!(rt; wave.split_below(3)?.as_slice() == [LOW].as_slice());
+    assert!(rt; wave.before() == Zero);
+    assert!(rt; wave.changes() == [HIGH].as_slice());
     Ok(())
 }

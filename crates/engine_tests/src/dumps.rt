@@ -12,7 +12,7 @@ use vcd_dump::{TimeUnit, dump};
 fn of_no_net(rt: &impl Abort, alloc: Global, design: &Design, horizon: Horizon) {
     let mut out = Vec::new(alloc);
     let answer = dump(alloc, &mut out, design, &[], &[], horizon, TimeUnit::Us);
-    assert_eq!(rt; answer, Ok(()));
+    assert!(rt; answer == Ok(()));
     let text =
         b"$version nullsim 1 $end\n$timescale 1 us $end\n$scope module top $end\n$upscope $end\n$enddefinitions $end\n#0\n$dumpvars\n$end\n#5\n";
     assert!(rt; out.as_slice() == text.as_slice());
@@ -25,7 +25,7 @@ fn of_one_net(rt: &impl Abort, alloc: Global, design: &Design, horizon: Horizon)
     let mut out = Vec::new(alloc);
     let waves = [Waveform::new(alloc)];
     let answer = dump(alloc, &mut out, design, &[0], &waves, horizon, TimeUnit::Ns);
-    assert_eq!(rt; answer, Ok(()));
+    assert!(rt; answer == Ok(()));
     let text =
         b"$version nullsim 1 $end\n$timescale 1 ns $end\n$scope module top $end\n$var wire 1 ! a $end\n$upscope $end\n$enddefinitions $end\n#0\n$dumpvars\nx!\n$end\n#5\n";
     assert!(rt; out.as_slice() == text.as_slice());

@@ -27,7 +27,7 @@ fn counts(events: u64, changes: u64, nulls: u64, rounds: u64) -> Counts {
 
 fn counts_are<F: Fabric>(rt: &impl Abort, kernel: &Kernel<F>, wanted: Counts) {
     assert!(rt; !kernel.is_failed());
-    assert_eq!(rt; kernel.counts(), wanted);
+    assert!(rt; kernel.counts() == wanted);
 }
 
 // The net shows this up to a tick, and is known up to there.
@@ -45,13 +45,13 @@ fn shows<F: Fabric>(
     let nets = design.nets();
     assert!(rt; net < nets);
     assert!(rt; kernel.waveform(net) == wanted);
-    assert_eq!(rt; kernel.frontier(net), end);
+    assert!(rt; kernel.frontier(net) == end);
 }
 
 fn is_complete<F: Fabric>(rt: &impl Abort, kernel: &Kernel<F>, end: u64) {
     assert!(rt; !kernel.is_failed());
     assert!(rt; kernel.is_complete());
-    assert_eq!(rt; kernel.least_frontier(), end);
+    assert!(rt; kernel.least_frontier() == end);
 }
 
 // The kernel is complete, and each net shows what the plain engine says.
@@ -95,7 +95,7 @@ fn apply<F: Fabric>(
     kernel.apply_all(events)?;
     counts_are(rt, kernel, after.0);
     assert!(rt; !kernel.is_failed());
-    assert_eq!(rt; kernel.least_frontier(), after.1);
+    assert!(rt; kernel.least_frontier() == after.1);
     Ok(())
 }
 
@@ -214,7 +214,7 @@ fn applies<F: Fabric>(
 ) -> Result<(), Fail>
     ensures { OnOk result (kernel.new.circuit ≡ kernel.old.circuit) }
 {
-    assert_eq!(rt; kernel.apply(event)?, useful);
+    assert!(rt; kernel.apply(event)? == useful);
     Ok(())
 }
 
@@ -226,7 +226,7 @@ fn refuses<F: Fabric>(rt: &impl Abort, kernel: &mut Kernel<F>, events: &[Event],
         .apply_all(events)
         .expect_err(rt, "events are refused");
     assert!(rt; answer != KernelFault::Memory);
-    assert_eq!(rt; answer, fault);
+    assert!(rt; answer == fault);
 }
 
 // Ten million events are looked at one after the other; a list of one more is refused as it is.
@@ -261,12 +261,12 @@ fn refused_events<F: Fabric>(rt: &impl Abort, design: &Design, kernel: &mut Kern
     let no_such_pin = KernelFault::NoSuchPin { at: 0 };
     let answer = kernel.apply(Deliver(1)).expect_err(rt, "it is refused");
     assert!(rt; answer != KernelFault::Memory);
-    assert_eq!(rt; answer, no_such_pin);
+    assert!(rt; answer == no_such_pin);
     let no_such_net = KernelFault::NoSuchNet { at: 1 };
     refuses(rt, kernel, &[Advance(0), Advance(2)], no_such_net);
     assert!(rt; !kernel.is_failed());
     assert!(rt; 0 < design.nets());
-    assert_eq!(rt; kernel.frontier(0), 0);
+    assert!(rt; kernel.frontier(0) == 0);
 }
 
 fn use_fresh<F: Fabric>(rt: &impl Abort, alloc: Global, design: &Design) -> Result<(), Fail> {
@@ -318,11 +318,11 @@ fn pins_have<F: Fabric>(rt: &impl Abort, design: &Design, kernel: &Kernel<F>, wa
     requires { kernel.now.circuit ≡ design.now.circuit }
 {
     assert!(rt; !kernel.is_failed());
-    assert_eq!(rt; design.pins() as usize, wanted.len());
+    assert!(rt; (design.pins() as usize) == wanted.len());
     for pin in 0..design.pins() {
         let has = wanted.get(pin as usize).expect(rt, "what this pin has");
-        assert_eq!(rt; kernel.waiting(pin), has.0);
-        assert_eq!(rt; kernel.received(pin), has.1);
+        assert!(rt; kernel.waiting(pin) == has.0);
+        assert!(rt; kernel.received(pin) == has.1);
     }
 }
 
@@ -357,7 +357,7 @@ fn fault_texts(rt: HostRuntime) -> Result<(), Fail> {
         (KernelFault::Failed, "Failed"),
     ] {
         let shown = format!(in rt.alloc(); "{fault}")?;
-        assert_eq!(rt; shown.as_str(), text);
+        assert!(rt; shown.as_str() == text);
     }
     Ok(())
 }

@@ -127,7 +127,7 @@ impl Probe {
     // It tells just these messages.
     fn tells(&mut self, rt: &impl Abort, wanted: &[Message]) -> Result<(), Fail> {
         let messages = self.advance(rt)?;
-        assert_eq!(rt; messages.as_slice(), wanted);
+        assert!(rt; messages.as_slice() == wanted);
         Ok(())
     }
 
@@ -165,11 +165,11 @@ fn told() -> [Message; 3] {
 }
 
 fn input_tells(rt: &impl Abort, input: &mut Probe) -> Result<(), Fail> {
-    assert_eq!(rt; input.process(rt).safe(), 6);
-    assert_eq!(rt; input.process(rt).frontier(), 0);
+    assert!(rt; input.process(rt).safe() == 6);
+    assert!(rt; input.process(rt).frontier() == 0);
     input.tells(rt, &told())?;
     input.tells(rt, &[])?;
-    assert_eq!(rt; input.process(rt).frontier(), 6);
+    assert!(rt; input.process(rt).frontier() == 6);
     Ok(())
 }
 
@@ -193,11 +193,11 @@ fn first_messages_of_a_gate(rt: HostRuntime) -> Result<(), Fail> {
 
 // What the first pin of the AND gate is told.
 fn hear_first_pin(rt: &impl Abort, process: &mut Probe) -> Result<(), Fail> {
-    assert_eq!(rt; process.last(rt, 0), Unknown);
+    assert!(rt; process.last(rt, 0) == Unknown);
     process.hear(rt, 0, &[change(0, One), change(4, Zero), Null(7)])?;
-    assert_eq!(rt; process.process(rt).safe(), 0);
-    assert_eq!(rt; process.received(rt, 0), 7);
-    assert_eq!(rt; process.last(rt, 0), Zero);
+    assert!(rt; process.process(rt).safe() == 0);
+    assert!(rt; process.received(rt, 0) == 7);
+    assert!(rt; process.last(rt, 0) == Zero);
     Ok(())
 }
 
@@ -206,12 +206,12 @@ fn hear_second_pin(rt: &impl Abort, process: &mut Probe) -> Result<(), Fail> {
     process.tells(rt, &[Null(1)])?;
     process.answers(rt, 1, change(0, Zero), &[change(1, Zero)])?;
     process.hear(rt, 1, &[change(4, One)])?;
-    assert_eq!(rt; process.process(rt).safe(), 5);
+    assert!(rt; process.process(rt).safe() == 5);
     process.tells(rt, &[Null(6)])?;
     process.answers(rt, 1, Null(7), &[Null(7)])?;
     let waveform = process.process(rt).waveform();
-    assert_eq!(rt; waveform.value_at(6), Zero);
-    assert_eq!(rt; waveform.changes().len(), 1);
+    assert!(rt; waveform.value_at(6) == Zero);
+    assert!(rt; waveform.changes().len() == 1);
     Ok(())
 }
 
@@ -227,7 +227,7 @@ fn flop_tells(rt: &impl Abort, process: &mut Probe) -> Result<(), Fail> {
     process.answers(rt, 0, change(4, One), &[change(5, One), Null(9)])?;
     process.answers(rt, 0, change(5, Zero), &[])?;
     process.answers(rt, 0, Null(10), &[change(9, Zero)])?;
-    assert_eq!(rt; process.process(rt).waveform().changes().len(), 2);
+    assert!(rt; process.process(rt).waveform().changes().len() == 2);
     Ok(())
 }
 
@@ -239,20 +239,20 @@ fn flop_process(rt: HostRuntime) -> Result<(), Fail> {
 
 // What it shows before tick 9 is taken out, and nothing is left to take there.
 fn drain_flop(rt: &impl Abort, process: &mut Probe) -> Result<(), Fail> {
-    assert_eq!(rt; process.process(rt).floor(), 0);
+    assert!(rt; process.process(rt).floor() == 0);
     let rise = Change {
         tick: 5,
         value: One,
     };
-    assert_eq!(rt; process.drain_below(rt, 9)?.as_slice(), [rise].as_slice());
-    assert_eq!(rt; process.drain_below(rt, 9)?.len(), 0);
+    assert!(rt; process.drain_below(rt, 9)?.as_slice() == [rise].as_slice());
+    assert!(rt; process.drain_below(rt, 9)?.len() == 0);
     let fall = Change {
         tick: 9,
         value: Zero,
     };
-    assert_eq!(rt; process.process(rt).floor(), 9);
-    assert_eq!(rt; process.process(rt).waveform().before(), One);
-    assert_eq!(rt; process.process(rt).waveform().changes(), [fall].as_slice());
+    assert!(rt; process.process(rt).floor() == 9);
+    assert!(rt; process.process(rt).waveform().before() == One);
+    assert!(rt; process.process(rt).waveform().changes() == [fall].as_slice());
     Ok(())
 }
 
@@ -274,9 +274,9 @@ fn hear_far(rt: &impl Abort, process: &mut Probe) -> Result<(), Fail> {
 
 // So many messages, of which these are the first and the last.
 fn are_between(rt: &impl Abort, messages: &[Message], count: usize, first: Message, last: Message) {
-    assert_eq!(rt; messages.len(), count);
-    assert_eq!(rt; messages.first(), Some(&first));
-    assert_eq!(rt; messages.last(), Some(&last));
+    assert!(rt; messages.len() == count);
+    assert!(rt; messages.first() == Some(&first));
+    assert!(rt; messages.last() == Some(&last));
 }
 
 // It tells as much of that, and at first a bound and a change at tick 11.

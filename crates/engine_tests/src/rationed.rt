@@ -60,9 +60,9 @@ fn ends<F: Fabric>(
 ) -> Result<(), Fail> {
     let mut kernel: Kernel<F> = Kernel::new(alloc, design, Horizon::new(horizon)?)?;
     let answer = kernel.complete();
-    assert_eq!(rt; answer == Err(KernelFault::Memory), !completes);
-    assert_eq!(rt; answer == Ok(()), completes);
-    assert_eq!(rt; kernel.is_failed(), !completes);
+    assert!(rt; (answer == Err(KernelFault::Memory)) == !completes);
+    assert!(rt; (answer == Ok(())) == completes);
+    assert!(rt; kernel.is_failed() == !completes);
     Ok(())
 }
 

@@ -10,13 +10,13 @@ use std::test::Fail;
 // There is a schedule, and it has just these events.
 fn gives(rt: &impl Abort, answer: Result<Schedule, ScheduleFault>, events: &[Event]) {
     match answer {
-        Ok(schedule) => assert_eq!(rt; schedule.events(), events),
+        Ok(schedule) => assert!(rt; schedule.events() == events),
         Err(fault) => assert!(rt; false, "refused with {fault:?}"),
     }
 }
 
 fn is_refused(rt: &impl Abort, answer: Result<Schedule, ScheduleFault>, fault: ScheduleFault) {
-    assert_eq!(rt; answer.err(), Some(fault));
+    assert!(rt; answer.err() == Some(fault));
 }
 
 // What is said of a schedule's text for a circuit.
@@ -182,7 +182,7 @@ fn seeded_picks(rt: HostRuntime) -> Result<(), Fail> {
 // A hundred thousand events are picked, each of them of a pin or a net of the design.
 fn all_exist(rt: &impl Abort, alloc: Global, design: &Design) -> Result<(), Fail> {
     let schedule = Schedule::seeded(alloc, 2026, 100_000, design)?;
-    assert_eq!(rt; schedule.events().len(), 100_000);
+    assert!(rt; schedule.events().len() == 100_000);
     for event in schedule.events() {
         let exists = match *event {
             Deliver(pin) => pin < design.pins(),

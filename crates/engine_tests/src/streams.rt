@@ -59,9 +59,9 @@ impl Pair {
         let nets = design.nets();
         assert!(rt; 1 < nets);
         let horizon = Horizon::new(5)?;
-        assert_eq!(rt; horizon.ticks(), 5);
+        assert!(rt; horizon.ticks() == 5);
         let stream = Stream::begin(alloc, out, design, &[0, 1], horizon, TimeUnit::Ns)?;
-        assert_eq!(rt; stream.written(), 0);
+        assert!(rt; stream.written() == 0);
         Ok(Pair { stream })
     }
 
@@ -89,7 +89,7 @@ impl Pair {
 
     // What the end answers, of a stream that wrote all spans.
     fn finish<W: Write>(self, rt: &impl Abort, out: &mut W) -> Result<(), DumpFault> {
-        assert_eq!(rt; self.stream.written(), 6);
+        assert!(rt; self.stream.written() == 6);
         self.stream.finish(out)
     }
 }
@@ -131,14 +131,14 @@ const EACH_TICK: [Span; 6] = [
 fn writes(rt: &impl Abort, alloc: Global, design: &Design, spans: &[Span]) -> Result<(), Fail> {
     let mut out = Vec::new(alloc);
     let mut pair = Pair::begin(rt, alloc, &mut out, design)?;
-    assert_eq!(rt; out.len(), 145);
+    assert!(rt; out.len() == 145);
     for (upto, changes, bytes) in spans {
         let answer = pair.span(rt, alloc, &mut out, *upto, *changes)?;
-        assert_eq!(rt; answer, Ok(()));
-        assert_eq!(rt; pair.stream.written(), *upto);
-        assert_eq!(rt; out.len(), *bytes);
+        assert!(rt; answer == Ok(()));
+        assert!(rt; pair.stream.written() == *upto);
+        assert!(rt; out.len() == *bytes);
     }
-    assert_eq!(rt; pair.finish(rt, &mut out), Ok(()));
+    assert!(rt; pair.finish(rt, &mut out) == Ok(()));
     assert!(rt; out.as_slice() == INVERTER_DUMP);
     Ok(())
 }
@@ -163,7 +163,7 @@ fn stops<W: Write>(
     ensures { IfOk result (λ _. pair.new.stream.failed ≡ true) }
 {
     let answer = pair.span(rt, alloc, out, 6, [&[HIGH], &[RISE, FALL]])?;
-    assert_eq!(rt; answer.err().expect(rt, "a fault"), fault);
+    assert!(rt; answer.err().expect(rt, "a fault") == fault);
     Ok(())
 }
 
@@ -178,10 +178,10 @@ fn fails<W: Write>(
 ) -> Result<(), Fail> {
     let mut pair = Pair::begin(rt, alloc, out, design)?;
     let answer = pair.span(rt, alloc, out, 1, [&[LOW], &[]])?;
-    assert_eq!(rt; answer, Ok(()));
+    assert!(rt; answer == Ok(()));
     stops(rt, alloc, out, &mut pair, fault)?;
     stops(rt, alloc, out, &mut pair, DumpFault::Failed)?;
-    assert_eq!(rt; pair.stream.finish(out), Err(DumpFault::Failed));
+    assert!(rt; pair.stream.finish(out) == Err(DumpFault::Failed));
     Ok(())
 }
 
@@ -191,7 +191,7 @@ fn failed_streams(rt: HostRuntime) -> Result<(), Fail> {
     let design = INVERTER.build(rt.alloc())?;
     let mut out = Stumbling::new(rt.alloc(), 2, ErrorKind::Other);
     fails(&rt, rt.alloc(), &mut out, &design, DumpFault::Write)?;
-    assert_eq!(rt; out.calls, 3);
+    assert!(rt; out.calls == 3);
     assert!(rt; out.taken.as_slice() == &INVERTER_DUMP[..169]);
     Ok(())
 }

@@ -42,7 +42,7 @@ fn too_long_to_write(rt: HostRuntime) -> Result<(), AllocError> {
     for (gates, fault) in [(100, None), (960, Some(too_long))] {
         let bench = wide(rt.alloc(), gates)?;
         let answer = cone_text(rt.alloc(), bench.as_slice(), &[b"y".as_slice()]);
-        assert_eq!(rt; answer.err(), fault);
+        assert!(rt; answer.err() == fault);
     }
     Ok(())
 }

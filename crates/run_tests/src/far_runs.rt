@@ -80,7 +80,7 @@ const FALL: Change = Change {
 };
 
 fn rises_and_falls(rt: &impl Abort, wave: &Waveform) {
-    assert_eq!(rt; wave.changes(), [RISE, FALL].as_slice());
+    assert!(rt; wave.changes() == [RISE, FALL].as_slice());
 }
 
 #[test]
@@ -118,7 +118,7 @@ fn ten_thousand_nets(rt: HostRuntime) -> Result<(), Fail> {
     let mut out = Vec::new(rt.alloc());
     simulate(rt.alloc(), &source, &view, &mut out)?;
     let lines = out.iter().filter(|byte| **byte == b'\n').count();
-    assert_eq!(rt; lines, 20_008);
+    assert!(rt; lines == 20_008);
     Ok(())
 }
 
@@ -132,7 +132,7 @@ fn a_hundred_thousand_changes(rt: HostRuntime) -> Result<(), Fail> {
     };
     let answer = twin(rt.alloc(), &source, &source, b"y", 100_000)?;
     assert!(rt; answer.agree);
-    assert_eq!(rt; answer.first.changes().len(), 100_000);
-    assert_eq!(rt; answer.second.changes().len(), 100_000);
+    assert!(rt; answer.first.changes().len() == 100_000);
+    assert!(rt; answer.second.changes().len() == 100_000);
     Ok(())
 }

@@ -83,7 +83,7 @@ fn all_up_to(horizon: u64) -> View {
 // The plain engine has this dump.
 fn dumps_plainly(rt: &impl Abort, alloc: Global, source: &Source, view: &View, dump: &[u8]) {
     let mut out = Vec::new(alloc);
-    assert_eq!(rt; plain(alloc, source, view, &mut out), Ok(()));
+    assert!(rt; plain(alloc, source, view, &mut out) == Ok(()));
     assert!(rt; out.as_slice() == dump);
 }
 
@@ -98,7 +98,7 @@ fn runs(
 ) {
     let view = all_up_to(horizon);
     let mut out = Vec::new(alloc);
-    assert_eq!(rt; simulate(alloc, source, &view, &mut out), Ok(report));
+    assert!(rt; simulate(alloc, source, &view, &mut out) == Ok(report));
     assert!(rt; out.as_slice() == dump);
     dumps_plainly(rt, alloc, source, &view, dump);
 }
@@ -188,7 +188,7 @@ static RUNS: [Run; 11] = [
 
 #[test]
 fn worked_runs(rt: HostRuntime) {
-    assert_eq!(rt; INVERTER_DUMP.len(), 190);
+    assert!(rt; INVERTER_DUMP.len() == 190);
     for &(source, horizon, after, total, dump) in &RUNS {
         let report = Report {
             after: counts(after),
@@ -227,10 +227,7 @@ fn random_schedule(rt: HostRuntime) {
 // The run is refused, and nothing is written.
 fn refuses(rt: &impl Abort, alloc: Global, source: Source, fault: SimFault) {
     let mut out = Vec::new(alloc);
-    assert_eq!(rt;
-        simulate(alloc, &source, &all_up_to(5), &mut out),
-        Err(fault)
-    );
+    assert!(rt; simulate(alloc, &source, &all_up_to(5), &mut out) == Err(fault));
     assert!(rt; out.is_empty());
 }
 
@@ -278,7 +275,7 @@ fn writer_without_room(rt: HostRuntime) {
     let mut out = room.as_mut_slice();
     let answer = simulate(rt.alloc(), &INVERTER, &all_up_to(5), &mut out);
     let fault = SimFault::Dump(DumpFault::WroteNothing);
-    assert_eq!(rt; answer, Err(fault));
+    assert!(rt; answer == Err(fault));
     assert!(rt; room.as_slice() == &INVERTER_DUMP[..100]);
 }
 
@@ -286,7 +283,7 @@ fn writer_without_room(rt: HostRuntime) {
 fn writer_of_forty_bytes(rt: HostRuntime) {
     let mut out = Narrow::new(rt.alloc(), 40, 40);
     let answer = simulate(rt.alloc(), &INVERTER, &all_up_to(5), &mut out);
-    assert_eq!(rt; answer, Err(SimFault::Dump(DumpFault::Write)));
+    assert!(rt; answer == Err(SimFault::Dump(DumpFault::Write)));
     assert!(rt; out.taken.as_slice() == &INVERTER_DUMP[..40]);
 }
 
@@ -294,8 +291,8 @@ fn writer_of_forty_bytes(rt: HostRuntime) {
 fn breaks_off(rt: &impl Abort, alloc: Global, call: u32, kind: ErrorKind) {
     let mut out = Stumbling::new(alloc, call, kind);
     let answer = simulate(alloc, &INVERTER, &all_up_to(5), &mut out);
-    assert_eq!(rt; answer, Err(SimFault::Dump(DumpFault::Write)));
-    assert_eq!(rt; out.calls, call.saturating_add(1));
+    assert!(rt; answer == Err(SimFault::Dump(DumpFault::Write)));
+    assert!(rt; out.calls == call.saturating_add(1));
     assert!(rt; INVERTER_DUMP.starts_with(out.taken.as_slice()));
 }
 
@@ -316,14 +313,14 @@ fn pieces_of_a_dump(rt: HostRuntime) {
     let answer = simulate(rt.alloc(), &INVERTER, &all_up_to(5), &mut out);
     assert!(rt; answer.is_ok());
     assert!(rt; out.taken.as_slice() == INVERTER_DUMP);
-    assert_eq!(rt; out.calls, 4);
-    assert_eq!(rt; out.empty, 0);
+    assert!(rt; out.calls == 4);
+    assert!(rt; out.empty == 0);
 }
 
 // The dump of the outputs of a circuit, in picoseconds, up to tick 5.
 #[test]
 fn outputs_only(rt: HostRuntime) {
-    assert_eq!(rt; OUTPUTS_DUMP.len(), 160);
+    assert!(rt; OUTPUTS_DUMP.len() == 160);
     let view = View {
         horizon: 5,
         show: Show::Outputs,

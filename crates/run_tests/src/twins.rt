@@ -174,13 +174,13 @@ static COMPARED: [Compared; 12] = [
 
 // The waveform is X before its first change, and has just these changes.
 fn is_wave(rt: &impl Abort, wave: &Waveform, changes: &[Change]) {
-    assert_eq!(rt; wave.before(), Value::Unknown);
-    assert_eq!(rt; wave.changes(), changes);
+    assert!(rt; wave.before() == Value::Unknown);
+    assert!(rt; wave.changes() == changes);
 }
 
 // The runs agree or not, and show these changes.
 fn says(rt: &impl Abort, answer: &TwinAnswer, agree: bool, first: &[Change], second: &[Change]) {
-    assert_eq!(rt; answer.agree, agree);
+    assert!(rt; answer.agree == agree);
     is_wave(rt, &answer.first, first);
     is_wave(rt, &answer.second, second);
 }
@@ -299,7 +299,7 @@ static FAULTY: [Faulty; 10] = [
 
 // The comparison ends with this fault of this side.
 fn refuses(rt: &impl Abort, answer: Result<TwinAnswer, TwinFault>, side: Side, fault: SimFault) {
-    assert_eq!(rt; answer.err(), Some(TwinFault { side, fault }));
+    assert!(rt; answer.err() == Some(TwinFault { side, fault }));
 }
 
 // A source is refused on both sides, even where no run has a net of the name, and by a check.
@@ -315,7 +315,7 @@ fn faults_of_a_source(rt: HostRuntime) {
             let answer = twin(rt.alloc(), first, second, name, 5);
             refuses(&rt, answer, side, *fault);
         }
-        assert_eq!(rt; check(rt.alloc(), source, 5), Err(*fault));
+        assert!(rt; check(rt.alloc(), source, 5) == Err(*fault));
     }
 }
 
@@ -372,7 +372,7 @@ fn refused_comparisons(rt: HostRuntime) {
         refuses(&rt, answer, *side, *fault);
     }
     for horizon in [10_000_001, u64::MAX] {
-        assert_eq!(rt; check(rt.alloc(), &FAULTY_TEXT, horizon), Err(TOO_FAR));
+        assert!(rt; check(rt.alloc(), &FAULTY_TEXT, horizon) == Err(TOO_FAR));
     }
 }
 
@@ -408,9 +408,6 @@ static CHECKED: [Checked; 7] = [
 fn engines_that_agree(rt: HostRuntime) {
     for &(source, horizon, nets, pins) in &CHECKED {
         let same = nets;
-        assert_eq!(rt;
-            check(rt.alloc(), &source, horizon),
-            Ok(CheckAnswer { nets, pins, same })
-        );
+        assert!(rt; check(rt.alloc(), &source, horizon) == Ok(CheckAnswer { nets, pins, same }));
     }
 }

@@ -10,20 +10,20 @@ use std::test::Fail;
 // The net of this number has this name and is this part, with pins at these nets.
 fn net_is(rt: &impl Abort, netlist: &Netlist, net: u32, name: &[u8], part: Part, pins: &[u32]) {
     assert!(rt; net < netlist.nets());
-    assert_eq!(rt; netlist.name(net), name);
-    assert_eq!(rt; netlist.part(net), part);
-    assert_eq!(rt; netlist.pins_of(net), pins);
+    assert!(rt; netlist.name(net) == name);
+    assert!(rt; netlist.part(net) == part);
+    assert!(rt; netlist.pins_of(net) == pins);
 }
 
 fn finds(rt: &impl Abort, netlist: &Netlist, name: &[u8], net: Option<u32>) {
-    assert_eq!(rt; netlist.find(name), net);
+    assert!(rt; netlist.find(name) == net);
 }
 
 fn is_inverter(rt: &impl Abort, netlist: &Netlist) {
-    assert_eq!(rt; netlist.nets(), 2);
+    assert!(rt; netlist.nets() == 2);
     net_is(rt, netlist, 0, b"a", Part::Input, &[]);
     net_is(rt, netlist, 1, b"y", Part::Gate(GateKind::Not), &[0]);
-    assert_eq!(rt; netlist.outputs(), [1].as_slice());
+    assert!(rt; netlist.outputs() == [1].as_slice());
 }
 
 #[test]
@@ -82,14 +82,14 @@ static REFUSED: [(&[u8], BenchFault); 18] = [
 #[test]
 fn refused_texts(rt: HostRuntime) {
     for &(text, fault) in &REFUSED {
-        assert_eq!(rt; read(rt.alloc(), text).err(), Some(fault));
+        assert!(rt; read(rt.alloc(), text).err() == Some(fault));
     }
 }
 
 // The netlist of the text has this canonical text.
 fn is_written(rt: &impl Abort, alloc: Global, text: &[u8], canonical: &[u8]) -> Result<(), Fail> {
     let written = write(alloc, &read(alloc, text)?)?;
-    assert_eq!(rt; written.as_slice(), canonical);
+    assert!(rt; written.as_slice() == canonical);
     Ok(())
 }
 
@@ -133,7 +133,7 @@ fn read_input(alloc: Global, name: &[u8]) -> Result<Result<Netlist, BenchFault>,
 
 fn first_name_is(rt: &impl Abort, netlist: &Netlist, name: &[u8]) {
     assert!(rt; 0 < netlist.nets());
-    assert_eq!(rt; netlist.name(0), name);
+    assert!(rt; netlist.name(0) == name);
 }
 
 #[test]
@@ -141,7 +141,7 @@ fn limit_of_a_name(rt: HostRuntime) -> Result<(), Fail> {
     let name = [b'n'; 256];
     first_name_is(&rt, &read_input(rt.alloc(), &name[..255])??, &name[..255]);
     let answer = read_input(rt.alloc(), &name)?;
-    assert_eq!(rt; answer.err(), Some(BenchFault::NameTooLong { line: 1 }));
+    assert!(rt; answer.err() == Some(BenchFault::NameTooLong { line: 1 }));
     Ok(())
 }
 
@@ -169,15 +169,15 @@ fn read_wide(alloc: Global, pins: usize) -> Result<Result<Netlist, BenchFault>, 
 }
 
 fn gate_is_wide(rt: &impl Abort, netlist: &Netlist, pins: usize) {
-    assert_eq!(rt; netlist.nets(), 2);
-    assert_eq!(rt; netlist.pins_of(1).len(), pins);
+    assert!(rt; netlist.nets() == 2);
+    assert!(rt; netlist.pins_of(1).len() == pins);
 }
 
 #[test]
 fn limit_of_a_gate(rt: HostRuntime) -> Result<(), Fail> {
     gate_is_wide(&rt, &read_wide(rt.alloc(), 1024)??, 1024);
     let answer = read_wide(rt.alloc(), 1025)?;
-    assert_eq!(rt; answer.err(), Some(BenchFault::BadArity { line: 2 }));
+    assert!(rt; answer.err() == Some(BenchFault::BadArity { line: 2 }));
     Ok(())
 }
 
@@ -210,14 +210,14 @@ fn are_inputs(rt: &impl Abort, netlist: &Netlist) {
 }
 
 fn nets_are(rt: &impl Abort, netlist: &Netlist, count: u32) {
-    assert_eq!(rt; netlist.nets(), count);
+    assert!(rt; netlist.nets() == count);
 }
 
 #[test]
 fn limit_of_nets(rt: HostRuntime) -> Result<(), Fail> {
     are_inputs(&rt, &read_inputs(rt.alloc(), b"")??);
     let answer = read_inputs(rt.alloc(), b"INPUT(more)")?;
-    assert_eq!(rt; answer.err(), Some(BenchFault::TooMany));
+    assert!(rt; answer.err() == Some(BenchFault::TooMany));
     Ok(())
 }
 
@@ -253,15 +253,15 @@ fn read_pins(
 
 // The input and 977 gates, the last of them with so many pins.
 fn last_has(rt: &impl Abort, netlist: &Netlist, pins: usize) {
-    assert_eq!(rt; netlist.nets(), 978);
-    assert_eq!(rt; netlist.pins_of(977).len(), pins);
+    assert!(rt; netlist.nets() == 978);
+    assert!(rt; netlist.pins_of(977).len() == pins);
 }
 
 #[test]
 fn limit_of_pins(rt: HostRuntime) -> Result<(), Fail> {
     last_has(&rt, &read_pins(rt.alloc(), b"a", 576)??, 576);
     let answer = read_pins(rt.alloc(), b"a", 577)?;
-    assert_eq!(rt; answer.err(), Some(BenchFault::TooMany));
+    assert!(rt; answer.err() == Some(BenchFault::TooMany));
     Ok(())
 }
 
@@ -271,7 +271,7 @@ fn limit_of_a_written_text(rt: HostRuntime) -> Result<(), Fail> {
     let netlist = read_pins(rt.alloc(), b"fifteen_letters", 576)??;
     last_has(&rt, &netlist, 576);
     let written = write(rt.alloc(), &netlist);
-    assert_eq!(rt; written.err(), Some(BenchFault::TooLong));
+    assert!(rt; written.err() == Some(BenchFault::TooLong));
     Ok(())
 }
 
@@ -281,6 +281,6 @@ fn limit_of_a_text(rt: HostRuntime) -> Result<(), Fail> {
     nets_are(&rt, &read(rt.alloc(), text.as_slice())?, 1);
     text.push(b'x')?;
     let answer = read(rt.alloc(), text.as_slice());
-    assert_eq!(rt; answer.err(), Some(BenchFault::TooLong));
+    assert!(rt; answer.err() == Some(BenchFault::TooLong));
     Ok(())
 }

@@ -24,7 +24,7 @@ fn numbers(rt: HostRuntime) {
         (b"12a", None),
         (b"", None),
     ] {
-        assert_eq!(rt; number(word), value);
+        assert!(rt; number(word) == value);
     }
 }
 
@@ -39,7 +39,7 @@ fn lines_that_say_something(rt: HostRuntime) {
         None,
         None,
     ] {
-        assert_eq!(rt; lines.next(), line);
+        assert!(rt; lines.next() == line);
     }
 }
 
@@ -53,7 +53,7 @@ fn words_between_white_space(rt: HostRuntime) {
         None,
         None,
     ] {
-        assert_eq!(rt; words.next(), word);
+        assert!(rt; words.next() == word);
     }
 }
 
@@ -64,6 +64,6 @@ fn plain_bytes(rt: HostRuntime) {
         (b"b\n".as_slice(), false),
         (b"\x7f".as_slice(), false),
     ] {
-        assert_eq!(rt; is_plain(bytes), plain);
+        assert!(rt; is_plain(bytes) == plain);
     }
 }
