@@ -2,10 +2,13 @@
 //! engine says.
 ghost use Rattle.std.specs.Prelude.{◌≡◌, OnOk};
 
-use crate::circuits::{Circuit, GATED_OSCILLATOR, INVERTER, LATE_PIN};
+use crate::circuits::{
+    CROSSING, Circuit, GATED_OSCILLATOR, INVERTER, LATE_PIN, RING_COUNTER, S27, SAMPLER,
+    SELF_INVERTER,
+};
 use cmb_channels::{Fabric, Logs, Queues};
 use cmb_kernel::{Counts, Kernel};
-use design::{Design, plain_waves};
+use design::{Design, flow_order, plain_waves};
 use std::alloc::Global;
 use std::process::Abort;
 use std::test::Fail;
@@ -120,6 +123,48 @@ fn by_sweeps(rt: HostRuntime) -> Result<(), Fail> {
     ] {
         run::<Queues>(&rt, rt.alloc(), sweeps)?;
         run::<Logs>(&rt, rt.alloc(), sweeps)?;
+    }
+    Ok(())
+}
+
+// Sweeps in the order of flow, over windows of so many ticks.
+fn run_over_windows<F: Fabric>(
+    rt: &impl Abort,
+    alloc: Global,
+    circuit: Circuit,
+    horizon: u64,
+    width: u64,
+) -> Result<(), Fail> {
+    let design = circuit.build(alloc)?;
+    let order = flow_order(alloc, &design)?;
+    let mut ticks = Vec::new(alloc);
+    for window in 0..horizon.saturating_add(1) {
+        let next = window.saturating_add(1);
+        ticks.push(next.saturating_mul(width))?;
+    }
+    let horizon = Horizon::new(horizon)?;
+    let mut kernel: Kernel<F> = Kernel::new(alloc, &design, horizon)?;
+    sweep(rt, &design, &mut kernel, order.as_slice(), ticks.as_slice())?;
+    shows_all(rt, alloc, &design, horizon, &kernel)
+}
+
+#[test]
+fn over_windows(rt: HostRuntime) -> Result<(), Fail> {
+    for circuit in [
+        INVERTER,
+        SELF_INVERTER,
+        GATED_OSCILLATOR,
+        LATE_PIN,
+        SAMPLER,
+        RING_COUNTER,
+        CROSSING,
+        S27,
+    ] {
+        for horizon in [0, 40] {
+            for width in [1, 7, 41] {
+                run_over_windows::<Logs>(&rt, rt.alloc(), circuit, horizon, width)?;
+            }
+        }
     }
     Ok(())
 }

@@ -1,7 +1,7 @@
 //! Runs by the kernel: dumps byte for byte, what is reported, schedules.
 use cmb_events::ScheduleFault;
 use cmb_kernel::Counts;
-use runs::{Picks, Report, Show, SimFault, Source, View, plain, simulate};
+use runs::{Picks, Report, Show, SimFault, Source, View, plain, simulate, sweep};
 use std::alloc::Global;
 use std::io::ErrorKind;
 use std::process::Abort;
@@ -80,14 +80,17 @@ fn all_up_to(horizon: u64) -> View {
     }
 }
 
-// The plain engine has this dump.
-fn dumps_plainly(rt: &impl Abort, alloc: Global, source: &Source, view: &View, dump: &[u8]) {
+// In sweeps the run has this dump, and by the plain engine.
+fn dumps_alike(rt: &impl Abort, alloc: Global, source: &Source, view: &View, dump: &[u8]) {
+    let mut swept = Vec::new(alloc);
+    assert!(rt; sweep(alloc, source, view, &mut swept) == Ok(()));
+    assert!(rt; swept.as_slice() == dump);
     let mut out = Vec::new(alloc);
     assert!(rt; plain(alloc, source, view, &mut out) == Ok(()));
     assert!(rt; out.as_slice() == dump);
 }
 
-// The run ends with this report and this dump, which is the plain engine's too.
+// The run ends with this report and this dump, which is that of sweeps and of the plain engine too.
 fn runs(
     rt: &impl Abort,
     alloc: Global,
@@ -100,7 +103,7 @@ fn runs(
     let mut out = Vec::new(alloc);
     assert!(rt; simulate(alloc, source, &view, &mut out) == Ok(report));
     assert!(rt; out.as_slice() == dump);
-    dumps_plainly(rt, alloc, source, &view, dump);
+    dumps_alike(rt, alloc, source, &view, dump);
 }
 
 const DELIVERIES: &[u8] = b"deliver b 0\ndeliver y 0\ndeliver y 1\n";
@@ -221,6 +224,7 @@ fn random_schedule(rt: HostRuntime) {
         let answer = simulate(rt.alloc(), &source, &all_up_to(8), &mut out);
         assert!(rt; answer.is_ok_and(|report| report.after.events == picks));
         assert!(rt; out.as_slice() == EDGE_DUMP);
+        dumps_alike(&rt, rt.alloc(), &source, &all_up_to(8), EDGE_DUMP);
     }
 }
 
@@ -326,7 +330,7 @@ fn outputs_only(rt: HostRuntime) {
         show: Show::Outputs,
         unit: TimeUnit::Ps,
     };
-    dumps_plainly(&rt, rt.alloc(), &INVERTER, &view, OUTPUTS_DUMP);
+    dumps_alike(&rt, rt.alloc(), &INVERTER, &view, OUTPUTS_DUMP);
     let without_outputs = Source {
         bench: b"INPUT(a)",
         stimuli: b"",
@@ -334,5 +338,5 @@ fn outputs_only(rt: HostRuntime) {
     };
     let dump =
         b"$version nullsim 1 $end\n$timescale 1 ps $end\n$scope module top $end\n$upscope $end\n$enddefinitions $end\n#0\n$dumpvars\n$end\n#5\n";
-    dumps_plainly(&rt, rt.alloc(), &without_outputs, &view, dump);
+    dumps_alike(&rt, rt.alloc(), &without_outputs, &view, dump);
 }

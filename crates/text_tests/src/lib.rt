@@ -3,6 +3,8 @@
 #![tactic(auto)]
 
 #[cfg(test)]
+mod flow;
+#[cfg(test)]
 mod logic;
 #[cfg(test)]
 mod picking;
