@@ -10,7 +10,7 @@ use Rattle.gate_process.proofs.CallerLemmas.{least-bound}
 use Rattle.cmb_kernel.specs.State.{KernelView, IsUndrained, floor_at, is_complete, least_delay, least_frontier, most_rounds}
 use Rattle.cmb_kernel.specs.Step.{completed_within, round_of}
 use Rattle.cmb_kernel.specs.Sound.{IsSound}
-use Rattle.cmb_kernel.proofs.CallerLemmas.{RoundsAlike, falls, least_tells, no_round_yet, round_floor, round_more, same_counts, still_alike}
+use Rattle.cmb_kernel.proofs.CallerLemmas.{RoundsAlike, falls, least_tells, no_round_yet, round_more, same_counts, still_alike}
 use Rattle.vcd_dump.specs.Spans.{parts_of}
 use Rattle.runs.specs.Drained.{EachFloor, DrainsTo, values_of}
 use Rattle.runs.specs.Paces.{Suits}

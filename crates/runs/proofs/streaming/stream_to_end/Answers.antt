@@ -10,8 +10,6 @@ use Rattle.vcd_dump.specs.Spans.{StreamView, begun, parts_of, span_text, stream_
 use Rattle.vcd_dump.proofs.CallerLemmas.{stream_at-begun}
 use Rattle.runs.specs.Drained.{values_of}
 use Rattle.runs.specs.Ends.{BreaksOff}
-use Rattle.runs.specs.Paces.{Suits}
-use Rattle.runs.specs.declared.pace.Pace.{Pace}
 use Rattle.runs.specs.declared.pace.Pace.TheVariants.{Rounds}
 use Rattle.runs.proofs.Streamed.{Streamed, same, led, suits_of, suits_still, streamed_begins, least_within, streamed_more, streamed_less, known_whole, counts_are}
 use Rattle.runs.proofs.Streams.{text_before, text_begins, breaks_at_first, goes_on, breaks_in_span, breaks_here, ends, breaks_at_end}
