@@ -1,4 +1,4 @@
-ghost use Rattle.std.specs.Prelude.{◌≡◌};
+ghost use Rattle.std.specs.Prelude.{◌≡◌, Some};
 ghost use Rattle.bench_text.specs.declared.fault.BenchFault.TheVariants.{Memory};
 ghost use Rattle.bench_text.specs.Faults.{line_of, name_of};
 
@@ -76,6 +76,8 @@ impl BenchFault {
 }
 
 impl fmt::Display for BenchFault {
+    ghost output = { λ fault. Some (name_of fault) };
+
     fn fmt<W: fmt::Write>(&self, f: &mut fmt::Formatter<W>) -> Result<(), fmt::Error> {
         f.write_str(self.name())
     }

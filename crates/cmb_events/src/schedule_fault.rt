@@ -1,4 +1,4 @@
-ghost use Rattle.std.specs.Prelude.{◌≡◌};
+ghost use Rattle.std.specs.Prelude.{◌≡◌, Some};
 ghost use Rattle.cmb_events.specs.declared.schedule_fault.ScheduleFault.TheVariants.{Memory};
 ghost use Rattle.cmb_events.specs.ScheduleFaults.{line_of, name_of};
 
@@ -55,6 +55,8 @@ impl ScheduleFault {
 }
 
 impl fmt::Display for ScheduleFault {
+    ghost output = { λ fault. Some (name_of fault) };
+
     fn fmt<W: fmt::Write>(&self, f: &mut fmt::Formatter<W>) -> Result<(), fmt::Error> {
         f.write_str(self.name())
     }

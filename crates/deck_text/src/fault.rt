@@ -1,4 +1,4 @@
-ghost use Rattle.std.specs.Prelude.{◌≡◌};
+ghost use Rattle.std.specs.Prelude.{◌≡◌, Some};
 ghost use Rattle.deck_text.specs.Faults.{line_of, name_of};
 
 use std::fmt;
@@ -36,6 +36,8 @@ impl DeckTextFault {
 }
 
 impl fmt::Display for DeckTextFault {
+    ghost output = { λ fault. Some (name_of fault) };
+
     fn fmt<W: fmt::Write>(&self, f: &mut fmt::Formatter<W>) -> Result<(), fmt::Error> {
         f.write_str(self.name())
     }

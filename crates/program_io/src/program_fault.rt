@@ -1,5 +1,5 @@
 //! Why the program ended early.
-ghost use Rattle.std.specs.Prelude.{◌≡◌};
+ghost use Rattle.std.specs.Prelude.{◌≡◌, Some};
 ghost use Rattle.runs.specs.declared.twin_run.Side.TheVariants.{First};
 ghost use Rattle.program_io.specs.declared.program_fault.ProgramFault.TheVariants as program;
 ghost use Rattle.program_io.specs.ProgramFaults.{fault_of_read, fault_of_run, fault_of_twin, line_of, name_of, side_of};
@@ -91,6 +91,8 @@ impl<'a> ProgramFault<'a> {
 }
 
 impl fmt::Display for ProgramFault<'_> {
+    ghost output = { λ fault. Some (name_of fault) };
+
     fn fmt<W: fmt::Write>(&self, f: &mut fmt::Formatter<W>) -> Result<(), fmt::Error> {
         f.write_str(self.name())
     }

@@ -1,4 +1,4 @@
-ghost use Rattle.std.specs.Prelude.{◌≡◌};
+ghost use Rattle.std.specs.Prelude.{◌≡◌, Some};
 ghost use Rattle.timing_text.specs.declared.fault.DelayFault.TheVariants as delay;
 ghost use Rattle.timing_text.specs.declared.fault.StimulusFault.TheVariants as stimulus;
 ghost use Rattle.timing_text.specs.Faults.{delay_line, delay_name, option_name, stimulus_line, stimulus_name};
@@ -32,6 +32,8 @@ impl OptionFault {
 }
 
 impl fmt::Display for OptionFault {
+    ghost output = { λ fault. Some (option_name fault) };
+
     fn fmt<W: fmt::Write>(&self, f: &mut fmt::Formatter<W>) -> Result<(), fmt::Error> {
         f.write_str(self.name())
     }
@@ -91,6 +93,8 @@ impl DelayFault {
 }
 
 impl fmt::Display for DelayFault {
+    ghost output = { λ fault. Some (delay_name fault) };
+
     fn fmt<W: fmt::Write>(&self, f: &mut fmt::Formatter<W>) -> Result<(), fmt::Error> {
         f.write_str(self.name())
     }
@@ -170,6 +174,8 @@ impl StimulusFault {
 }
 
 impl fmt::Display for StimulusFault {
+    ghost output = { λ fault. Some (stimulus_name fault) };
+
     fn fmt<W: fmt::Write>(&self, f: &mut fmt::Formatter<W>) -> Result<(), fmt::Error> {
         f.write_str(self.name())
     }

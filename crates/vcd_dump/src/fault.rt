@@ -1,4 +1,4 @@
-ghost use Rattle.std.specs.Prelude.{◌≡◌};
+ghost use Rattle.std.specs.Prelude.{◌≡◌, Some};
 ghost use Rattle.vcd_dump.specs.declared.fault.DumpFault.TheVariants.{Memory};
 ghost use Rattle.vcd_dump.specs.Faults.{name_of};
 
@@ -34,6 +34,8 @@ impl DumpFault {
 }
 
 impl fmt::Display for DumpFault {
+    ghost output = { λ fault. Some (name_of fault) };
+
     fn fmt<W: fmt::Write>(&self, f: &mut fmt::Formatter<W>) -> Result<(), fmt::Error> {
         f.write_str(self.name())
     }
