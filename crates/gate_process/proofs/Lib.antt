@@ -7,6 +7,8 @@ mod Frontiers
 mod Heard
 mod Kept
 mod Nets
+mod Passed
+mod ReadOnce
 mod Reckoned
 mod Starts
 mod Steady

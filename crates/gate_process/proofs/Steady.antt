@@ -1,105 +1,161 @@
--- Between the changes at its pins a net changes nothing, so a walk over these changes finds all of its own.
-use Rattle.std.proofs.Common.{◌≡◌, ℕ, ◌<◌, ◌≤◌, nat_le, true, false, List, length, slice_index_or, Option, None, Some, option_map, refl, ap, sym, ◌∙◌, arith, ◌⊎◌, inl, inr, leb-true}
-use Rattle.std.specs.List.Sorted.{IsPartitionPoint}
+-- Between the changes of what it reads a net changes nothing, so a walk over these changes finds all of its own.
+use Rattle.std.proofs.Common.{◌≡◌, ℕ, ◌+◌, ◌<◌, ◌≤◌, min, List, [], ◌∷◌, Option, None, Some, map, option_map, refl, ap, sym, ◌∙◌, arith, ◌⊎◌, inl, inr}
 use Rattle.std.specs.Option.{option_map_or}
-use Rattle.std.proofs.lemmas.Bool.{cases_lt, le-leb, lt-leb}
+use Rattle.std.proofs.lemmas.Bool.{cases_lt}
 use Rattle.std.proofs.lemmas.Option.{none-some, same_Some}
 use Rattle.logic3.specs.declared.value.Value.{Value}
 use Rattle.logic3.specs.declared.value.Value.TheVariants.{Unknown}
-use Rattle.logic3.specs.declared.change.Change.{Change}
-use Rattle.logic3.specs.Gate.{value_of_gate, only_pin}
-use Rattle.logic3.specs.Rising.{TicksRise}
-use Rattle.logic3.specs.Wave.{value_after}
-use Rattle.logic3.proofs.CallerLemmas.{value_after-partition, RisesBy-ascends}
+use Rattle.logic3.specs.Wave.{Wave, value_at}
 use Rattle.netlist.specs.declared.part.Part.{Part}
 use Rattle.netlist.specs.declared.part.Part.TheVariants.{Input, Gate, Flop}
+use Rattle.design.specs.declared.samples.Timing.{Timing}
 use Rattle.design.specs.Circuit.{Net}
-use Rattle.design.specs.Samples.{timing_of, asked_of_part, asked_tick, asker_of_part, first_asker}
-use Rattle.design.specs.Equations.{values_at, equation_of_part, equation}
-use Rattle.design.proofs.CallerLemmas.{asked-before, asked-from, asked-mono, asker-late}
+use Rattle.design.specs.Samples.{timing_of, next_sample, asked_of_part, asker_of_part, first_asker}
+use Rattle.design.specs.Equations.{equation_of_part, equation}
+use Rattle.design.proofs.CallerLemmas.{asked-before, asked-early, asked-from, asked-mono, asker-late}
+use Rattle.gate_process.specs.Knowledge.{Knowledge}
+use Rattle.gate_process.specs.Reading.{read_by_part, read_by, read_tick, made_of, shown}
+use Rattle.gate_process.specs.Step.{signals_of}
+use Rattle.gate_process.proofs.ReadOnce.{seen_at}
 
--- up to the first change after a tick the value stays
-pub value_after-next : (before : Value) (changes : List Change) (tick late due : ℕ) → due ≤ length changes →
-    TicksRise changes →
-    IsPartitionPoint (λ (change : Change). nat_le change.tick tick ≡ true) (λ (change : Change). nat_le change.tick tick ≡ false) changes due →
-    tick ≤ late → ((d : Change) → due < length changes → late < (slice_index_or changes due d).tick) →
-    value_after before changes late ≡ value_after before changes tick
-value_after-next before changes tick late due inside rise point after next =
-    value_after-partition before changes late due inside (early, later) ∙ sym (value_after-partition before changes tick due inside point)
+-- ---- a gate and a flip-flop read the ticks that they ask for, an input the tick itself
+
+reads_asked : (part : Part) (timing : Timing) (known first tick : ℕ) → asker_of_part part timing known ≡ Some first →
+    read_tick part timing tick ≡ asked_of_part part timing tick
+reads_asked Input timing known first tick begins = absurd (none-some first begins)
+reads_asked (Gate kind) timing known first tick begins = refl
+reads_asked Flop timing known first tick begins = refl
+
+reads_itself : (part : Part) (timing : Timing) (known tick : ℕ) → asker_of_part part timing known ≡ None → read_tick part timing tick ≡ Some tick
+reads_itself Input timing known tick none = refl
+reads_itself (Gate kind) timing known tick none = absurd (none-some (known + timing.delay) (sym none))
+reads_itself Flop timing known tick none = absurd (none-some (next_sample timing.period known + timing.delay) (sym none))
+
+-- never later ones
+pub read_early : (timing : Timing) → 0 < timing.period → (part : Part) (tick at : ℕ) → read_tick part timing tick ≡ Some at → at ≤ tick
+read_early timing some Input tick at is = let same = same_Some tick at is in omega (arith, same)
+read_early timing some (Gate kind) tick at is = let early = asked-early timing some (Gate kind) tick at is in omega (arith, early)
+read_early timing some Flop tick at is = let early = asked-early timing some Flop tick at is in omega (arith, early)
+
+-- and later ones for later ticks
+read_onwards : (timing : Timing) → 0 < timing.period → (part : Part) (tick late at : ℕ) → read_tick part timing tick ≡ Some at → tick ≤ late →
+    (next : ℕ) × (read_tick part timing late ≡ Some next) × (at ≤ next)
+read_onwards timing some Input tick late at is h = let same = same_Some tick at is in (late, refl, omega (arith, same, h))
+read_onwards timing some (Gate kind) tick late at is h = asked-mono timing some (Gate kind) tick late at is h
+read_onwards timing some Flop tick late at is h = asked-mono timing some Flop tick late at is h
+
+-- ---- a net shows the same until the first tick that reads the next change
+
+module _ (net : Net) (some : 0 < net.period) where
+  by_values : (read : List Wave) (make : List Value → Value) (at : Option ℕ) →
+      option_map_or (λ t. make (seen_at t read)) at Unknown ≡ option_map_or make (option_map (λ t. seen_at t read) at) Unknown
+  by_values read make None = refl
+  by_values read make (Some at) = refl
+
+  -- a net that sees the same shows the same
+  same_seen : (read : List Wave) (tick late : ℕ) →
+      option_map (λ t. seen_at t read) (read_tick net.part (timing_of net) late)
+      ≡ option_map (λ t. seen_at t read) (read_tick net.part (timing_of net) tick) →
+      shown net read late ≡ shown net read tick
+  same_seen read tick late same =
+      by_values read (made_of net.part) (read_tick net.part (timing_of net) late)
+      ∙ ap (λ values. option_map_or (made_of net.part) values Unknown) same
+      ∙ sym (by_values read (made_of net.part) (read_tick net.part (timing_of net) tick))
+
+  -- while it reads nothing
+  module _ (read : List Wave) (tick limit : ℕ) (nothing : read_tick net.part (timing_of net) tick ≡ None) where
+    pub unread_later : tick < limit → tick < option_map_or (min limit) (first_asker net 0) 0
+    unread_later h = go (first_asker net 0) refl
+      where
+        late : (first : ℕ) → first_asker net 0 ≡ Some first → (tick < first) ⊎ (first ≤ tick) → tick < first
+        late first begins (inl h) = h
+        late first begins (inr h) =
+            let from = asked-from (timing_of net) some net.part 0 first tick begins h in
+            absurd (none-some from.0 (sym nothing ∙ reads_asked net.part (timing_of net) 0 first tick begins ∙ from.1))
+
+        go : (first : Option ℕ) → first_asker net 0 ≡ first → tick < option_map_or (min limit) first 0
+        go None none = absurd (none-some tick (sym nothing ∙ reads_itself net.part (timing_of net) 0 tick none))
+        go (Some first) begins = let after = late first begins (cases_lt tick first) in omega (arith, after, h)
+
+    pub unread_steady : (late : ℕ) → late < option_map_or (min limit) (first_asker net 0) 0 → shown net read late ≡ shown net read tick
+    unread_steady late h = go (first_asker net 0) refl h
+      where
+        none_yet : (first : ℕ) → first_asker net 0 ≡ Some first → late < first → (at : Option ℕ) → read_tick net.part (timing_of net) late ≡ at →
+            read_tick net.part (timing_of net) late ≡ None
+        none_yet first begins early None is = is
+        none_yet first begins early (Some at) is =
+            let before = asked-before (timing_of net) some net.part 0 first late at begins
+            (sym (reads_asked net.part (timing_of net) 0 first late begins) ∙ is) early in
+            absurd (omega (arith, before))
+
+        go : (first : Option ℕ) → first_asker net 0 ≡ first → late < option_map_or (min limit) first 0 → shown net read late ≡ shown net read tick
+        go None none early = absurd (omega (arith, early))
+        go (Some first) begins early =
+            same_seen read tick late (ap (option_map (λ t. seen_at t read))
+            (none_yet first begins (omega (arith, early)) (read_tick net.part (timing_of net) late) refl ∙ sym nothing))
+
+  -- once it reads a tick
+  module _ (tick at : ℕ) (is : read_tick net.part (timing_of net) tick ≡ Some at) where
+    -- and what it reads changes nothing up to another
+    module _ (read : List Wave) (limit change : ℕ) (next : at < change) where
+      pub read_later : tick < limit → tick < option_map_or (min limit) (first_asker net change) change
+      read_later h = go (first_asker net change) refl
+        where
+          late : (first : ℕ) → first_asker net change ≡ Some first → (tick < first) ⊎ (first ≤ tick) → tick < first
+          late first begins (inl h) = h
+          late first begins (inr h) =
+              let from = asked-from (timing_of net) some net.part change first tick begins h in
+              let same = same_Some at from.0 (sym is ∙ reads_asked net.part (timing_of net) change first tick begins ∙ from.1) in
+              absurd (omega (arith, same, next, from.2, asker-late (timing_of net) some net.part change first begins))
+
+          go : (first : Option ℕ) → first_asker net change ≡ first → tick < option_map_or (min limit) first change
+          go None none =
+              let same = same_Some at tick (sym is ∙ reads_itself net.part (timing_of net) change tick none) in omega (arith, same, next)
+          go (Some first) begins = let after = late first begins (cases_lt tick first) in omega (arith, after, h)
+
+      pub read_stays : ((t : ℕ) → at ≤ t → t < change → seen_at t read ≡ seen_at at read) →
+          (late : ℕ) → tick ≤ late → late < option_map_or (min limit) (first_asker net change) change → shown net read late ≡ shown net read tick
+      read_stays still late after h = go (first_asker net change) refl h
+        where
+          seen : (then : ℕ) → read_tick net.part (timing_of net) late ≡ Some then → at ≤ then → then < change → shown net read late ≡ shown net read tick
+          seen then at_then low high =
+              same_seen read tick late
+              (ap (option_map (λ t. seen_at t read)) at_then ∙ ap Some (still then low high) ∙ sym (ap (option_map (λ t. seen_at t read)) is))
+
+          go : (first : Option ℕ) → first_asker net change ≡ first → late < option_map_or (min limit) first change →
+              shown net read late ≡ shown net read tick
+          go None none early =
+              seen late (reads_itself net.part (timing_of net) change late none)
+              (let low = read_early (timing_of net) some net.part tick at is in omega (arith, low, after)) early
+          go (Some first) begins early =
+              let then = read_onwards (timing_of net) some net.part tick late at is after in
+              seen then.0 then.1 then.2
+              (asked-before (timing_of net) some net.part change first late then.0 begins
+              (sym (reads_asked net.part (timing_of net) change first late begins) ∙ then.1) (omega (arith, early)))
+
+    -- and what is left shows the same from there on
+    pub read_left : (old new : List Wave) → ((t : ℕ) → at ≤ t → seen_at t new ≡ seen_at t old) →
+        (late : ℕ) → tick ≤ late → shown net new late ≡ shown net old late
+    read_left old new same late after =
+        let then = read_onwards (timing_of net) some net.part tick late at is after in
+        ap (λ place. option_map_or (λ t. made_of net.part (seen_at t new)) place Unknown) then.1
+        ∙ ap (made_of net.part) (same then.0 then.2)
+        ∙ sym (ap (λ place. option_map_or (λ t. made_of net.part (seen_at t old)) place Unknown) then.1)
+
+-- ---- before any tick what a net reads shows what its equation gives
+
+signals_read : (received : List Knowledge) → map value_at (map (λ (known : Knowledge). known.wave) received) ≡ signals_of received
+signals_read [] = refl
+signals_read (known ∷ received) = ap (λ signals. value_at known.wave ∷ signals) (signals_read received)
+
+pub shown_by : (net : Net) (received : List Knowledge) (tick : ℕ) → shown net (read_by net received) tick ≡ equation net (signals_of received) tick
+shown_by net received tick = go net.part
   where
-    early : (k : ℕ) (d : Change) → 0 ≤ k → k < due → nat_le (slice_index_or changes k d).tick late ≡ true
-    early k d low high = let past = leb-true _ _ (point.0 k d low high) in le-leb _ _ (omega arith)
+    shows : Part → Value
+    shows part =
+        option_map_or (λ at. made_of part (seen_at at (read_by_part part net received))) (read_tick part (timing_of net) tick) Unknown
 
-    later : (k : ℕ) (d : Change) → due ≤ k → k < length changes → nat_le (slice_index_or changes k d).tick late ≡ false
-    later k d low high =
-        let ascends = RisesBy-ascends (λ (change : Change). change.tick) changes rise due k d low high in
-        let first = next d (omega arith) in
-        lt-leb _ _ (omega arith)
-
--- ---- a net shows the same until the first tick that asks for its pins' next change
-
-module _ (net : Net) (some : 0 < net.period) (signals : List (ℕ → Value)) where
-  -- what a net sees of its pins at a tick
-  abbrev seen : ℕ → Option (List Value)
-  seen tick = option_map (λ asked. values_at asked signals) (asked_tick net tick)
-
-  by_values : (make : List Value → Value) (asked : Option ℕ) →
-      option_map_or (λ at. make (values_at at signals)) asked Unknown ≡ option_map_or make (option_map (λ at. values_at at signals) asked) Unknown
-  by_values make None = refl
-  by_values make (Some at) = refl
-
-  -- a gate or a flip-flop that sees the same shows the same
-  same_seen : (part : Part) (tick late known first : ℕ) → asker_of_part part (timing_of net) known ≡ Some first →
-      option_map (λ at. values_at at signals) (asked_of_part part (timing_of net) late)
-      ≡ option_map (λ at. values_at at signals) (asked_of_part part (timing_of net) tick) →
-      equation_of_part part net signals late ≡ equation_of_part part net signals tick
-  same_seen Input tick late known first begins same = absurd (none-some first begins)
-  same_seen (Gate kind) tick late known first begins same =
-      by_values (value_of_gate kind) (asked_of_part (Gate kind) (timing_of net) late)
-      ∙ ap (λ values. option_map_or (value_of_gate kind) values Unknown) same
-      ∙ sym (by_values (value_of_gate kind) (asked_of_part (Gate kind) (timing_of net) tick))
-  same_seen Flop tick late known first begins same =
-      by_values only_pin (asked_of_part Flop (timing_of net) late)
-      ∙ ap (λ values. option_map_or only_pin values Unknown) same
-      ∙ sym (by_values only_pin (asked_of_part Flop (timing_of net) tick))
-
-  -- while it asks for nothing
-  module _ (tick first : ℕ) (asked : asked_tick net tick ≡ None) (begins : first_asker net 0 ≡ Some first) where
-    pub unasked_later : tick < first
-    unasked_later = go (cases_lt tick first)
-      where
-        go : (tick < first) ⊎ (first ≤ tick) → tick < first
-        go (inl h) = h
-        go (inr h) = let from = asked-from (timing_of net) some net.part 0 first tick begins h in absurd (none-some from.0 (sym asked ∙ from.1))
-
-    pub unasked_steady : (late : ℕ) → late < first → equation net signals late ≡ equation net signals tick
-    unasked_steady late early =
-        same_seen net.part tick late 0 first begins
-        (ap (option_map (λ at. values_at at signals)) (go (asked_tick net late) refl ∙ sym asked))
-      where
-        go : (at : Option ℕ) → asked_tick net late ≡ at → asked_tick net late ≡ None
-        go None is = is
-        go (Some at) is =
-            let before : at < 0 = asked-before (timing_of net) some net.part 0 first late at begins is early in absurd (omega (arith, before))
-
-  -- once it asks for a tick, and its pins change nothing up to another
-  module _ (tick at change first : ℕ) (asked : asked_tick net tick ≡ Some at) (next : at < change)
-      (begins : first_asker net change ≡ Some first) where
-    pub asked_later : tick < first
-    asked_later = go (cases_lt tick first)
-      where
-        go : (tick < first) ⊎ (first ≤ tick) → tick < first
-        go (inl h) = h
-        go (inr h) =
-            let from = asked-from (timing_of net) some net.part change first tick begins h in
-            let same = same_Some at from.0 (sym asked ∙ from.1) in
-            absurd (omega (arith, same, next, from.2, asker-late (timing_of net) some net.part change first begins))
-
-    pub asked_steady : ((t : ℕ) → at ≤ t → t < change → values_at t signals ≡ values_at at signals) →
-        (late : ℕ) → tick ≤ late → late < first → equation net signals late ≡ equation net signals tick
-    asked_steady still late after early =
-        let then = asked-mono (timing_of net) some net.part tick late at asked after in
-        let before = asked-before (timing_of net) some net.part change first late then.0 begins then.1 early in
-        same_seen net.part tick late change first begins
-        (ap (option_map (λ at. values_at at signals)) then.1 ∙ ap Some (still then.0 then.2 before)
-        ∙ sym (ap (option_map (λ at. values_at at signals)) asked))
+    go : (part : Part) → shows part ≡ equation_of_part part net (signals_of received) tick
+    go Input = refl
+    go (Gate kind) = ap (λ signals. equation_of_part (Gate kind) net signals tick) (signals_read received)
+    go Flop = ap (λ signals. equation_of_part Flop net signals tick) (signals_read received)

@@ -159,3 +159,9 @@ news-told signal from to ahead = go (to == from) refl
 
 pub continued-late : (wave : Wave) (from : ℕ) (signal : ℕ → Value) (tick : ℕ) → from ≤ tick → continued wave from signal tick ≡ signal tick
 continued-late wave from signal tick late = rw (le-ltb tick from late) refl
+
+-- where a waveform goes on with equal signals it changes at the same ticks
+pub continued_same : (wave : Wave) (from to : ℕ) (one other : ℕ → Value) → ((tick : ℕ) → one tick ≡ other tick) →
+    changes_between (continued wave from one) from to ≡ changes_between (continued wave from other) from to
+continued_same wave from to one other same =
+    ap (λ (signal : ℕ → Value). changes_between (continued wave from signal) from to) (λ i tick. same tick i)

@@ -1,4 +1,5 @@
 pub mod Knowledge
+pub mod Reading
 pub mod Step
 pub mod Truth
 pub use Rattle.logic3.specs.Gate

@@ -6,8 +6,10 @@ ghost use Rattle.logic3.specs.Wave.{value_at, value_before, last_value, joined, 
 ghost use Rattle.timing_text.specs.Ranges.{most_ticks};
 ghost use Rattle.design.specs.Equations.{equation};
 ghost use Rattle.gate_process.specs.Knowledge.{Knowledge, news_of, kept_since, keeping};
+ghost use Rattle.gate_process.specs.Reading.{reads, shown};
 ghost use Rattle.gate_process.specs.Step.{signals_of, continued};
 
+use crate::cursor::Cursor;
 use crate::net_copy::NetCopy;
 use crate::received::Received;
 use cmb_channels::Message;
@@ -37,20 +39,51 @@ pub fn extend(
         news_of (changes_between (continued wave.old from (equation net.now (signals_of received.now))) from to) to)) }
     ensures memory { OnErr result (from < to) }
 {
+    if from == to {
+        return Ok(Vec::new(alloc));
+    }
+    let mut cursors = net.cursors(alloc, received)?;
+    let messages = walk(alloc, net, cursors.as_mut_slice(), from, to, wave)?;
+    Ok(messages)
+}
+
+/// Carries a net's waveform on by what the net shows of what it reads, and answers the messages that
+/// tell of it.
+fn walk(
+    alloc: Global,
+    net: &NetCopy,
+    read: &mut [Cursor<'_>],
+    from: u64,
+    to: u64,
+    wave: &mut Waveform,
+) -> Result<Vec<Message>, AllocError>
+    requires read { length read.old ≡ reads net.now }
+    requires ahead { from ≤ to }
+    requires end { to ≤ most_ticks + 1 }
+    requires past { All (λ (change : Change). change.tick < from) wave.old.changes }
+    requires last { last_value wave.old ≡ value_before (value_at wave.old) from }
+    ensures wave { OnOk result (wave.new ≡ joined wave.old
+        (changes_between (continued wave.old from (shown net.now read.old)) from to)) }
+    ensures news { IfOk result (λ messages. messages.items ≡ (if to == from then [] else
+        news_of (changes_between (continued wave.old from (shown net.now read.old)) from to) to)) }
+{
     let mut messages = Vec::new(alloc);
-    let mut values = Vec::new(alloc);
+    let mut values = Vec::with_capacity(alloc, read.len())?;
     // The messages so far tell of the net up to here.
     let mut told = from;
     let mut tick = from;
     while tick < to {
-        let value = net.value_at(received, tick, &mut values)?;
-        if value != wave.last_value() {
-            let change = Change { tick, value };
+        let look = net.look(read, tick, to, &mut values)?;
+        if look.value != wave.last_value() {
+            let change = Change {
+                tick,
+                value: look.value,
+            };
             wave.push(change)?;
             messages.push(Message::Change(change))?;
             told = tick + 1;
         }
-        tick = net.steady_until(received, tick, to);
+        tick = look.until;
     }
     if told < to {
         messages.push(Message::Null(to))?;

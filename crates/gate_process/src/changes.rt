@@ -1,10 +1,9 @@
-ghost use Rattle.std.specs.Prelude.{◌≡◌, ℕ, ◌<◌, ◌≤◌, [], ◌∷◌, ◌++◌, length, drop, OnOk, OnErr};
-ghost use Rattle.logic3.specs.declared.value.Value.{Value};
+ghost use Rattle.std.specs.Prelude.{◌≡◌, ◌≤◌, [], ◌∷◌, ◌++◌, length, drop, nat_le, OnOk, OnErr};
+ghost use Rattle.std.specs.List.{prefix_len};
 ghost use Rattle.logic3.specs.declared.change.Change.{Change};
-ghost use Rattle.logic3.specs.Rising.{TicksRise};
-ghost use Rattle.logic3.specs.Wave.{value_after};
+ghost use Rattle.logic3.specs.Wave.{value_in_the_end};
 
-use logic3::Change;
+use logic3::{Change, Value};
 use std::alloc::{AllocError, Global};
 use std::marker::Model;
 
@@ -68,19 +67,20 @@ impl ChangeQueue {
     }
 }
 
-/// The tick of the first change after a tick, at most the limit: up to there the value stays.
-///
-/// Takes logarithmic time.
-pub fn next_change(changes: &[Change], tick: u64, limit: u64) -> u64
-    requires { TicksRise changes.now }
-    ensures later { tick < limit → tick < result }
-    ensures within { result ≤ limit }
-    ensures steady { (before : Value) (t : ℕ) → tick ≤ t → t < result →
-        value_after before changes.now t ≡ value_after before changes.now tick }
+/// The value of the last of the changes, else the value before them.
+pub fn last_value(before: Value, changes: &[Change]) -> Value
+    ensures { result ≡ value_in_the_end before changes.now }
 {
-    let due = changes.partition_point(|change| change.tick <= tick);
-    match changes.get(due) {
-        Some(change) => limit.min(change.tick),
-        None => limit,
-    }
+    changes.last().map_or(before, |change| change.value)
+}
+
+/// How many changes come first that aren't after a tick. Takes a step for each of them.
+pub fn due_changes(changes: &[Change], tick: u64) -> usize
+    ensures count { result ≡ prefix_len (λ (change : Change). nat_le change.tick tick) changes.now }
+    ensures within { result ≤ length changes.now }
+{
+    changes
+        .iter()
+        .take_while(|change| change.tick <= tick)
+        .count()
 }

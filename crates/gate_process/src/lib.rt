@@ -3,7 +3,7 @@
 
 mod advance;
 mod changes;
-mod equation;
+mod cursor;
 pub mod laws;
 mod net_copy;
 mod process;

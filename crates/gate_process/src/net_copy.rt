@@ -1,17 +1,26 @@
-ghost use Rattle.std.specs.Prelude.{◌≡◌, ℕ, ◌+◌, ◌<◌, ◌≤◌, length, slice_get, Some, IfOk};
+ghost use Rattle.std.specs.Prelude.{◌≡◌, ℕ, ◌+◌, ◌<◌, ◌≤◌, min, length, slice_get, Some, IfOk, OnOk};
+ghost use Rattle.std.specs.Option.{option_map_or};
 ghost use Rattle.timing_text.specs.Ranges.{most_ticks};
-ghost use Rattle.design.specs.Equations.{equation};
-ghost use Rattle.gate_process.specs.Step.{signals_of, frontier_of, oldest_asked};
+ghost use Rattle.design.specs.Samples.{timing_of, first_asker};
+ghost use Rattle.gate_process.specs.declared.net_copy.Look.{Look};
+ghost use Rattle.gate_process.specs.Reading.{read_by, reads, read_tick, made_of, shown};
+ghost use Rattle.gate_process.specs.Step.{frontier_of, oldest_asked};
 ghost use Rattle.gate_process.specs.Truth.{IsNet};
 
-use crate::changes::next_change;
-use crate::equation::{gate_value, next_pin_change, sampled_value};
+use crate::cursor::{Cursor, read_at};
 use crate::received::Received;
 use design::{Design, Timing};
-use logic3::{Change, Value, value_after};
+use logic3::{Change, Value, gate};
 use netlist::Part;
 use std::alloc::{AllocError, Global};
 use std::marker::Model;
+
+/// What a net shows at a tick, and the tick up to which it stays.
+#[derive(Clone, Copy, Debug)]
+pub struct Look {
+    pub value: Value,
+    pub until: u64,
+}
 
 /// What a process keeps of its net.
 #[derive(Debug, Drop)]
@@ -93,47 +102,92 @@ impl NetCopy {
         }
     }
 
-    /// What the net's equation gives at a tick, from what its pins were told.
-    ///
-    /// The buffer is for the values of the pins.
-    pub fn value_at(
-        &self,
-        received: &[Received],
-        tick: u64,
-        values: &mut Vec<Value>,
-    ) -> Result<Value, AllocError>
-        requires { length received.now ≡ length self.now.pins }
-        ensures { IfOk result (λ value. value ≡ equation self.now (signals_of received.now) tick) }
+    /// What the net reads, before any tick: an input its stimuli, else what its pins were told.
+    pub fn cursors<'c>(
+        &'c self,
+        alloc: Global,
+        received: &'c [Received],
+    ) -> Result<Vec<Cursor<'c>>, AllocError>
+        ensures { IfOk result (λ cursors. cursors.items ≡ read_by self.now received.now) }
     {
-        let asked = self.timing.asked_tick(self.part, tick);
+        let mut cursors = Vec::with_capacity(alloc, received.len())?;
+        if let Part::Input = self.part {
+            cursors.push(Cursor::new(Value::Unknown, self.stimuli.as_slice()))?;
+            return Ok(cursors);
+        }
+        for pin in received {
+            cursors.push(pin.cursor())?;
+        }
+        Ok(cursors)
+    }
+
+    /// What the net shows at a tick of what it reads, and up to where it stays, at most up to the limit.
+    ///
+    /// The buffer is for the values that it reads. It moves the cursors no farther than later ticks
+    /// allow.
+    pub fn look(
+        &self,
+        read: &mut [Cursor<'_>],
+        tick: u64,
+        limit: u64,
+        values: &mut Vec<Value>,
+    ) -> Result<Look, AllocError>
+        requires read { length read.old ≡ reads self.now }
+        requires before { tick < limit }
+        requires end { limit ≤ most_ticks + 1 }
+        ensures value { IfOk result (λ (look : Look). look.value ≡ shown self.now read.old tick) }
+        ensures later { IfOk result (λ (look : Look). tick < look.until) }
+        ensures within { IfOk result (λ (look : Look). look.until ≤ limit) }
+        ensures steady { IfOk result (λ (look : Look). (t : ℕ) → tick ≤ t → t < look.until →
+            shown self.now read.old t ≡ shown self.now read.old tick) }
+        ensures left { OnOk result ((t : ℕ) → tick ≤ t → shown self.now read.new t ≡ shown self.now read.old t) }
+        ensures length { OnOk result (length read.new ≡ length read.old) }
+    {
+        let Some(at) = self.read_tick(tick) else {
+            // Until it reads anything, it waits for tick 0.
+            return Ok(Look {
+                value: Value::Unknown,
+                until: self.until(0, limit),
+            });
+        };
+        let change = read_at(read, at, limit, values)?;
+        Ok(Look {
+            value: self.made_of(values),
+            until: self.until(change, limit),
+        })
+    }
+
+    /// The tick of what it reads that decides what it shows at a tick.
+    fn read_tick(&self, tick: u64) -> Option<u64>
+        ensures tick { result ≡ read_tick self.now.part (timing_of self.now) tick }
+        ensures well_formed { IsNet self.now }
+    {
         match self.part {
-            Part::Input => Ok(value_after(Value::Unknown, self.stimuli.as_slice(), tick)),
-            Part::Gate(kind) => gate_value(kind, received, asked, values),
-            Part::Flop => Ok(sampled_value(&received[0], asked)),
+            Part::Input => Some(tick),
+            part => self.timing.asked_tick(part, tick),
         }
     }
 
-    /// The first tick after this one at which the equation may give another value, at most the limit.
-    pub fn steady_until(&self, received: &[Received], tick: u64, limit: u64) -> u64
-        requires pins { length received.now ≡ length self.now.pins }
-        requires before { tick < limit }
-        requires end { limit ≤ most_ticks + 1 }
-        ensures later { tick < result }
-        ensures within { result ≤ limit }
-        ensures steady { (t : ℕ) → tick ≤ t → t < result →
-            equation self.now (signals_of received.now) t ≡ equation self.now (signals_of received.now) tick }
+    /// What the net makes of the values that it reads.
+    fn made_of(&self, values: &[Value]) -> Value
+        requires { length values.now ≡ reads self.now }
+        ensures { result ≡ made_of self.now.part values.now }
     {
-        if let Part::Input = self.part {
-            return next_change(self.stimuli.as_slice(), tick, limit);
+        match self.part {
+            Part::Gate(kind) => gate(kind, values),
+            _ => values[0],
         }
-        // Until it asks for any tick, it waits for tick 0.
-        let change = match self.timing.asked_tick(self.part, tick) {
-            Some(asked) => next_pin_change(received, asked, limit),
-            None => 0,
-        };
+    }
+
+    /// Up to where the net stays where what it reads changes at a tick, at most up to the limit.
+    fn until(&self, change: u64, limit: u64) -> u64
+        requires within { change ≤ limit }
+        requires end { limit ≤ most_ticks + 1 }
+        ensures { result ≡ option_map_or (min limit) (first_asker self.now change) change }
+    {
         match self.timing.first_asker(self.part, change) {
             Some(first) => limit.min(first),
-            None => limit,
+            None => change,
         }
     }
 }

@@ -1,14 +1,15 @@
 ghost use Rattle.std.specs.Prelude.{◌≡◌, true, ℕ, ◌+◌, ◌<◌, ◌≤◌, map, replicate, IfOk, OnOk, OnErr};
 ghost use Rattle.logic3.specs.declared.value.Value.TheVariants.{Unknown};
-ghost use Rattle.logic3.specs.Wave.{IsWave, last_value, value_at, value_in_the_end};
+ghost use Rattle.logic3.specs.Wave.{IsWave, last_value};
 ghost use Rattle.timing_text.specs.Ranges.{most_ticks};
 ghost use Rattle.cmb_channels.specs.Kinds.{is_change};
 ghost use Rattle.gate_process.specs.Knowledge.{Knowledge, nothing_known, told, kept_since, forgetting, keeping};
 ghost use Rattle.gate_process.specs.Step.{least};
 
-use crate::changes::{ChangeQueue, next_change};
+use crate::changes::{ChangeQueue, last_value};
+use crate::cursor::Cursor;
 use cmb_channels::Message;
-use logic3::{Change, Value, value_after};
+use logic3::Value;
 use std::alloc::{AllocError, Global};
 use std::marker::Model;
 
@@ -89,22 +90,11 @@ impl Received {
         self.changes.drop_front(early);
     }
 
-    /// The value at a tick that is kept and known. Takes logarithmic time.
-    pub fn value_at(&self, tick: u64) -> Value
-        ensures { result ≡ value_at self.now.wave tick }
+    /// Before all of the changes that are kept.
+    pub fn cursor(&self) -> Cursor<'_>
+        ensures { result ≡ self.now.wave }
     {
-        value_after(self.before, self.changes.as_slice(), tick)
-    }
-
-    /// The tick of the first change after a tick, at most the limit: up to there the value stays.
-    ///
-    /// Takes logarithmic time.
-    pub fn next_change(&self, tick: u64, limit: u64) -> u64
-        ensures later { tick < limit → tick < result }
-        ensures within { result ≤ limit }
-        ensures steady { (t : ℕ) → tick ≤ t → t < result → value_at self.now.wave t ≡ value_at self.now.wave tick }
-    {
-        next_change(self.changes.as_slice(), tick, limit)
+        Cursor::new(self.before, self.changes.as_slice())
     }
 
     /// The value of the last change, X where there was none.
@@ -113,13 +103,6 @@ impl Received {
     {
         last_value(self.before, self.changes.as_slice())
     }
-}
-
-/// The value of the last of the changes, else the value before them.
-fn last_value(before: Value, changes: &[Change]) -> Value
-    ensures { result ≡ value_in_the_end before changes.now }
-{
-    changes.last().map_or(before, |change| change.value)
 }
 
 /// What so many pins know before anything was told.

@@ -1,0 +1,83 @@
+-- The changes that are left of a list whose ticks rise, once those up to a tick are passed.
+use Rattle.std.proofs.Common.{◌≡◌, ℕ, zero, suc, ◌<◌, ◌≤◌, nat_le, Bool, true, false, List, [], ◌∷◌, All, take, drop, refl, ap, sym, ◌∙◌, arith, leb-true, leb-false, one-add, Some, slice_get}
+use Rattle.std.specs.List.{prefix_len}
+use Rattle.std.proofs.lemmas.Bool.{le-leb, lt-leb}
+use Rattle.std.proofs.lemmas.List.Elements.{All-head, All-tail}
+use Rattle.std.proofs.lemmas.Option.{same_Some}
+use Rattle.logic3.specs.declared.value.Value.{Value}
+use Rattle.logic3.specs.declared.change.Change.{Change}
+use Rattle.logic3.specs.Rising.{TicksRise}
+use Rattle.logic3.specs.Wave.{value_after, value_in_the_end}
+
+-- how many changes come first that aren't after a tick
+abbrev pub due_by : ℕ → List Change → ℕ
+due_by tick changes = prefix_len (λ (change : Change). nat_le change.tick tick) changes
+
+rise_tail : (first : Change) (changes : List Change) → TicksRise (first ∷ changes) → TicksRise changes
+rise_tail first changes rise i j d low inside = rise (suc i) (suc j) d (omega arith) (omega arith)
+
+-- all of them are after a tick that the first is after
+pub all_after : (first : Change) (changes : List Change) (tick : ℕ) → TicksRise (first ∷ changes) → tick < first.tick →
+    All (λ (change : Change). tick < change.tick) (first ∷ changes)
+all_after first changes tick rise early zero d inside = early
+all_after first changes tick rise early (suc k) d inside =
+    let later = rise 0 (suc k) d (omega arith) inside in omega (arith, later, early)
+
+-- before all changes the value is the one before them
+pub value_before_all : (before : Value) (changes : List Change) (tick : ℕ) → All (λ (change : Change). tick < change.tick) changes →
+    value_after before changes tick ≡ before
+value_before_all before [] tick after = refl
+value_before_all before (first ∷ changes) tick after =
+    rw (lt-leb first.tick tick (All-head (λ (change : Change). tick < change.tick) first changes after))
+    (value_before_all before changes tick (All-tail (λ (change : Change). tick < change.tick) first changes after))
+
+-- from the tick on what is left shows the same
+pub left_shows : (before : Value) (changes : List Change) (tick late : ℕ) → tick ≤ late →
+    value_after (value_in_the_end before (take (due_by tick changes) changes)) (drop (due_by tick changes) changes) late
+    ≡ value_after before changes late
+left_shows before [] tick late h = refl
+left_shows before (first ∷ changes) tick late h = go (nat_le first.tick tick) refl (left_shows first.value changes tick late h)
+  where
+    go : (due : Bool) → nat_le first.tick tick ≡ due →
+        value_after (value_in_the_end first.value (take (due_by tick changes) changes)) (drop (due_by tick changes) changes) late
+        ≡ value_after first.value changes late →
+        value_after (value_in_the_end before (take (due_by tick (first ∷ changes)) (first ∷ changes)))
+        (drop (due_by tick (first ∷ changes)) (first ∷ changes)) late
+        ≡ value_after before (first ∷ changes) late
+    go true is rest =
+        let past = leb-true first.tick tick is in
+        rw (is, one-add, le-leb first.tick late (omega (arith, past, h))) rest
+    go false is rest = rw is refl
+
+-- it is after the tick
+pub left_after : (changes : List Change) (tick : ℕ) → TicksRise changes → All (λ (change : Change). tick < change.tick) (drop (due_by tick changes) changes)
+left_after [] tick rise = λ k d inside. absurd (omega arith)
+left_after (first ∷ changes) tick rise =
+    go (nat_le first.tick tick) refl (left_after changes tick (rise_tail first changes rise))
+  where
+    go : (due : Bool) → nat_le first.tick tick ≡ due →
+        All (λ (change : Change). tick < change.tick) (drop (due_by tick changes) changes) →
+        All (λ (change : Change). tick < change.tick) (drop (due_by tick (first ∷ changes)) (first ∷ changes))
+    go true is rest = rw (is, one-add) rest
+    go false is rest = rw is (all_after first changes tick rise (leb-false first.tick tick is))
+
+-- and its ticks rise
+pub left_rises : (changes : List Change) (count : ℕ) → TicksRise changes → TicksRise (drop count changes)
+left_rises changes zero rise = rise
+left_rises [] (suc count) rise = rise
+left_rises (first ∷ changes) (suc count) rise = left_rises changes count (rise_tail first changes rise)
+
+-- so the value at the tick is that of the last change that is passed
+pub value_now : (before : Value) (changes : List Change) (tick : ℕ) → TicksRise changes →
+    value_in_the_end before (take (due_by tick changes) changes) ≡ value_after before changes tick
+value_now before changes tick rise =
+    sym (value_before_all (value_in_the_end before (take (due_by tick changes) changes)) (drop (due_by tick changes) changes) tick (left_after changes tick rise))
+    ∙ left_shows before changes tick tick (omega arith)
+
+-- before the first change the value is the one before it
+pub value_before_first : (before : Value) (changes : List Change) (first : Change) (tick : ℕ) → TicksRise changes →
+    slice_get changes 0 ≡ Some first → tick < first.tick → value_after before changes tick ≡ before
+value_before_first before [] first tick rise is early = refl
+value_before_first before (change ∷ changes) first tick rise is early =
+    let here = ap (λ (c : Change). c.tick) (same_Some change first is) in
+    value_before_all before (change ∷ changes) tick (all_after change changes tick rise (omega (arith, here, early)))

@@ -1,0 +1,97 @@
+//! Walks along changes.
+ghost use Rattle.std.specs.Prelude.{◌≡◌, ℕ, ◌<◌, ◌≤◌, All, length, map, IfOk, OnOk};
+ghost use Rattle.logic3.specs.declared.change.Change.{Change};
+ghost use Rattle.logic3.specs.Rising.{TicksRise};
+ghost use Rattle.logic3.specs.Wave.{value_at};
+ghost use Rattle.design.specs.Equations.{values_at};
+
+use crate::changes::{due_changes, last_value};
+use logic3::{Change, Value};
+use std::alloc::AllocError;
+use std::marker::Model;
+
+/// Where a walk over the ticks has come in some changes: it is seen as the waveform that is left.
+///
+/// A whole walk costs as much as it passes changes.
+#[derive(Debug, Drop)]
+pub struct Cursor<'c> {
+    // What is shown before the changes that are left.
+    value: Value,
+    later: &'c [Change],
+}
+
+impl<'c> Model for Cursor<'c> {
+    ghost use Rattle.logic3.specs.Rising.{TicksRise};
+    ghost use Rattle.logic3.specs.Wave.{Wave};
+
+    ghost Value = { Wave };
+
+    ghost view = { λ c. record { before = c.value; changes = c.later.now } };
+
+    ghost invariant = { λ c. TicksRise c.later.now };
+}
+
+impl<'c> Cursor<'c> {
+    /// Before all of the changes.
+    pub fn new(before: Value, changes: &'c [Change]) -> Cursor<'c>
+        requires { TicksRise changes.now }
+        ensures { result ≡ record { before = before; changes = changes.now } }
+    {
+        Cursor {
+            value: before,
+            later: changes,
+        }
+    }
+
+    /// Passes the changes up to and at a tick, and answers the value at it.
+    pub fn go_to(&mut self, tick: u64) -> Value
+        ensures value { result ≡ value_at self.old tick }
+        ensures left { (t : ℕ) → tick ≤ t → value_at self.new t ≡ value_at self.old t }
+        ensures passed { All (λ (change : Change). tick < change.tick) self.new.changes }
+    {
+        let due = due_changes(self.later, tick);
+        self.value = last_value(self.value, &self.later[..due]);
+        self.later = &self.later[due..];
+        self.value
+    }
+
+    /// The tick of the first change that is left, at most the limit: up to there the value stays.
+    pub fn next_change(&self, limit: u64) -> u64
+        ensures later { (tick : ℕ) → tick < limit → All (λ (change : Change). tick < change.tick) self.now.changes →
+            tick < result }
+        ensures within { result ≤ limit }
+        ensures steady { (t : ℕ) → t < result → value_at self.now t ≡ self.now.before }
+    {
+        match self.later.first() {
+            Some(change) => limit.min(change.tick),
+            None => limit,
+        }
+    }
+}
+
+/// Moves the cursors to a tick and fills the buffer with the values there. Answers the tick of the
+/// first change after it, at most the limit.
+pub fn read_at(
+    cursors: &mut [Cursor<'_>],
+    tick: u64,
+    limit: u64,
+    values: &mut Vec<Value>,
+) -> Result<u64, AllocError>
+    requires { tick < limit }
+    ensures values { OnOk result (values.new.items ≡ values_at tick (map value_at cursors.old)) }
+    ensures later { IfOk result (λ next. tick < next) }
+    ensures within { IfOk result (λ next. next ≤ limit) }
+    ensures steady { IfOk result (λ next. (t : ℕ) → tick ≤ t → t < next →
+        values_at t (map value_at cursors.old) ≡ values_at tick (map value_at cursors.old)) }
+    ensures left { OnOk result ((t : ℕ) → tick ≤ t →
+        values_at t (map value_at cursors.new) ≡ values_at t (map value_at cursors.old)) }
+    ensures length { OnOk result (length cursors.new ≡ length cursors.old) }
+{
+    let mut next = limit;
+    values.clear();
+    for cursor in cursors.iter_mut() {
+        values.push(cursor.go_to(tick))?;
+        next = cursor.next_change(next);
+    }
+    Ok(next)
+}
