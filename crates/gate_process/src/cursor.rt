@@ -71,6 +71,8 @@ impl<'c> Cursor<'c> {
 
 /// Moves the cursors to a tick and fills the buffer with the values there. Answers the tick of the
 /// first change after it, at most the limit.
+///
+/// After an `AllocError` some cursors have moved.
 pub fn read_at(
     cursors: &mut [Cursor<'_>],
     tick: u64,

@@ -123,8 +123,8 @@ impl NetCopy {
 
     /// What the net shows at a tick of what it reads, and up to where it stays, at most up to the limit.
     ///
-    /// The buffer is for the values that it reads. It moves the cursors no farther than later ticks
-    /// allow.
+    /// The cursors move to the tick that decides it, and serve ticks from this one on. The buffer is for
+    /// the values there. After an `AllocError` the cursors serve no more.
     pub fn look(
         &self,
         read: &mut [Cursor<'_>],
