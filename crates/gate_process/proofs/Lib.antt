@@ -1,6 +1,7 @@
 mod Advanced
 pub mod CallerLemmas
 mod Drained
+mod Early
 mod Events
 mod Forgets
 mod Frontiers

@@ -1,5 +1,5 @@
 //! The steps of an advance.
-ghost use Rattle.std.specs.Prelude.{◌≡◌, ℕ, ◌+◌, ◌<◌, ◌≤◌, ◌==◌, if◌then◌else◌, [], All, slice_get, Some, length, map, IfOk, OnOk, OnErr};
+ghost use Rattle.std.specs.Prelude.{◌≡◌, ℕ, ◌+◌, ◌<◌, ◌≤◌, ◌==◌, if◌then◌else◌, [], All, slice_get, Some, length, map, OnOk, OnErr};
 ghost use Rattle.logic3.specs.declared.value.Value.TheVariants.{Unknown};
 ghost use Rattle.logic3.specs.declared.change.Change.{Change};
 ghost use Rattle.logic3.specs.Wave.{value_at, value_before, last_value, joined, changes_between};
@@ -10,24 +10,26 @@ ghost use Rattle.gate_process.specs.Reading.{reads, shown};
 ghost use Rattle.gate_process.specs.Step.{signals_of, continued};
 
 use crate::cursor::Cursor;
-use crate::net_copy::NetCopy;
+use crate::own_net::OwnNet;
 use crate::received::Received;
 use cmb_channels::Message;
 use logic3::{Change, Waveform};
-use std::alloc::{AllocError, Global};
+use smallvec::SmallVec;
+use std::alloc::AllocError;
 
-/// Carries a net's waveform on by its equation, and answers the messages that tell of it.
+/// Carries a net's waveform on by its equation, and puts the messages that tell of it into the list.
 ///
 /// It looks at a tick only where a pin's change or a stimulus may show, so ticks between cost nothing.
 /// Where there are no ticks it takes no memory.
 pub fn extend(
-    alloc: Global,
-    net: &NetCopy,
+    net: &OwnNet<'_>,
     received: &[Received],
     from: u64,
     to: u64,
     wave: &mut Waveform,
-) -> Result<Vec<Message>, AllocError>
+    messages: &mut Vec<Message>,
+) -> Result<(), AllocError>
+    requires empty { messages.old.items ≡ [] }
     requires pins { length received.now ≡ length net.now.pins }
     requires ahead { from ≤ to }
     requires end { to ≤ most_ticks + 1 }
@@ -35,28 +37,29 @@ pub fn extend(
     requires last { last_value wave.old ≡ value_before (value_at wave.old) from }
     ensures wave { OnOk result (wave.new ≡ joined wave.old
         (changes_between (continued wave.old from (equation net.now (signals_of received.now))) from to)) }
-    ensures news { IfOk result (λ messages. messages.items ≡ (if to == from then [] else
+    ensures news { OnOk result (messages.new.items ≡ (if to == from then [] else
         news_of (changes_between (continued wave.old from (equation net.now (signals_of received.now))) from to) to)) }
     ensures memory { OnErr result (from < to) }
 {
     if from == to {
-        return Ok(Vec::new(alloc));
+        return Ok(());
     }
-    let mut cursors = net.cursors(alloc, received)?;
-    let messages = walk(alloc, net, cursors.as_mut_slice(), from, to, wave)?;
-    Ok(messages)
+    let mut cursors = net.cursors(*messages.allocator(), received)?;
+    walk(net, cursors.as_mut_slice(), from, to, wave, messages)?;
+    Ok(())
 }
 
-/// Carries a net's waveform on by what the net shows of what it reads, and answers the messages that
-/// tell of it.
+/// Carries a net's waveform on by what the net shows of what it reads, and puts the messages that tell
+/// of it into the list.
 fn walk(
-    alloc: Global,
-    net: &NetCopy,
+    net: &OwnNet<'_>,
     read: &mut [Cursor<'_>],
     from: u64,
     to: u64,
     wave: &mut Waveform,
-) -> Result<Vec<Message>, AllocError>
+    messages: &mut Vec<Message>,
+) -> Result<(), AllocError>
+    requires empty { messages.old.items ≡ [] }
     requires read { length read.old ≡ reads net.now }
     requires ahead { from ≤ to }
     requires end { to ≤ most_ticks + 1 }
@@ -64,11 +67,10 @@ fn walk(
     requires last { last_value wave.old ≡ value_before (value_at wave.old) from }
     ensures wave { OnOk result (wave.new ≡ joined wave.old
         (changes_between (continued wave.old from (shown net.now read.old)) from to)) }
-    ensures news { IfOk result (λ messages. messages.items ≡ (if to == from then [] else
+    ensures news { OnOk result (messages.new.items ≡ (if to == from then [] else
         news_of (changes_between (continued wave.old from (shown net.now read.old)) from to) to)) }
 {
-    let mut messages = Vec::new(alloc);
-    let mut values = Vec::with_capacity(alloc, read.len())?;
+    let mut values = SmallVec::new(*messages.allocator());
     // The messages so far tell of the net up to here.
     let mut told = from;
     let mut tick = from;
@@ -88,7 +90,7 @@ fn walk(
     if told < to {
         messages.push(Message::Null(to))?;
     }
-    Ok(messages)
+    Ok(())
 }
 
 /// Forgets at each pin what is before the oldest tick that is asked for, but never the last one known.

@@ -1,4 +1,4 @@
-ghost use Rattle.std.specs.Prelude.{◌≡◌, ◌≤◌, [], ◌∷◌, ◌++◌, length, drop, nat_le, OnOk, OnErr};
+ghost use Rattle.std.specs.Prelude.{◌≡◌, ◌≤◌, [], ◌∷◌, ◌++◌, length, drop, nat_le, nat_lt, OnOk, OnErr};
 ghost use Rattle.std.specs.List.{prefix_len};
 ghost use Rattle.logic3.specs.declared.change.Change.{Change};
 ghost use Rattle.logic3.specs.Wave.{value_in_the_end};
@@ -82,5 +82,16 @@ pub fn due_changes(changes: &[Change], tick: u64) -> usize
     changes
         .iter()
         .take_while(|change| change.tick <= tick)
+        .count()
+}
+
+/// How many changes come first that are before a tick. Takes a step for each of them.
+pub fn early_changes(changes: &[Change], tick: u64) -> usize
+    ensures count { result ≡ prefix_len (λ (change : Change). nat_lt change.tick tick) changes.now }
+    ensures within { result ≤ length changes.now }
+{
+    changes
+        .iter()
+        .take_while(|change| change.tick < tick)
         .count()
 }

@@ -7,8 +7,12 @@ ghost use Rattle.design.specs.Equations.{values_at};
 
 use crate::changes::{due_changes, last_value};
 use logic3::{Change, Value};
+use smallvec::SmallVec;
 use std::alloc::AllocError;
 use std::marker::Model;
+
+/// Of so many pins, the most that gates have as a rule, what is read is kept without a list in memory.
+pub const FEW: usize = 4;
 
 /// Where a walk over the ticks has come in some changes: it is seen as the waveform that is left.
 ///
@@ -29,6 +33,17 @@ impl<'c> Model for Cursor<'c> {
     ghost view = { λ c. record { before = c.value; changes = c.later.now } };
 
     ghost invariant = { λ c. TicksRise c.later.now };
+}
+
+impl<'c> Default for Cursor<'c> {
+    ghost use Rattle.std.specs.Prelude.{◌≡◌, []};
+    ghost use Rattle.logic3.specs.declared.value.Value.TheVariants.{Unknown};
+
+    ghost is_default = { λ c. c ≡ record { before = Unknown; changes = [] } };
+
+    fn default() -> Cursor<'c> {
+        Cursor::new(Value::Unknown, Default::default())
+    }
 }
 
 impl<'c> Cursor<'c> {
@@ -77,7 +92,7 @@ pub fn read_at(
     cursors: &mut [Cursor<'_>],
     tick: u64,
     limit: u64,
-    values: &mut Vec<Value>,
+    values: &mut SmallVec<Value, FEW>,
 ) -> Result<u64, AllocError>
     requires { tick < limit }
     ensures values { OnOk result (values.new.items ≡ values_at tick (map value_at cursors.old)) }

@@ -5,7 +5,7 @@ mod advance;
 mod changes;
 mod cursor;
 pub mod laws;
-mod net_copy;
+mod own_net;
 mod process;
 mod received;
 

@@ -4,7 +4,7 @@ ghost use Rattle.gate_process.specs.Step.{running, started_process, pin_frontier
 ghost use Rattle.gate_process.specs.Truth.{IsProcess, CanHear};
 
 use crate::advance::{extend, keep_all};
-use crate::net_copy::NetCopy;
+use crate::own_net::OwnNet;
 use crate::received::{Received, least_frontier, nothing_received};
 use cmb_channels::Message;
 use design::Design;
@@ -21,8 +21,8 @@ use timing_text::Horizon;
 /// After [`advance`](Self::advance) ran out of memory it has failed, and only
 /// [`is_failed`](Self::is_failed) may be called.
 #[derive(Debug, Drop)]
-pub struct Process {
-    net: NetCopy,
+pub struct Process<'d> {
+    net: OwnNet<'d>,
     // The first tick past the horizon.
     end: u64,
     // The waveform begins at this tick.
@@ -34,7 +34,7 @@ pub struct Process {
     failed: bool,
 }
 
-impl Model for Process {
+impl<'d> Model for Process<'d> {
     ghost use Rattle.std.specs.Prelude.{◌≡◌, false};
     ghost use Rattle.gate_process.specs.Step.{ProcessView};
     ghost use Rattle.gate_process.specs.Truth.{IsProcess};
@@ -61,22 +61,22 @@ impl Model for Process {
     }) };
 }
 
-impl Process {
+impl<'d> Process<'d> {
     /// The process of a net, which knows nothing yet: all frontiers are 0.
     pub fn new(
         alloc: Global,
-        design: &Design,
+        design: &'d Design,
         net: u32,
         horizon: Horizon,
-    ) -> Result<Process, AllocError>
+    ) -> Result<Process<'d>, AllocError>
         requires { net < length design.now.circuit }
         ensures { IfOk result (λ process. IfSome (slice_get design.now.circuit net)
             (λ n. process ≡ running (started_process (horizon + 1) n))) }
     {
-        let copy = NetCopy::of(alloc, design, net)?;
-        let received = nothing_received(alloc, copy.pins())?;
+        let own = OwnNet::of(design, net);
+        let received = nothing_received(alloc, own.pins())?;
         Ok(Process {
-            net: copy,
+            net: own,
             end: horizon.ticks() + 1,
             floor: 0,
             wave: Waveform::new(alloc),
@@ -105,36 +105,36 @@ impl Process {
         Ok(())
     }
 
-    /// Reckons the net as far as its pins are known, and answers the messages that tell of it: each
-    /// change, in order, and at the end a null message where no change comes at the last tick. Each
-    /// raises what is known of the net, so there is none where the frontier stays.
+    /// Reckons the net as far as its pins are known, and puts the messages that tell of it in the place
+    /// of what the list held: each change, in order, and at the end a null message where no change comes
+    /// at the last tick. Each raises what is known of the net, so there is none where the frontier stays.
     ///
     /// The cost grows with the changes and the pins, not with the ticks. Where the frontier stays, it
     /// takes no memory. After an `AllocError` the process has failed.
-    pub fn advance(&mut self) -> Result<Vec<Message>, AllocError>
+    pub fn advance(&mut self, messages: &mut Vec<Message>) -> Result<(), AllocError>
         requires running { self.old.failed ≡ false }
-        ensures news { IfOk result (λ messages. messages.items ≡ news self.old.state) }
+        ensures news { OnOk result (messages.new.items ≡ news self.old.state) }
         ensures state { OnOk result (self.new ≡ running (advanced self.old.state)) }
         ensures err { OnErr result (self.new.failed ≡ true) }
         ensures memory { OnErr result (self.old.state.known.frontier < next_frontier self.old.state) }
     {
-        let alloc = *self.received.allocator();
+        messages.clear();
         let safe = least_frontier(self.end, self.received.as_slice());
         let to = self.net.next_frontier(self.end, safe);
 
         self.failed = true;
-        let messages = extend(
-            alloc,
+        extend(
             &self.net,
             self.received.as_slice(),
             self.frontier,
             to,
             &mut self.wave,
+            messages,
         )?;
         self.frontier = to;
         keep_all(self.received.as_mut_slice(), self.net.oldest_asked(to));
         self.failed = false;
-        Ok(messages)
+        Ok(())
     }
 
     /// Takes out the net's changes before a tick up to which it is known, in order, and forgets what it

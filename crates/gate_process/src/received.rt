@@ -6,7 +6,7 @@ ghost use Rattle.cmb_channels.specs.Kinds.{is_change};
 ghost use Rattle.gate_process.specs.Knowledge.{Knowledge, nothing_known, told, kept_since, forgetting, keeping};
 ghost use Rattle.gate_process.specs.Step.{least};
 
-use crate::changes::{ChangeQueue, last_value};
+use crate::changes::{ChangeQueue, early_changes, last_value};
 use crate::cursor::Cursor;
 use cmb_channels::Message;
 use logic3::Value;
@@ -85,7 +85,7 @@ impl Received {
         ensures { self.new ≡ forgetting tick self.old }
     {
         let changes = self.changes.as_slice();
-        let early = changes.partition_point(|change| change.tick < tick);
+        let early = early_changes(changes, tick);
         self.before = last_value(self.before, &changes[..early]);
         self.changes.drop_front(early);
     }

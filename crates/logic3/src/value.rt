@@ -1,9 +1,10 @@
 /// A value of Kleene's strong three-valued logic.
-#[derive(Clone, Copy, Debug, PartialEq, Eq)]
+#[derive(Clone, Copy, Debug, Default, PartialEq, Eq)]
 pub enum Value {
     Zero,
     One,
     /// Not known to be 0, nor to be 1: X in tables and dumps.
+    #[default]
     Unknown,
 }
 

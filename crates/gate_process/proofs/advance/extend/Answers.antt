@@ -8,10 +8,10 @@ use Rattle.gate_process.specs.Step.{signals_of, continued}
 use Rattle.gate_process.proofs.Steady.{shown_by}
 use Rattle.gate_process.proofs.Walks.{continued_same}
 use Rattle.gate_process.proofs.advance.extend.Goals as goal
-use Rattle.gate_process.proofs.advance.extend.Goals.{In_ok-messages}
+use Rattle.gate_process.proofs.advance.extend.Goals.{In_ok-walk}
 
 -- over what the net reads it changes where its equation does
-changes_are : (c : In_ok-messages) →
+changes_are : (c : In_ok-walk) →
     changes_between (continued c.args.wave.now c.args.from (shown c.args.net.now c.as_mut_slice.result.now)) c.args.from c.args.to
     ≡ changes_between (continued c.args.wave.now c.args.from (equation c.args.net.now (signals_of c.args.received.now))) c.args.from c.args.to
 changes_are c =
@@ -22,11 +22,11 @@ changes_are c =
 
 pub returns-clause-wave : goal.returns-clause-wave
 returns-clause-wave c =
-    let at = (goal.at.returns-clause-wave c).In_ok-messages in
-    c.in_ok-messages.ensures.wave ∙ ap (joined c.args.wave.now) (changes_are at)
+    let at = (goal.at.returns-clause-wave c).In_ok-walk in
+    c.in_ok-walk.ensures.wave ∙ ap (joined c.args.wave.now) (changes_are at)
 
 pub returns-clause-news : goal.returns-clause-news
 returns-clause-news c =
-    let at = (goal.at.returns-clause-news c).In_ok-messages in
-    c.in_ok-messages.ensures.news
+    let at = (goal.at.returns-clause-news c).In_ok-walk in
+    c.in_ok-walk.ensures.news
     ∙ ap (λ (changes : List Change). cond (c.args.to == c.args.from) [] (news_of changes c.args.to)) (changes_are at)

@@ -7,7 +7,7 @@ use Rattle.gate_process.specs.Reading.{shown}
 use Rattle.gate_process.specs.Step.{continued}
 use Rattle.gate_process.proofs.Walks.{told_to, walked_past, walked_same, walked_change, news-told, continued-late}
 use Rattle.gate_process.proofs.advance.walk.Goals as goal
-use Rattle.gate_process.proofs.advance.walk.Goals.{In_ok-look, then-told-to+in_ok-push-3, else-told-to}
+use Rattle.gate_process.proofs.advance.walk.Goals.{In_ok-look, then-ne+in_ok-push+in_ok-push-2, else-ne, then-told-to+in_ok-push-3, else-told-to}
 
 pub push-requires-clause-later : goal.push-requires-clause-later
 push-requires-clause-later c =
@@ -37,27 +37,26 @@ left c t late =
     let later = c.in_ok-look.ensures.later in
     let now : c.loop-tick.tick ≤ t = omega (arith, later, late) in c.in_ok-look.ensures.left t now ∙ c.loop-tick.invariant.left t now
 
-pub loop-tick-preserved-in_ok-push-2 : goal.loop-tick-preserved-in_ok-push-2
-loop-tick-preserved-in_ok-push-2 c =
-    let at = (goal.at.loop-tick-preserved-in_ok-push-2 c).In_ok-look in
-    let differs : c.in_ok-look.look.value ≢ last_value c.loop-tick.wave = search rules in
-    record {
-      walked = walked_change (continued c.args.wave.now c.args.from (shown c.args.net.now c.args.read.now)) c.args.from c.args.to c.loop-tick.tick
-          c.loop-tick.told c.args.wave.now c.loop-tick.wave c.loop-tick.messages.items c.in_ok-look.look.until c.in_ok-look.look.value _ _
-          c.loop-tick.invariant.walked c.in_ok-look.ensures.later c.in_ok-look.ensures.within (steady at) (shows at) differs
-          c.in_ok-push.ensures.ok c.in_ok-push-2.ensures.items;
-      left = left at;
-      count = c.in_ok-look.ensures.length ∙ c.loop-tick.invariant.count;
-    }
-
 pub loop-tick-preserved : goal.loop-tick-preserved
 loop-tick-preserved c =
     let at = (goal.at.loop-tick-preserved c).In_ok-look in
-    let same : c.in_ok-look.look.value ≡ last_value c.loop-tick.wave = search rules in
+    let signal : ℕ → Value = continued c.args.wave.now c.args.from (shown c.args.net.now c.args.read.now) in
     record {
-      walked = walked_same (continued c.args.wave.now c.args.from (shown c.args.net.now c.args.read.now)) c.args.from c.args.to c.loop-tick.tick
-          c.loop-tick.told c.args.wave.now c.loop-tick.wave c.loop-tick.messages.items c.in_ok-look.look.until c.in_ok-look.look.value
-          c.loop-tick.invariant.walked c.in_ok-look.ensures.later c.in_ok-look.ensures.within (steady at) (shows at) same;
+      walked = elim c.if-ne.branch [
+        | then-ne+in_ok-push+in_ok-push-2 w ↦
+            let differs : c.in_ok-look.look.value ≢ last_value c.loop-tick.wave = search rules in
+            rw (w.wave-is, w.messages-is, w.told-is)
+            (walked_change signal c.args.from c.args.to c.loop-tick.tick
+            c.loop-tick.told c.args.wave.now c.loop-tick.wave c.loop-tick.messages.items c.in_ok-look.look.until c.in_ok-look.look.value _ _
+            c.loop-tick.invariant.walked c.in_ok-look.ensures.later c.in_ok-look.ensures.within (steady at) (shows at) differs
+            w.in_ok-push.ensures.ok w.in_ok-push-2.ensures.items)
+        | else-ne w ↦
+            let same : c.in_ok-look.look.value ≡ last_value c.loop-tick.wave = search rules in
+            rw (w.wave-is, w.messages-is, w.told-is)
+            (walked_same signal c.args.from c.args.to c.loop-tick.tick
+            c.loop-tick.told c.args.wave.now c.loop-tick.wave c.loop-tick.messages.items c.in_ok-look.look.until c.in_ok-look.look.value
+            c.loop-tick.invariant.walked c.in_ok-look.ensures.later c.in_ok-look.ensures.within (steady at) (shows at) same)
+      ];
       left = left at;
       count = c.in_ok-look.ensures.length ∙ c.loop-tick.invariant.count;
     }

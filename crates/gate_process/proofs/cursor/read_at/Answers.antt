@@ -6,7 +6,7 @@ pub loop-cursor-preserved : goal.loop-cursor-preserved
 loop-cursor-preserved c =
     let so_far = c.loop-cursor.invariant in
     let next = c.next_change-next.ensures in
-    rw c.in_ok-push.ensures.items
+    rw c.in_ok-push.ensures.ok
     (read_more c.args.cursors.now c.args.tick c.args.limit c.loop-cursor.cursor-index c.loop-cursor.cursors c.loop-cursor.values.items
     c.loop-cursor.next so_far (get_or c.loop-cursor.cursors c.loop-cursor.cursor-index c.cursor-item.result) c.go_to.new.self c.go_to.result
     c.next_change-next.result (omega arith) (ap (λ wave. get_or c.loop-cursor.cursors c.loop-cursor.cursor-index wave) c.cursor-item.is)

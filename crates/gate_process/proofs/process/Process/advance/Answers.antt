@@ -96,7 +96,7 @@ has_advanced c =
     let long : length c.keep_all.new.received ≡ vec_len c.self.inside.received =
     ap length kept_all ∙ length-map c.self.inside.received.items (keeping c.oldest_asked.result)
     ∙ sym (ap length c.as_mut_slice.ensures.value) ∙ c.as_mut_slice.ensures.len in
-    let wave = c.in_ok-messages.ensures.wave
+    let wave = c.in_ok-extend.ensures.wave
     ∙ ap (λ received. joined c.self.inside.wave (changes_between (continued c.self.inside.wave c.self.inside.frontier
     (equation c.self.inside.net (signals_of received))) c.self.inside.frontier c.next_frontier-to.result)) c.as_slice-2.ensures.value in
     advanced_of (before at) (is_process at) c.extend.new.wave c.next_frontier-to.result c.oldest_asked.result _ (to_is at) wave c.oldest_asked.ensures
@@ -121,7 +121,7 @@ returns-clause-news c =
     let at = (goal.at.returns-clause-news c).After-next_frontier-to in
     let from = c.self.inside.frontier in
     let to = c.next_frontier-to.result in
-    c.in_ok-messages.ensures.news
+    c.in_ok-extend.ensures.news
     ∙ ap (λ received. cond (to == from) []
     (news_of (changes_between (continued c.self.inside.wave from (equation c.self.inside.net (signals_of received))) from to) to)) c.as_slice-2.ensures.value
     ∙ ap (λ end. cond (end == from) [] (news_of (changes_between (reckoned (before at)) from end) end)) (to_is at)

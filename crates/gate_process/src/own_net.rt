@@ -2,16 +2,17 @@ ghost use Rattle.std.specs.Prelude.{◌≡◌, ℕ, ◌+◌, ◌<◌, ◌≤◌,
 ghost use Rattle.std.specs.Option.{option_map_or};
 ghost use Rattle.timing_text.specs.Ranges.{most_ticks};
 ghost use Rattle.design.specs.Samples.{timing_of, first_asker};
-ghost use Rattle.gate_process.specs.declared.net_copy.Look.{Look};
+ghost use Rattle.gate_process.specs.declared.own_net.Look.{Look};
 ghost use Rattle.gate_process.specs.Reading.{read_by, reads, read_tick, made_of, shown};
 ghost use Rattle.gate_process.specs.Step.{frontier_of, oldest_asked};
 ghost use Rattle.gate_process.specs.Truth.{IsNet};
 
-use crate::cursor::{Cursor, read_at};
+use crate::cursor::{Cursor, FEW, read_at};
 use crate::received::Received;
 use design::{Design, Timing};
 use logic3::{Change, Value, gate};
 use netlist::Part;
+use smallvec::SmallVec;
 use std::alloc::{AllocError, Global};
 use std::marker::Model;
 
@@ -22,57 +23,57 @@ pub struct Look {
     pub until: u64,
 }
 
-/// What a process keeps of its net.
+/// The net of a process, as its design holds it.
 #[derive(Debug, Drop)]
-pub struct NetCopy {
-    name: Vec<u8>,
+pub struct OwnNet<'d> {
+    name: &'d [u8],
     part: Part,
-    pins: Vec<u32>,
+    pins: &'d [u32],
     timing: Timing,
-    stimuli: Vec<Change>,
+    stimuli: &'d [Change],
 }
 
-impl Model for NetCopy {
+impl<'d> Model for OwnNet<'d> {
     ghost use Rattle.design.specs.Circuit.{Net};
     ghost use Rattle.gate_process.specs.Truth.{IsNet};
 
     ghost Value = { Net };
 
     ghost view = { λ n. record {
-      name = n.name.items;
+      name = n.name.now;
       part = n.part;
-      pins = n.pins.items;
+      pins = n.pins.now;
       delay = n.timing.delay;
       period = n.timing.period;
-      stimuli = n.stimuli.items;
+      stimuli = n.stimuli.now;
     } };
 
     ghost invariant = { λ n. IsNet (record {
-      name = n.name.items;
+      name = n.name.now;
       part = n.part;
-      pins = n.pins.items;
+      pins = n.pins.now;
       delay = n.timing.delay;
       period = n.timing.period;
-      stimuli = n.stimuli.items;
+      stimuli = n.stimuli.now;
     }) };
 }
 
-impl NetCopy {
-    /// A copy of a net of the design.
-    pub fn of(alloc: Global, design: &Design, net: u32) -> Result<NetCopy, AllocError>
+impl<'d> OwnNet<'d> {
+    /// A net of the design.
+    pub fn of(design: &'d Design, net: u32) -> OwnNet<'d>
         requires { net < length design.now.circuit }
-        ensures { IfOk result (λ copy. slice_get design.now.circuit net ≡ Some copy) }
+        ensures { slice_get design.now.circuit net ≡ Some result }
     {
         // Asked for what it ensures: that the design is well formed.
         let nets = design.nets();
         prove!(net < nets);
-        Ok(NetCopy {
-            name: Vec::from_slice(alloc, design.name(net))?,
+        OwnNet {
+            name: design.name(net),
             part: design.part(net),
-            pins: Vec::from_slice(alloc, design.pins_of(net))?,
+            pins: design.pins_of(net),
             timing: design.timing(net),
-            stimuli: Vec::from_slice(alloc, design.stimuli(net))?,
-        })
+            stimuli: design.stimuli(net),
+        }
     }
 
     /// How many pins the net has.
@@ -102,17 +103,18 @@ impl NetCopy {
         }
     }
 
-    /// What the net reads, before any tick: an input its stimuli, else what its pins were told.
+    /// What the net reads, before any tick: an input its stimuli, else what its pins were told. Few pins
+    /// take no memory.
     pub fn cursors<'c>(
         &'c self,
         alloc: Global,
         received: &'c [Received],
-    ) -> Result<Vec<Cursor<'c>>, AllocError>
+    ) -> Result<SmallVec<Cursor<'c>, FEW>, AllocError>
         ensures { IfOk result (λ cursors. cursors.items ≡ read_by self.now received.now) }
     {
-        let mut cursors = Vec::with_capacity(alloc, received.len())?;
+        let mut cursors = SmallVec::new(alloc);
         if let Part::Input = self.part {
-            cursors.push(Cursor::new(Value::Unknown, self.stimuli.as_slice()))?;
+            cursors.push(Cursor::new(Value::Unknown, self.stimuli))?;
             return Ok(cursors);
         }
         for pin in received {
@@ -130,7 +132,7 @@ impl NetCopy {
         read: &mut [Cursor<'_>],
         tick: u64,
         limit: u64,
-        values: &mut Vec<Value>,
+        values: &mut SmallVec<Value, FEW>,
     ) -> Result<Look, AllocError>
         requires read { length read.old ≡ reads self.now }
         requires before { tick < limit }
@@ -152,7 +154,7 @@ impl NetCopy {
         };
         let change = read_at(read, at, limit, values)?;
         Ok(Look {
-            value: self.made_of(values),
+            value: self.made_of(values.as_slice()),
             until: self.until(change, limit),
         })
     }

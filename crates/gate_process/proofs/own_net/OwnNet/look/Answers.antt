@@ -1,6 +1,6 @@
 use Rattle.std.proofs.Common.{sym, ◌∙◌, arith}
 use Rattle.gate_process.proofs.Steady.{unread_steady, read_later, read_stays, read_left}
-use Rattle.gate_process.proofs.net_copy.NetCopy.look.Goals as goal
+use Rattle.gate_process.proofs.own_net.OwnNet.look.Goals as goal
 
 pub returns-in_default-clause-steady : goal.returns-in_default-clause-steady
 returns-in_default-clause-steady c = λ t late early.
