@@ -1,7 +1,7 @@
 -- Pins by their nets and their places there.
-use Rattle.std.proofs.Common.{◌≡◌, ℕ, ◌+◌, ◌<◌, length, Some, slice_get, ap, ◌∙◌, arith}
-use Rattle.std.specs.Option.{option_map_or}
-use Rattle.std.proofs.lemmas.Option.{slice_get_within, slice_get-get_or}
+use Rattle.std.proofs.Common.{◌≡◌, ℕ, ◌+◌, ◌<◌, ◌≤◌, ◌⊎◌, inl, inr, length, None, Some, slice_get, get_or, ap, sym, ◌∙◌, arith}
+use Rattle.std.specs.Option.{ForSome, option_map_or}
+use Rattle.std.proofs.lemmas.Option.{slice_get_within, slice_get_cases, slice_get-get_or}
 use Rattle.design.specs.Circuit.{Net, Circuit, IsCircuit, pin_count}
 use Rattle.design.specs.Pins.{first_pin, net_of_pin, place_of_pin}
 use Rattle.design.proofs.CallerLemmas.{pin_below, pin_is, same_pin}
@@ -24,6 +24,20 @@ pin_place circuit number place net at within =
     let there = pin_is circuit (first_pin circuit number + place) (pin_exists circuit number place net at within) in
     same_pin circuit (net_of_pin circuit (first_pin circuit number + place)) number
     (place_of_pin circuit (first_pin circuit number + place)) place there.net net there.at at there.within within there.number_is
+
+-- a pin that is counted from the first one of a net
+pub pin_there : (circuit : Circuit) (number place pin : ℕ) → number < length circuit →
+    ForSome (slice_get circuit number) (λ (net : Net). place < length net.pins) → pin ≡ first_pin circuit number + place →
+    (number ≡ net_of_pin circuit pin) × (place ≡ place_of_pin circuit pin)
+pin_there circuit number place pin below inside pin_is = go (slice_get_cases circuit number).1
+  where
+    go : ((net : Net) × (number < length circuit) × (slice_get circuit number ≡ Some net) × (get_or circuit number net ≡ net))
+        ⊎ ((length circuit ≤ number) × (slice_get circuit number ≡ None)) →
+        (number ≡ net_of_pin circuit pin) × (place ≡ place_of_pin circuit pin)
+    go (inl (net, within, at, is)) =
+        let there = pin_place circuit number place net at (inside net at) in
+        (sym (ap (net_of_pin circuit) pin_is ∙ there.0), sym (ap (place_of_pin circuit) pin_is ∙ there.1))
+    go (inr (past, is)) = absurd (omega (arith, past, below))
 
 -- what the pin at a place received, by the number of the pin
 pub received_there : (circuit : Circuit) → IsCircuit circuit → (last : ℕ) (state : State) → IsSound circuit last state → (number place : ℕ) (process : ProcessState) (received : Knowledge) →

@@ -16,7 +16,7 @@ mod useful;
 
 use crate::counts::Counts;
 use crate::fault::KernelFault;
-use cmb_channels::Fabric;
+use cmb_channels::{Fabric, Message};
 use design::Design;
 use gate_process::Process;
 use logic3::Waveform;
@@ -35,9 +35,11 @@ pub struct Kernel<'d, F: Fabric> {
     design: &'d Design,
     // The first tick after the horizon.
     end: u64,
-    processes: Vec<Process>,
+    processes: Vec<Process<'d>>,
     fabric: F,
     counts: Counts,
+    // What an advance tells, before it is sent. Kept for its memory alone.
+    news: Vec<Message>,
     failed: bool,
 }
 
@@ -85,6 +87,7 @@ impl<'d, F: Fabric> Kernel<'d, F> {
                 nulls: 0,
                 rounds: 0,
             },
+            news: Vec::new(alloc),
             failed: false,
         })
     }
@@ -150,7 +153,11 @@ impl<'d, F: Fabric> Kernel<'d, F> {
 }
 
 /// A process for each net of a design, in order.
-fn started(alloc: Global, design: &Design, horizon: Horizon) -> Result<Vec<Process>, AllocError>
+fn started<'d>(
+    alloc: Global,
+    design: &'d Design,
+    horizon: Horizon,
+) -> Result<Vec<Process<'d>>, AllocError>
     ensures processes { IfOk result (λ processes. processes.items ≡
         map (λ net. running (started_process (horizon + 1) net)) design.now.circuit) }
     ensures well_formed { IsDesign design.now }

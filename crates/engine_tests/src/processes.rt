@@ -17,41 +17,30 @@ use timing_text::Horizon;
 
 // A process at work, how many pins its net has, and the first tick past its horizon.
 #[derive(Drop)]
-struct Probe {
-    process: Process,
+struct Probe<'d> {
+    alloc: Global,
+    process: Process<'d>,
     pins: usize,
     end: u64,
     ghost has_pins: { process.failed ≡ false → length process.state.received ≡ pins },
     ghost ends: { process.failed ≡ false → process.state.end ≡ end },
 }
 
-impl Probe {
-    // The process of the net of this name; delays are 1.
-    fn new(
-        rt: &impl Abort,
-        alloc: Global,
-        bench: &[u8],
-        stimuli: &[u8],
-        period: u64,
-        name: &[u8],
-        horizon: u64,
-    ) -> Result<Probe, Fail> {
-        let design = built(alloc, bench, b"", stimuli, period)?;
-        let horizon = Horizon::new(horizon)?;
-        Probe::of(rt, alloc, &design, name, horizon)
-    }
-
+impl<'d> Probe<'d> {
+    // The process of the net of this name, up to this horizon.
     fn of(
         rt: &impl Abort,
         alloc: Global,
-        design: &Design,
+        design: &'d Design,
         name: &[u8],
-        horizon: Horizon,
-    ) -> Result<Probe, Fail> {
+        horizon: u64,
+    ) -> Result<Probe<'d>, Fail> {
         let net = design.find(name).expect(rt, "a net of this name");
         let nets = design.nets();
         assert!(rt; net < nets);
+        let horizon = Horizon::new(horizon)?;
         Ok(Probe {
+            alloc,
             process: Process::new(alloc, design, net, horizon)?,
             pins: design.pins_of(net).len(),
             end: horizon.ticks() + 1,
@@ -59,7 +48,7 @@ impl Probe {
     }
 
     // The process, which memory sufficed for so far.
-    fn process(&self, rt: &impl Abort) -> &Process
+    fn process(&self, rt: &impl Abort) -> &Process<'d>
         ensures same { result.now ≡ self.now.process }
         ensures running { result.now.failed ≡ false }
     {
@@ -116,7 +105,9 @@ impl Probe {
 
     fn advance(&mut self, rt: &impl Abort) -> Result<Vec<Message>, Fail> {
         assert!(rt; !self.process.is_failed());
-        Ok(self.process.advance()?)
+        let mut messages = Vec::new(self.alloc);
+        self.process.advance(&mut messages)?;
+        Ok(messages)
     }
 
     fn drain_below(&mut self, rt: &impl Abort, bound: u64) -> Result<Vec<Change>, Fail> {
@@ -154,9 +145,9 @@ const AND: &[u8] = b"INPUT(a)\nINPUT(b)\ny = AND(a, b)";
 
 const SAMPLER: &[u8] = b"INPUT(d)\nq = DFF(d)";
 
-// The process of a net of an inverter, whose input shows 0 at first and 1 from tick 3 on.
-fn in_inverter(rt: &impl Abort, alloc: Global, name: &[u8]) -> Result<Probe, Fail> {
-    Probe::new(rt, alloc, INVERTER, b"0 a 0\n3 a 1\n", 10, name, 5)
+// An inverter, whose input shows 0 at first and 1 from tick 3 on.
+fn inverter(alloc: Global) -> Result<Design, Fail> {
+    built(alloc, INVERTER, b"", b"0 a 0\n3 a 1\n", 10)
 }
 
 // What the input of that inverter tells.
@@ -164,7 +155,7 @@ fn told() -> [Message; 3] {
     [change(0, Zero), change(3, One), Null(6)]
 }
 
-fn input_tells(rt: &impl Abort, input: &mut Probe) -> Result<(), Fail> {
+fn input_tells(rt: &impl Abort, input: &mut Probe<'_>) -> Result<(), Fail> {
     assert!(rt; input.process(rt).safe() == 6);
     assert!(rt; input.process(rt).frontier() == 0);
     input.tells(rt, &told())?;
@@ -175,11 +166,12 @@ fn input_tells(rt: &impl Abort, input: &mut Probe) -> Result<(), Fail> {
 
 #[test]
 fn first_messages_of_an_input(rt: HostRuntime) -> Result<(), Fail> {
-    let mut input = in_inverter(&rt, rt.alloc(), b"a")?;
+    let design = inverter(rt.alloc())?;
+    let mut input = Probe::of(&rt, rt.alloc(), &design, b"a", 5)?;
     input_tells(&rt, &mut input)
 }
 
-fn output_tells(rt: &impl Abort, output: &mut Probe) -> Result<(), Fail> {
+fn output_tells(rt: &impl Abort, output: &mut Probe<'_>) -> Result<(), Fail> {
     output.tells(rt, &[Null(1)])?;
     output.hear(rt, 0, &told())?;
     output.tells(rt, &[change(1, One), change(4, Zero), Null(6)])
@@ -187,12 +179,13 @@ fn output_tells(rt: &impl Abort, output: &mut Probe) -> Result<(), Fail> {
 
 #[test]
 fn first_messages_of_a_gate(rt: HostRuntime) -> Result<(), Fail> {
-    let mut output = in_inverter(&rt, rt.alloc(), b"y")?;
+    let design = inverter(rt.alloc())?;
+    let mut output = Probe::of(&rt, rt.alloc(), &design, b"y", 5)?;
     output_tells(&rt, &mut output)
 }
 
 // What the first pin of the AND gate is told.
-fn hear_first_pin(rt: &impl Abort, process: &mut Probe) -> Result<(), Fail> {
+fn hear_first_pin(rt: &impl Abort, process: &mut Probe<'_>) -> Result<(), Fail> {
     assert!(rt; process.last(rt, 0) == Unknown);
     process.hear(rt, 0, &[change(0, One), change(4, Zero), Null(7)])?;
     assert!(rt; process.process(rt).safe() == 0);
@@ -202,7 +195,7 @@ fn hear_first_pin(rt: &impl Abort, process: &mut Probe) -> Result<(), Fail> {
 }
 
 // What its second pin is told then, and what it tells itself.
-fn hear_second_pin(rt: &impl Abort, process: &mut Probe) -> Result<(), Fail> {
+fn hear_second_pin(rt: &impl Abort, process: &mut Probe<'_>) -> Result<(), Fail> {
     process.tells(rt, &[Null(1)])?;
     process.answers(rt, 1, change(0, Zero), &[change(1, Zero)])?;
     process.hear(rt, 1, &[change(4, One)])?;
@@ -217,12 +210,13 @@ fn hear_second_pin(rt: &impl Abort, process: &mut Probe) -> Result<(), Fail> {
 
 #[test]
 fn and_process(rt: HostRuntime) -> Result<(), Fail> {
-    let mut process = Probe::new(&rt, rt.alloc(), AND, b"", 10, b"y", 6)?;
+    let design = built(rt.alloc(), AND, b"", b"", 10)?;
+    let mut process = Probe::of(&rt, rt.alloc(), &design, b"y", 6)?;
     hear_first_pin(&rt, &mut process)?;
     hear_second_pin(&rt, &mut process)
 }
 
-fn flop_tells(rt: &impl Abort, process: &mut Probe) -> Result<(), Fail> {
+fn flop_tells(rt: &impl Abort, process: &mut Probe<'_>) -> Result<(), Fail> {
     process.tells(rt, &[Null(5)])?;
     process.answers(rt, 0, change(4, One), &[change(5, One), Null(9)])?;
     process.answers(rt, 0, change(5, Zero), &[])?;
@@ -233,12 +227,13 @@ fn flop_tells(rt: &impl Abort, process: &mut Probe) -> Result<(), Fail> {
 
 #[test]
 fn flop_process(rt: HostRuntime) -> Result<(), Fail> {
-    let mut process = Probe::new(&rt, rt.alloc(), SAMPLER, b"", 4, b"q", 9)?;
+    let design = built(rt.alloc(), SAMPLER, b"", b"", 4)?;
+    let mut process = Probe::of(&rt, rt.alloc(), &design, b"q", 9)?;
     flop_tells(&rt, &mut process)
 }
 
 // What it shows before tick 9 is taken out, and nothing is left to take there.
-fn drain_flop(rt: &impl Abort, process: &mut Probe) -> Result<(), Fail> {
+fn drain_flop(rt: &impl Abort, process: &mut Probe<'_>) -> Result<(), Fail> {
     assert!(rt; process.process(rt).floor() == 0);
     let rise = Change {
         tick: 5,
@@ -258,13 +253,14 @@ fn drain_flop(rt: &impl Abort, process: &mut Probe) -> Result<(), Fail> {
 
 #[test]
 fn drained_flop(rt: HostRuntime) -> Result<(), Fail> {
-    let mut process = Probe::new(&rt, rt.alloc(), SAMPLER, b"", 4, b"q", 9)?;
+    let design = built(rt.alloc(), SAMPLER, b"", b"", 4)?;
+    let mut process = Probe::of(&rt, rt.alloc(), &design, b"q", 9)?;
     flop_tells(&rt, &mut process)?;
     drain_flop(&rt, &mut process)
 }
 
 // The first pin is told a thousand changes over ten million ticks.
-fn hear_far(rt: &impl Abort, process: &mut Probe) -> Result<(), Fail> {
+fn hear_far(rt: &impl Abort, process: &mut Probe<'_>) -> Result<(), Fail> {
     for step in 0..500 {
         process.hear(rt, 0, &[change(10 + step * 20_000, Zero)])?;
         process.hear(rt, 0, &[change(10_010 + step * 20_000, One)])?;
@@ -280,7 +276,7 @@ fn are_between(rt: &impl Abort, messages: &[Message], count: usize, first: Messa
 }
 
 // It tells as much of that, and at first a bound and a change at tick 11.
-fn tell_far(rt: &impl Abort, process: &mut Probe, known: u64, first: Value) -> Result<(), Fail> {
+fn tell_far(rt: &impl Abort, process: &mut Probe<'_>, known: u64, first: Value) -> Result<(), Fail> {
     process.tells(rt, &[Null(known)])?;
     hear_far(rt, process)?;
     let messages = process.advance(rt)?;
@@ -298,7 +294,8 @@ fn goes_far(
     known: u64,
     first: Value,
 ) -> Result<(), Fail> {
-    let mut process = Probe::new(rt, alloc, bench, b"", 1, name, 10_000_000)?;
+    let design = built(alloc, bench, b"", b"", 1)?;
+    let mut process = Probe::of(rt, alloc, &design, name, 10_000_000)?;
     tell_far(rt, &mut process, known, first)
 }
 

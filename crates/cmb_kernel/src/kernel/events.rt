@@ -1,5 +1,6 @@
 ghost use Rattle.std.specs.Prelude.{◌≡◌, ◌<◌, true, false, None, All, length, Err, IfOk, OnOk, OnErr};
 ghost use Rattle.design.specs.Circuit.{IsCircuit, pin_count};
+ghost use Rattle.design.specs.Pins.{net_of_pin, place_of_pin};
 ghost use Rattle.cmb_channels.specs.Lists.{sent};
 ghost use Rattle.cmb_channels.specs.Packing.{Fits};
 ghost use Rattle.cmb_events.specs.declared.event.Event.TheVariants.{Deliver, Advance};
@@ -89,12 +90,34 @@ impl<'d, F: Fabric> Kernel<'d, F> {
         ensures memory { OnErr result (is_useful self.old.state (Deliver pin) ≡ true) }
         ensures sound { OnOk result (IsSound self.new.circuit self.new.end self.new.state) }
     {
+        let net = self.design.pin_net(pin);
+        let place = pin - self.design.pin(net, 0);
+        self.deliver_there(pin, net, place)
+    }
+
+    /// Lets a pin, which is that at a place of a net, take the oldest message that waits. After an
+    /// `AllocError` the kernel has failed.
+    pub(crate) fn deliver_there(
+        &mut self,
+        pin: u32,
+        net: u32,
+        place: u32,
+    ) -> Result<bool, AllocError>
+        requires running { self.old.failed ≡ false }
+        requires exists { pin < pin_count self.old.circuit }
+        requires within { net < length self.old.circuit }
+        requires net { net ≡ net_of_pin self.old.circuit pin }
+        requires place { place ≡ place_of_pin self.old.circuit pin }
+        ensures useful { IfOk result (λ useful. useful ≡ is_useful self.old.state (Deliver pin)) }
+        ensures ok { OnOk result (self.new ≡ record self.old { state = step self.old.state (Deliver pin) }) }
+        ensures err { OnErr result (self.new.failed ≡ true) }
+        ensures memory { OnErr result (is_useful self.old.state (Deliver pin) ≡ true) }
+        ensures sound { OnOk result (IsSound self.new.circuit self.new.end self.new.state) }
+    {
         // So it stays where the event is broken off.
         self.failed = true;
         let message = self.fabric.take(pin);
         if let Some(message) = message {
-            let net = self.design.pin_net(pin);
-            let place = pin - self.design.pin(net, 0);
             self.processes[net as usize].receive(place, message)?;
         }
         self.counts.add_event(&[]);
@@ -113,11 +136,11 @@ impl<'d, F: Fabric> Kernel<'d, F> {
     {
         // So it stays where the event is broken off.
         self.failed = true;
-        let news = self.processes[net as usize].advance()?;
-        send_all(&mut self.fabric, net, news.as_slice())?;
-        self.counts.add_event(news.as_slice());
+        self.processes[net as usize].advance(&mut self.news)?;
+        send_all(&mut self.fabric, net, self.news.as_slice())?;
+        self.counts.add_event(self.news.as_slice());
         self.failed = false;
-        Ok(!news.is_empty())
+        Ok(!self.news.is_empty())
     }
 }
 

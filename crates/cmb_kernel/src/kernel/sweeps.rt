@@ -79,7 +79,7 @@ impl<'d, F: Fabric> Kernel<'d, F> {
         let pin = self.design.pin(net, place);
         let place = place as u32;
         while self.received_there(net, place) < tick && self.waiting(pin) > 0 {
-            self.step(Event::Deliver(pin))?;
+            self.deliver_there(pin, net, place)?;
         }
         Ok(())
     }

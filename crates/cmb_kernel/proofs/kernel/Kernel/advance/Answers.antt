@@ -21,13 +21,13 @@ pub add_event-requires : goal.add_event-requires
 add_event-requires g c =
     let all = c.self.invariant (rw (← c.self.view_is) at c.requires.running) in
     subst (λ (ms : _). c.self.inside.counts.changes + c.self.inside.counts.nulls + length ms < 18_446_744_073_709_551_616)
-    (sym (c.as_slice-2.ensures.value ∙ c.in_ok-news.ensures.news))
+    (sym (c.as_slice-2.ensures.value ∙ c.in_ok-advance.ensures.news))
     (few_messages all c.args.net c.index_mut.result.now (rw (← c.self.view_is) at c.requires.exists) c.index_mut.ensures.value)
 
 pub send_all-requires-clause-fit : goal.send_all-requires-clause-fit
 send_all-requires-clause-fit g c =
     let all = c.self.invariant (rw (← c.self.view_is) at c.requires.running) in
-    subst (All Fits) (sym (c.as_slice.ensures.value ∙ c.in_ok-news.ensures.news))
+    subst (All Fits) (sym (c.as_slice.ensures.value ∙ c.in_ok-advance.ensures.news))
     (news_fit all c.args.net c.index_mut.result.now (rw (← c.self.view_is) at c.requires.exists) c.index_mut.ensures.value)
 
 -- what the event makes of the parts
@@ -35,7 +35,7 @@ applied : (g : Over) (c : After-add_event g) →
     IsApplied c.self.inside.design.now c.self.inside.end (slice_set c.self.inside.processes.items c.args.net c.advance.new.self)
     (g.F.Fabric.sources c.send_all.new.fabric) (g.F.Fabric.nets c.send_all.new.fabric) (g.F.Fabric.lists c.send_all.new.fabric)
     c.add_event.new.self (state_of c.self.inside.processes.items (g.F.Fabric.lists c.self.inside.fabric) c.self.inside.counts)
-    (Advance c.args.net) (not (length c.in_ok-news.news.items == 0))
+    (Advance c.args.net) (not (length c.advance.new.messages.items == 0))
 applied g c =
     let all = c.self.invariant (rw (← c.self.view_is) at c.requires.running) in
     rw (
@@ -45,8 +45,8 @@ applied g c =
       c.in_ok-send_all.ensures.nets,
       c.as_slice.ensures.value,
       c.as_slice-2.ensures.value,
-      c.in_ok-news.ensures.state,
-      c.in_ok-news.ensures.news,
+      c.in_ok-advance.ensures.state,
+      c.in_ok-advance.ensures.news,
     )
     (net_advanced all c.args.net c.index_mut.result.now (rw (← c.self.view_is) at c.requires.exists) c.index_mut.ensures.value)
 
@@ -54,11 +54,11 @@ pub invariant_of-self-2 : goal.invariant_of-self-2
 invariant_of-self-2 g c = λ _. (applied g (goal.at.invariant_of-self-2 g c).After-add_event).all
 
 -- memory is taken only where the frontier rises, and where there is something to tell
-pub returns-in_err-news-clause-memory : goal.returns-in_err-news-clause-memory
-returns-in_err-news-clause-memory g c =
+pub returns-in_err-advance-clause-memory : goal.returns-in_err-advance-clause-memory
+returns-in_err-advance-clause-memory g c =
     let all = c.self.invariant (rw (← c.self.view_is) at c.requires.running) in
     let useful : is_useful c.args.self.now.state (Advance c.args.net) ≡ true = rw (← c.self.view_is)
-    (farther_useful all c.args.net c.index_mut.result.now (rw (← c.self.view_is) at c.requires.exists) c.index_mut.ensures.value c.in_err-news.ensures.memory) in
+    (farther_useful all c.args.net c.index_mut.result.now (rw (← c.self.view_is) at c.requires.exists) c.index_mut.ensures.value c.in_err-advance.ensures.memory) in
     OnErr_always _ useful
 
 pub returns-in_err-send_all-clause-memory : goal.returns-in_err-send_all-clause-memory
@@ -66,7 +66,7 @@ returns-in_err-send_all-clause-memory g c =
     let all = c.self.invariant (rw (← c.self.view_is) at c.requires.running) in
     let useful : is_useful c.args.self.now.state (Advance c.args.net) ≡ true = rw (← c.self.view_is)
     (telling_useful all c.args.net c.index_mut.result.now (rw (← c.self.view_is) at c.requires.exists) c.index_mut.ensures.value
-    (subst (λ (ms : _). 0 < length ms) (c.as_slice.ensures.value ∙ c.in_ok-news.ensures.news) c.in_err-send_all.ensures.memory)) in
+    (subst (λ (ms : _). 0 < length ms) (c.as_slice.ensures.value ∙ c.in_ok-advance.ensures.news) c.in_err-send_all.ensures.memory)) in
     OnErr_always _ useful
 
 pub returns-clause-useful : goal.returns-clause-useful

@@ -1,9 +1,28 @@
 use Rattle.std.proofs.Common.{◌≡◌, ◌+◌, ap, sym, subst, ◌∙◌, arith}
-use Rattle.design.specs.Pins.{first_pin}
+use Rattle.design.specs.Pins.{first_pin, net_of_pin, place_of_pin}
 use Rattle.cmb_kernel.specs.State.{KernelView, received_at}
 use Rattle.cmb_kernel.specs.Sweeps.{caught_up}
 use Rattle.cmb_kernel.proofs.SweepLoops.{caught_up_here, knows_enough}
+use Rattle.cmb_kernel.proofs.PinPlaces.{pin_there}
+use Rattle.cmb_kernel.proofs.kernel.Kernel.catch_up.Given.{Over}
 use Rattle.cmb_kernel.proofs.kernel.Kernel.catch_up.Goals as goal
+use Rattle.cmb_kernel.proofs.kernel.Kernel.catch_up.Goals.{After-received_there}
+
+-- the pin's net and its place there, as numbers of it
+there : (g : Over) (c : After-received_there g) →
+    (c.args.net ≡ net_of_pin c.loop-self.self.circuit c.pin-pin.result) × (c.args.place ≡ place_of_pin c.loop-self.self.circuit c.pin-pin.result)
+there g c =
+    let same = ap (λ (r : KernelView). r.circuit) c.loop-self.invariant.run in
+    let pin : c.pin-pin.result ≡ first_pin c.args.self.now.circuit c.args.net + c.args.place =
+    c.pin-pin.ensures.pin ∙ ap (λ (r : KernelView). first_pin r.circuit c.args.net + c.args.place) c.self.view_is in
+    subst (λ circuit. (c.args.net ≡ net_of_pin circuit c.pin-pin.result) × (c.args.place ≡ place_of_pin circuit c.pin-pin.result)) (sym same)
+    (pin_there c.args.self.now.circuit c.args.net c.args.place c.pin-pin.result c.requires.net c.requires.place pin)
+
+pub deliver_there-requires-clause-net : goal.deliver_there-requires-clause-net
+deliver_there-requires-clause-net g c = (there g (goal.at.deliver_there-requires-clause-net g c).After-received_there).0
+
+pub deliver_there-requires-clause-place : goal.deliver_there-requires-clause-place
+deliver_there-requires-clause-place g c = (there g (goal.at.deliver_there-requires-clause-place g c).After-received_there).1
 
 pub returns-after-loop-self-clause-ok : goal.returns-after-loop-self-clause-ok
 returns-after-loop-self-clause-ok g c =
