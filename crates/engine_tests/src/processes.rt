@@ -276,7 +276,12 @@ fn are_between(rt: &impl Abort, messages: &[Message], count: usize, first: Messa
 }
 
 // It tells as much of that, and at first a bound and a change at tick 11.
-fn tell_far(rt: &impl Abort, process: &mut Probe<'_>, known: u64, first: Value) -> Result<(), Fail> {
+fn tell_far(
+    rt: &impl Abort,
+    process: &mut Probe<'_>,
+    known: u64,
+    first: Value,
+) -> Result<(), Fail> {
     process.tells(rt, &[Null(known)])?;
     hear_far(rt, process)?;
     let messages = process.advance(rt)?;

@@ -3,7 +3,7 @@ use Rattle.std.specs.Prelude.{ℕ, ◌*◌, ◌/◌, nat_lt, if◌then◌else◌
 
 -- a run goes on like this while a sweep tells so many changes
 abbrev pub most_told : ℕ
-most_told = 262_144
+most_told = 65_536
 
 -- a window past the longest run
 abbrev pub widest : ℕ

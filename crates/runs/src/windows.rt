@@ -9,7 +9,7 @@ ghost use Rattle.runs.specs.Windows.{next_width};
 pub(crate) const FIRST_WIDTH: u64 = 64;
 
 /// The most changes that a sweep should tell: what is in flight in a run follows it.
-const MOST_TOLD: u64 = 262_144;
+const MOST_TOLD: u64 = 65_536;
 
 /// The greatest width: longer than the longest run.
 const WIDEST: u64 = 16_777_216;
