@@ -119,9 +119,15 @@ impl Probe {
         Ok(self.process.advance()?)
     }
 
-    fn drain_below(&mut self, rt: &impl Abort, bound: u64) -> Result<Vec<Change>, Fail> {
+    fn drain_below(
+        &mut self,
+        rt: &impl Abort,
+        bound: u64,
+        changes: &mut Vec<Change>,
+    ) -> Result<(), Fail> {
         assert!(rt; bound <= self.process(rt).frontier());
-        Ok(self.process.drain_below(bound)?)
+        self.process.drain_below(bound, changes)?;
+        Ok(())
     }
 
     // It tells just these messages.
@@ -238,14 +244,17 @@ fn flop_process(rt: HostRuntime) -> Result<(), Fail> {
 }
 
 // What it shows before tick 9 is taken out, and nothing is left to take there.
-fn drain_flop(rt: &impl Abort, process: &mut Probe) -> Result<(), Fail> {
+fn drain_flop(rt: &impl Abort, alloc: Global, process: &mut Probe) -> Result<(), Fail> {
     assert!(rt; process.process(rt).floor() == 0);
     let rise = Change {
         tick: 5,
         value: One,
     };
-    assert!(rt; process.drain_below(rt, 9)?.as_slice() == [rise].as_slice());
-    assert!(rt; process.drain_below(rt, 9)?.len() == 0);
+    let mut changes = Vec::new(alloc);
+    process.drain_below(rt, 9, &mut changes)?;
+    assert!(rt; changes.as_slice() == [rise].as_slice());
+    process.drain_below(rt, 9, &mut changes)?;
+    assert!(rt; changes.len() == 1);
     let fall = Change {
         tick: 9,
         value: Zero,
@@ -260,7 +269,7 @@ fn drain_flop(rt: &impl Abort, process: &mut Probe) -> Result<(), Fail> {
 fn drained_flop(rt: HostRuntime) -> Result<(), Fail> {
     let mut process = Probe::new(&rt, rt.alloc(), SAMPLER, b"", 4, b"q", 9)?;
     flop_tells(&rt, &mut process)?;
-    drain_flop(&rt, &mut process)
+    drain_flop(&rt, rt.alloc(), &mut process)
 }
 
 // The first pin is told a thousand changes over ten million ticks.
