@@ -62,10 +62,18 @@ impl<'d, F: Fabric> Run<'d, F> {
         Ok(())
     }
 
-    fn drain(&mut self, rt: &impl Abort, net: u32, bound: u64) -> Result<Vec<Change>, Fail> {
+    // Adds the net's changes before the tick to the end of the list.
+    fn drain(
+        &mut self,
+        rt: &impl Abort,
+        net: u32,
+        bound: u64,
+        changes: &mut Vec<Change>,
+    ) -> Result<(), Fail> {
         assert!(rt; self.kernel(rt, net).floor(net) <= bound);
         assert!(rt; bound <= self.kernel(rt, net).least_frontier());
-        Ok(self.kernel.drain_below(net, bound)?)
+        self.kernel.drain_below(net, bound, changes)?;
+        Ok(())
     }
 
     fn keeps(&self, rt: &impl Abort, net: u32, floor: u64, before: Value, changes: &[Change]) {
@@ -75,14 +83,16 @@ impl<'d, F: Fabric> Run<'d, F> {
         assert!(rt; kernel.waveform(net).changes() == changes);
     }
 
-    fn step(&mut self, rt: &impl Abort, step: Step) -> Result<(), Fail> {
+    fn step(&mut self, rt: &impl Abort, alloc: Global, step: Step) -> Result<(), Fail> {
         match step {
             Goes(least) => {
                 self.round()?;
                 assert!(rt; self.kernel(rt, 0).least_frontier() == least);
             }
             Drains(net, bound, changes) => {
-                assert!(rt; self.drain(rt, net, bound)?.as_slice() == changes);
+                let mut taken = Vec::new(alloc);
+                self.drain(rt, net, bound, &mut taken)?;
+                assert!(rt; taken.as_slice() == changes);
                 assert!(rt; self.kernel(rt, net).floor(net) == bound);
             }
             Keeps(net, floor, before, changes) => self.keeps(rt, net, floor, before, changes),
@@ -153,7 +163,7 @@ fn follows<F: Fabric>(
 ) -> Result<(), Fail> {
     let mut run: Run<F> = Run::new(alloc, design, Horizon::new(horizon)?)?;
     for step in steps {
-        run.step(rt, *step)?;
+        run.step(rt, alloc, *step)?;
     }
     Ok(())
 }
@@ -183,7 +193,7 @@ fn taken<F: Fabric>(
     for _round in 0..rounds {
         run.round()?;
         let least = run.kernel(rt, net).least_frontier();
-        taken.extend_from_slice(run.drain(rt, net, least)?.as_slice())?;
+        run.drain(rt, net, least, &mut taken)?;
     }
     Ok(taken)
 }
@@ -267,8 +277,15 @@ fn low_and_high(alloc: Global) -> Result<Waveform, Fail> {
 fn split_of_a_waveform(rt: HostRuntime) -> Result<(), Fail> {
     let mut wave = low_and_high(rt.alloc())?;
     assert!(rt; wave.copy()? == wave);
-    assert!(rt; wave.split_below(3)?.as_slice() == [LOW].as_slice());
+    let mut below = Vec::new(rt.alloc());
+    wave.split_below(3, &mut below)?;
+    assert!(rt; below.as_slice() == [LOW].as_slice());
     assert!(rt; wave.before() == Zero);
     assert!(rt; wave.changes() == [HIGH].as_slice());
+    wave.split_below(3, &mut below)?;
+    assert!(rt; below.as_slice() == [LOW].as_slice());
+    wave.split_below(4, &mut below)?;
+    assert!(rt; below.as_slice() == [LOW, HIGH].as_slice());
+    assert!(rt; wave.changes().len() == 0);
     Ok(())
 }

@@ -110,9 +110,15 @@ impl<'d> Probe<'d> {
         Ok(messages)
     }
 
-    fn drain_below(&mut self, rt: &impl Abort, bound: u64) -> Result<Vec<Change>, Fail> {
+    fn drain_below(
+        &mut self,
+        rt: &impl Abort,
+        bound: u64,
+        changes: &mut Vec<Change>,
+    ) -> Result<(), Fail> {
         assert!(rt; bound <= self.process(rt).frontier());
-        Ok(self.process.drain_below(bound)?)
+        self.process.drain_below(bound, changes)?;
+        Ok(())
     }
 
     // It tells just these messages.
@@ -233,14 +239,17 @@ fn flop_process(rt: HostRuntime) -> Result<(), Fail> {
 }
 
 // What it shows before tick 9 is taken out, and nothing is left to take there.
-fn drain_flop(rt: &impl Abort, process: &mut Probe<'_>) -> Result<(), Fail> {
+fn drain_flop(rt: &impl Abort, alloc: Global, process: &mut Probe<'_>) -> Result<(), Fail> {
     assert!(rt; process.process(rt).floor() == 0);
     let rise = Change {
         tick: 5,
         value: One,
     };
-    assert!(rt; process.drain_below(rt, 9)?.as_slice() == [rise].as_slice());
-    assert!(rt; process.drain_below(rt, 9)?.len() == 0);
+    let mut changes = Vec::new(alloc);
+    process.drain_below(rt, 9, &mut changes)?;
+    assert!(rt; changes.as_slice() == [rise].as_slice());
+    process.drain_below(rt, 9, &mut changes)?;
+    assert!(rt; changes.len() == 1);
     let fall = Change {
         tick: 9,
         value: Zero,
@@ -256,7 +265,7 @@ fn drained_flop(rt: HostRuntime) -> Result<(), Fail> {
     let design = built(rt.alloc(), SAMPLER, b"", b"", 4)?;
     let mut process = Probe::of(&rt, rt.alloc(), &design, b"q", 9)?;
     flop_tells(&rt, &mut process)?;
-    drain_flop(&rt, &mut process)
+    drain_flop(&rt, rt.alloc(), &mut process)
 }
 
 // The first pin is told a thousand changes over ten million ticks.

@@ -1,4 +1,4 @@
-ghost use Rattle.std.specs.Prelude.{◌≡◌, ℕ, ◌+◌, ◌<◌, ◌≤◌, Bool, true, false, length, slice_get, Some, IfOk, IfSome, OnOk, OnErr};
+ghost use Rattle.std.specs.Prelude.{◌≡◌, ℕ, ◌+◌, ◌++◌, ◌<◌, ◌≤◌, Bool, true, false, length, slice_get, Some, IfOk, IfSome, OnOk, OnErr};
 ghost use Rattle.cmb_channels.specs.Kinds.{is_change};
 ghost use Rattle.gate_process.specs.Step.{running, started_process, pin_frontier, pin_last, heard, safe_of, next_frontier, advanced, news, drained, drained_changes};
 ghost use Rattle.gate_process.specs.Truth.{IsProcess, CanHear};
@@ -137,21 +137,22 @@ impl<'d> Process<'d> {
         Ok(())
     }
 
-    /// Takes out the net's changes before a tick up to which it is known, in order, and forgets what it
-    /// showed before that tick.
+    /// Takes out the net's changes before a tick up to which it is known, adds them in order to the end
+    /// of a list, and forgets what the net showed before that tick.
     ///
-    /// An `AllocError` leaves the process as it was.
-    pub fn drain_below(&mut self, bound: u64) -> Result<Vec<Change>, AllocError>
+    /// An `AllocError` leaves the process and the list as they were.
+    pub fn drain_below(&mut self, bound: u64, changes: &mut Vec<Change>) -> Result<(), AllocError>
         requires running { self.old.failed ≡ false }
         requires known { bound ≤ self.old.state.known.frontier }
-        ensures changes { IfOk result (λ changes. changes.items ≡ drained_changes bound self.old.state) }
+        ensures changes { OnOk result (changes.new.items ≡ changes.old.items ++ drained_changes bound self.old.state) }
         ensures ok { OnOk result (self.new ≡ running (drained bound self.old.state)) }
+        ensures same { OnErr result (changes.new.items ≡ changes.old.items) }
         ensures err { OnErr result (self.new ≡ self.old) }
         ensures memory { OnErr result (0 < length (drained_changes bound self.old.state)) }
     {
-        let changes = self.wave.split_below(bound)?;
+        self.wave.split_below(bound, changes)?;
         self.floor = self.floor.max(bound);
-        Ok(changes)
+        Ok(())
     }
 
     /// How many ticks are known of all pins: the least of their frontiers, and for an input all

@@ -6,10 +6,10 @@ ghost use Rattle.cmb_channels.specs.Kinds.{is_change};
 ghost use Rattle.gate_process.specs.Knowledge.{Knowledge, nothing_known, told, kept_since, forgetting, keeping};
 ghost use Rattle.gate_process.specs.Step.{least};
 
-use crate::changes::{ChangeQueue, early_changes, last_value};
+use crate::changes::{early_changes, last_value};
 use crate::cursor::Cursor;
 use cmb_channels::Message;
-use logic3::Value;
+use logic3::{ChangeQueue, Value};
 use std::alloc::{AllocError, Global};
 use std::marker::Model;
 

@@ -1,6 +1,6 @@
 -- Waveforms cut at a tick.
-use Rattle.std.proofs.Common.{◌≡◌, ℕ, zero, suc, ◌+◌, ◌-◌, ◌<◌, ◌≤◌, nat_lt, nat_le, max, Bool, true, false, List, [], ◌∷◌, ◌++◌, All, length, take, drop, refl, ap, sym, ◌∙◌, arith, append-nil, ◌⊎◌, inl, inr, ltb-true, ltb-false}
-use Rattle.std.specs.List.{filter}
+use Rattle.std.proofs.Common.{◌≡◌, ℕ, zero, suc, ◌+◌, ◌-◌, ◌<◌, ◌≤◌, nat_lt, nat_le, max, Bool, true, false, List, [], ◌∷◌, ◌++◌, All, length, take, drop, refl, ap, sym, ◌∙◌, arith, append-nil, one-add, ◌⊎◌, inl, inr}
+use Rattle.std.specs.List.{filter, prefix_len}
 use Rattle.std.specs.List.Sorted.{IsPartitionPoint}
 use Rattle.std.proofs.lemmas.Bool.{le-leb, lt-leb, lt-ltb, le-ltb, cases_lt}
 use Rattle.std.proofs.lemmas.List.Elements.{All-head, All-tail, filter-append}
@@ -32,29 +32,49 @@ pub cut_tail : (tick : ℕ) (first : Change) (changes : List Change) (count : �
 cut_tail tick first changes count at =
     ((λ k d low high. at.0 (suc k) d (omega arith) (omega arith)), λ k d low high. at.1 (suc k) d (omega arith) (omega arith))
 
--- the first changes are those below the tick, and the others are from it on
-pub cut_below : (tick : ℕ) (changes : List Change) (count : ℕ) → count ≤ length changes → IsCut tick changes count →
-    take count changes ≡ changes_below tick changes
-cut_below tick [] count inside cut = let none : count ≡ 0 = omega arith in rw none refl
-cut_below tick (first ∷ changes) zero inside cut =
-    rw (cut.1 0 first (omega arith) (omega arith))
-    (cut_below tick changes zero (omega arith)
-    ((λ k d low high. absurd (omega arith)), λ k d low high. cut.1 (suc k) d (omega arith) (omega arith)))
-cut_below tick (first ∷ changes) (suc count) inside cut =
-    rw (cut.0 0 first (omega arith) (omega arith))
-    (ap (λ cs. first ∷ cs) (cut_below tick changes count (omega arith) (cut_tail tick first changes count cut)))
+-- how many changes come first that are below the tick
+abbrev pub due_below : ℕ → List Change → ℕ
+due_below tick changes = prefix_len (λ (change : Change). nat_lt change.tick tick) changes
 
-pub cut_rest : (tick : ℕ) (changes : List Change) (count : ℕ) → count ≤ length changes → IsCut tick changes count →
-    drop count changes ≡ filter (λ (change : Change). nat_le tick change.tick) changes
-cut_rest tick [] count inside cut = let none : count ≡ 0 = omega arith in rw none refl
-cut_rest tick (first ∷ changes) zero inside cut =
-    let late : tick ≤ first.tick = ltb-false _ _ (cut.1 0 first (omega arith) (omega arith)) in
-    rw (le-leb tick first.tick late)
-    (ap (λ cs. first ∷ cs) (cut_rest tick changes zero (omega arith)
-    ((λ k d low high. absurd (omega arith)), λ k d low high. cut.1 (suc k) d (omega arith) (omega arith))))
-cut_rest tick (first ∷ changes) (suc count) inside cut =
-    let early : first.tick < tick = ltb-true _ _ (cut.0 0 first (omega arith) (omega arith)) in
-    rw (lt-leb tick first.tick early) (cut_rest tick changes count (omega arith) (cut_tail tick first changes count cut))
+-- where no change comes earlier than the tick, none is below it
+none_early : (before : Value) (low tick : ℕ) (changes : List Change) → tick ≤ low → Alternates before low changes → changes_below tick changes ≡ []
+none_early before low tick [] h rise = refl
+none_early before low tick (first ∷ changes) h rise =
+    rw (le-ltb first.tick tick (omega (arith, rise.0))) (none_early first.value (first.tick + 1) tick changes (omega (arith, rise.0)) rise.2)
+
+all_stay : (before : Value) (low tick : ℕ) (changes : List Change) → tick ≤ low → Alternates before low changes →
+    filter (λ (change : Change). nat_le tick change.tick) changes ≡ changes
+all_stay before low tick [] h rise = refl
+all_stay before low tick (first ∷ changes) h rise =
+    rw (le-leb tick first.tick (omega (arith, rise.0)))
+    (ap (λ cs. first ∷ cs) (all_stay first.value (first.tick + 1) tick changes (omega (arith, rise.0)) rise.2))
+
+-- the first changes are those below the tick, and the others are from it on
+pub first_below : (before : Value) (low tick : ℕ) (changes : List Change) → Alternates before low changes →
+    take (due_below tick changes) changes ≡ changes_below tick changes
+first_below before low tick [] rise = refl
+first_below before low tick (first ∷ changes) rise =
+    go (cases_lt first.tick tick) (first_below first.value (first.tick + 1) tick changes rise.2)
+  where
+    go : (first.tick < tick) ⊎ (tick ≤ first.tick) → take (due_below tick changes) changes ≡ changes_below tick changes →
+        take (due_below tick (first ∷ changes)) (first ∷ changes) ≡ changes_below tick (first ∷ changes)
+    go (inl early) rest = rw (lt-ltb first.tick tick early, one-add (due_below tick changes)) (ap (λ cs. first ∷ cs) rest)
+    go (inr late) rest =
+        rw (le-ltb first.tick tick late) (sym (none_early first.value (first.tick + 1) tick changes (omega (arith, late)) rise.2))
+
+pub rest_behind : (before : Value) (low tick : ℕ) (changes : List Change) → Alternates before low changes →
+    drop (due_below tick changes) changes ≡ filter (λ (change : Change). nat_le tick change.tick) changes
+rest_behind before low tick [] rise = refl
+rest_behind before low tick (first ∷ changes) rise =
+    go (cases_lt first.tick tick) (rest_behind first.value (first.tick + 1) tick changes rise.2)
+  where
+    go : (first.tick < tick) ⊎ (tick ≤ first.tick) →
+        drop (due_below tick changes) changes ≡ filter (λ (change : Change). nat_le tick change.tick) changes →
+        drop (due_below tick (first ∷ changes)) (first ∷ changes) ≡ filter (λ (change : Change). nat_le tick change.tick) (first ∷ changes)
+    go (inl early) rest = rw (lt-ltb first.tick tick early, lt-leb tick first.tick early, one-add (due_below tick changes)) rest
+    go (inr late) rest =
+        rw (le-ltb first.tick tick late, le-leb tick first.tick late)
+        (ap (λ cs. first ∷ cs) (sym (all_stay first.value (first.tick + 1) tick changes (omega (arith, late)) rise.2)))
 
 -- changes that alternate from a tick on do so from an earlier one on
 Alternates-earlier : (before : Value) (low lower : ℕ) (changes : List Change) → lower ≤ low → Alternates before low changes → Alternates before lower changes

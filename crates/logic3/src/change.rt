@@ -1,4 +1,6 @@
-ghost use Rattle.std.specs.Prelude.{◌≡◌};
+ghost use Rattle.std.specs.Prelude.{◌≡◌, ◌≤◌, length, nat_lt};
+ghost use Rattle.std.specs.List.{prefix_len};
+ghost use Rattle.logic3.specs.declared.change.Change.{Change};
 ghost use Rattle.logic3.specs.Rising.{TicksRise};
 ghost use Rattle.logic3.specs.Wave.{value_after};
 
@@ -20,4 +22,15 @@ pub fn value_after(before: Value, changes: &[Change], tick: u64) -> Value
 {
     let due = changes.partition_point(|change| change.tick <= tick);
     changes[..due].last().map_or(before, |change| change.value)
+}
+
+/// How many changes come first that are before a tick. Takes a step for each of them.
+pub fn due_below(changes: &[Change], tick: u64) -> usize
+    ensures count { result ≡ prefix_len (λ (change : Change). nat_lt change.tick tick) changes.now }
+    ensures within { result ≤ length changes.now }
+{
+    changes
+        .iter()
+        .take_while(|change| change.tick < tick)
+        .count()
 }

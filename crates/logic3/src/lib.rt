@@ -2,12 +2,14 @@
 #![tactic(auto)]
 
 mod change;
+mod change_queue;
 mod gates;
 pub mod laws;
 mod value;
 mod waveform;
 
 pub use change::{Change, value_after};
+pub use change_queue::ChangeQueue;
 pub use gates::{GateKind, gate};
 pub use value::Value;
 pub use waveform::Waveform;

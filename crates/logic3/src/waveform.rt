@@ -1,17 +1,17 @@
 ghost use Rattle.std.specs.Prelude.{◌≡◌, ◌≢◌, ℕ, ◌+◌, ◌<◌, ◌≤◌, ◌↔◌, List, [], ◌∷◌, ◌++◌, All, length, IsTrue, IfOk, OnOk, OnErr};
 ghost use Rattle.logic3.specs.declared.value.Value.TheVariants.{Unknown};
 
-use crate::change::{Change, value_after};
+use crate::change::{Change, due_below, value_after};
+use crate::change_queue::ChangeQueue;
 use crate::value::Value;
 use std::alloc::{AllocError, Global};
 use std::marker::Model;
-use std::mem::replace;
 
 /// What a net shows at each tick: a value before the first change, and the changes.
 #[derive(Debug, Drop)]
 pub struct Waveform {
     before: Value,
-    changes: Vec<Change>,
+    changes: ChangeQueue,
 }
 
 impl Model for Waveform {
@@ -19,9 +19,9 @@ impl Model for Waveform {
 
     ghost Value = { Wave };
 
-    ghost view = { λ w. record { before = w.before; changes = w.changes.items } };
+    ghost view = { λ w. record { before = w.before; changes = w.changes } };
 
-    ghost invariant = { λ w. IsWave (record { before = w.before; changes = w.changes.items }) };
+    ghost invariant = { λ w. IsWave (record { before = w.before; changes = w.changes }) };
 }
 
 impl Waveform {
@@ -33,7 +33,7 @@ impl Waveform {
     {
         Waveform {
             before: Value::Unknown,
-            changes: Vec::new(alloc),
+            changes: ChangeQueue::new(alloc),
         }
     }
 
@@ -67,6 +67,7 @@ impl Waveform {
         ensures { result ≡ last_value self.now }
     {
         self.changes
+            .as_slice()
             .last()
             .map_or(self.before, |change| change.value)
     }
@@ -84,25 +85,28 @@ impl Waveform {
         Ok(())
     }
 
-    /// Takes out the changes before a tick, in order. The value before the others becomes that of the
-    /// last of them, where there is one.
+    /// Takes out the changes before a tick, and adds them in order to the end of a list. The value
+    /// before the others becomes that of the last of them, where there is one.
     ///
-    /// Where no change is before the tick it takes no memory. An `AllocError` leaves the waveform as it
-    /// was.
-    pub fn split_below(&mut self, tick: u64) -> Result<Vec<Change>, AllocError>
-        ensures below { IfOk result (λ below. below.items ≡ changes_below tick self.old.changes) }
+    /// Takes a step for each of them, on the whole: one comparison, where there is none. Where there is
+    /// none it takes no memory. An `AllocError` leaves the waveform and the list as they were.
+    pub fn split_below(&mut self, tick: u64, below: &mut Vec<Change>) -> Result<(), AllocError>
+        ensures below { OnOk result (below.new.items ≡ below.old.items ++ changes_below tick self.old.changes) }
         ensures rest { OnOk result (self.new ≡ without_below tick self.old) }
+        ensures same { OnErr result (below.new.items ≡ below.old.items) }
         ensures err { OnErr result (self.new ≡ self.old) }
         ensures memory { OnErr result (0 < length (changes_below tick self.old.changes)) }
     {
-        let due = self.changes.partition_point(|change| change.tick < tick);
+        let changes = self.changes.as_slice();
+        let due = due_below(changes, tick);
         if due == 0 {
-            return Ok(Vec::new(*self.changes.allocator()));
+            return Ok(());
         }
-        let rest = self.changes.split_off(due)?;
-        let below = replace(&mut self.changes, rest);
-        self.before = below.last().map_or(self.before, |change| change.value);
-        Ok(below)
+        let taken = &changes[..due];
+        below.extend_from_slice(taken)?;
+        self.before = taken.last().map_or(self.before, |change| change.value);
+        self.changes.drop_front(due);
+        Ok(())
     }
 
     /// An equal waveform, on the same allocator.
@@ -111,7 +115,7 @@ impl Waveform {
     {
         Ok(Waveform {
             before: self.before,
-            changes: self.changes.clone()?,
+            changes: self.changes.copy()?,
         })
     }
 }
@@ -128,7 +132,7 @@ impl PartialEq for Waveform {
         ensures value { result ≡ is_same_wave self.now other.now }
         ensures same { IsTrue result ↔ (self.now ≡ other.now) }
     {
-        self.before == other.before && self.changes == other.changes
+        self.before == other.before && self.changes.as_slice() == other.changes.as_slice()
     }
 }
 

@@ -33,13 +33,16 @@ pub(crate) fn drain_nets(
 {
     let mut parts = Vec::with_capacity(alloc, nets.len())?;
     for net in nets {
-        parts.push(kernel.drain_below(*net, bound)?)?;
+        let mut part = Vec::new(alloc);
+        kernel.drain_below(*net, bound, &mut part)?;
+        parts.push(part)?;
     }
     Ok(parts)
 }
 
 /// Forgets what all nets, so many, showed before the tick.
 pub(crate) fn forget_below(
+    alloc: Global,
     kernel: &mut RunKernel<'_>,
     nets: u32,
     bound: u64,
@@ -53,8 +56,10 @@ pub(crate) fn forget_below(
     ensures floors { OnOk result (EachFloor kernel.new (λ floor. floor ≡ bound)) }
     ensures err { IfErr result (λ fault. fault ≡ KernelFault.Memory) }
 {
+    let mut forgotten = Vec::new(alloc);
     for net in 0..nets {
-        kernel.drain_below(net, bound)?;
+        forgotten.clear();
+        kernel.drain_below(net, bound, &mut forgotten)?;
     }
     Ok(())
 }

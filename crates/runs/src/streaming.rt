@@ -173,7 +173,7 @@ fn write_known<W: Write>(
         return Ok(());
     }
     let parts = drain_nets(alloc, kernel, nets, known)?;
-    forget_below(kernel, run.design.nets(), known)?;
+    forget_below(alloc, kernel, run.design.nets(), known)?;
     stream.span(out, known, parts.as_slice())?;
     Ok(())
 }

@@ -1,4 +1,4 @@
-ghost use Rattle.std.specs.Prelude.{◌≡◌, ◌≢◌, ◌<◌, ◌≤◌, false, if◌then◌else◌, length, [], Err, IfOk, IfErr, OnOk, OnErr};
+ghost use Rattle.std.specs.Prelude.{◌≡◌, ◌≢◌, ◌<◌, ◌≤◌, ◌++◌, false, if◌then◌else◌, length, [], Err, IfErr, OnOk, OnErr};
 ghost use Rattle.logic3.specs.Wave.{changes_between};
 ghost use Rattle.design.specs.Equations.{value_of};
 ghost use Rattle.cmb_kernel.specs.State.{frontier_at, floor_at, least_frontier};
@@ -22,19 +22,26 @@ impl<'d, F: Fabric> Kernel<'d, F> {
     }
 
     /// Takes out a net's changes from its floor up to but not including a tick up to which every net is
-    /// known. That tick is its floor from then on, and what the net showed before it is forgotten.
+    /// known, and adds them in order to the end of a list. That tick is the net's floor from then on, and
+    /// what it showed before is forgotten.
     ///
     /// # Errors
     /// [`KernelFault::Failed`] and [`KernelFault::Memory`]; nothing changed. The kernel hasn't failed by
     /// this want of memory.
-    pub fn drain_below(&mut self, net: u32, bound: u64) -> Result<Vec<Change>, KernelFault>
+    pub fn drain_below(
+        &mut self,
+        net: u32,
+        bound: u64,
+        changes: &mut Vec<Change>,
+    ) -> Result<(), KernelFault>
         requires net { net < length self.old.circuit }
         requires above { self.old.failed ≡ false → floor_at self.old.state net ≤ bound }
         requires known { self.old.failed ≡ false → bound ≤ least_frontier self.old.end self.old.state }
-        ensures changes { IfOk result (λ changes. changes.items ≡
+        ensures changes { OnOk result (changes.new.items ≡ changes.old.items ++
             changes_between (value_of self.old.circuit net) (floor_at self.old.state net) bound) }
         ensures ok { OnOk result (self.new ≡ record self.old { state = after_drain self.old.state net bound }) }
         ensures floor { OnOk result (floor_at self.new.state net ≡ bound) }
+        ensures same { OnErr result (changes.new.items ≡ changes.old.items) }
         ensures err { OnErr result (self.new ≡ self.old) }
         ensures fault { IfErr result (λ fault.
             fault ≡ (if self.old.failed then KernelFault.Failed else KernelFault.Memory)) }
@@ -44,6 +51,7 @@ impl<'d, F: Fabric> Kernel<'d, F> {
         ensures sound { self.new.failed ≡ false → IsSound self.new.circuit self.new.end self.new.state }
     {
         self.check_running()?;
-        Ok(self.processes[net as usize].drain_below(bound)?)
+        self.processes[net as usize].drain_below(bound, changes)?;
+        Ok(())
     }
 }

@@ -1,6 +1,8 @@
-use Rattle.std.proofs.Common.{◌<◌, [], ◌∷◌, map, get_or, length, refl, ap, ◌∙◌, arith}
+use Rattle.std.proofs.Common.{◌<◌, [], ◌∷◌, ◌++◌, map, get_or, length, refl, ap, ◌∙◌, arith}
 use Rattle.std.proofs.lemmas.List.{map-append}
-use Rattle.cmb_kernel.specs.State.{KernelView}
+use Rattle.logic3.specs.Wave.{changes_between}
+use Rattle.design.specs.Equations.{value_of}
+use Rattle.cmb_kernel.specs.State.{KernelView, floor_at}
 use Rattle.runs.proofs.Drains.{IsDrain, DrainsTo-none, DrainsTo-trans, DrainsTo-drain, least_same, EachFloor-drain, others_after, parts_more}
 use Rattle.runs.proofs.draining.drain_nets.Goals as goal
 
@@ -30,13 +32,14 @@ loop-net-preserved c =
       floor = c.in_ok-drain_below.ensures.floor;
       sound = c.in_ok-drain_below.ensures.sound runs;
     } in
+    let taken = changes_between (value_of c.loop-net.kernel.circuit net) (floor_at c.loop-net.kernel.state net) c.args.bound in
     let untouched = so_far.others net (λ k h. c.requires.once k i 0 h inside) in
     record {
       drains = DrainsTo-trans start c.loop-net.kernel c.drain_below.new.self so_far.drains (DrainsTo-drain drain);
       floors = EachFloor-drain drain so_far.floors;
       others = others_after drain start c.args.nets.now i refl so_far.others;
       parts = ap (map (λ (v : _). v.items)) c.in_ok-push.ensures.items
-          ∙ map-append (λ (v : _). v.items) c.loop-net.parts.items (c.in_ok-drain_below.field-0 ∷ [])
-          ∙ parts_more start c.loop-net.kernel c.args.nets.now i c.args.bound _ c.in_ok-drain_below.field-0.items inside so_far.drains untouched
-          c.in_ok-drain_below.ensures.changes so_far.parts;
+          ∙ map-append (λ (v : _). v.items) c.loop-net.parts.items (c.drain_below.new.changes ∷ [])
+          ∙ parts_more start c.loop-net.kernel c.args.nets.now i c.args.bound _ c.drain_below.new.changes.items inside so_far.drains untouched
+          (c.in_ok-drain_below.ensures.changes ∙ ap (λ cs. cs ++ taken) c.new-part.ensures.items) so_far.parts;
     }

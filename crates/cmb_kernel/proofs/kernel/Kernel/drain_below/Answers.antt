@@ -1,4 +1,4 @@
-use Rattle.std.proofs.Common.{◌≡◌, ◌<◌, ◌≤◌, length, ap, sym, subst, ◌∙◌, arith, false}
+use Rattle.std.proofs.Common.{◌≡◌, ◌<◌, ◌≤◌, ◌++◌, length, ap, sym, subst, ◌∙◌, arith, false}
 use Rattle.logic3.specs.Wave.{changes_between}
 use Rattle.design.specs.Equations.{value_of}
 use Rattle.gate_process.specs.Step.{drained_changes}
@@ -31,10 +31,12 @@ known : (g : Over) (c : After-index_mut g) → c.args.bound ≤ least_frontier c
 known g c = subst (λ (k : KernelView). c.args.bound ≤ least_frontier k.end k.state) (sym c.self.view_is) (c.requires.known (runs g c))
 
 pub drain_below-requires : goal.drain_below-requires
-drain_below-requires g c = record {
-  running = (runs_at (all g c) c.args.net c.index_mut.result.now (below g c) c.index_mut.ensures.value).runs;
-  known = (bounded (all g c) c.args.net c.args.bound c.index_mut.result.now (below g c) c.index_mut.ensures.value (above g c) (known g c)).1;
-}
+drain_below-requires g c =
+    let at = (goal.at.drain_below-requires g c).After-index_mut in
+    record {
+      running = (runs_at (all g at) c.args.net c.index_mut.result.now (below g at) c.index_mut.ensures.value).runs;
+      known = (bounded (all g at) c.args.net c.args.bound c.index_mut.result.now (below g at) c.index_mut.ensures.value (above g at) (known g at)).1;
+    }
 
 taken : (g : Over) (c : After-index_mut g) → drained_changes c.args.bound c.index_mut.result.now.state
     ≡ changes_between (value_of c.args.self.now.circuit c.args.net) (floor_at c.args.self.now.state c.args.net) c.args.bound
@@ -57,7 +59,8 @@ invariant_of-self-2 g c = λ _.
 
 pub returns-clause-changes : goal.returns-clause-changes
 returns-clause-changes g c =
-    let at = (goal.at.returns-clause-changes g c).After-index_mut in c.in_ok-drain_below.ensures.changes ∙ taken g at
+    let at = (goal.at.returns-clause-changes g c).After-index_mut in
+    c.in_ok-drain_below.ensures.changes ∙ ap (λ cs. c.args.changes.now.items ++ cs) (taken g at)
 
 pub returns-clause-ok : goal.returns-clause-ok
 returns-clause-ok g c =

@@ -1,4 +1,4 @@
-use Rattle.std.proofs.Common.{◌≡◌, ◌<◌, ◌≤◌, length, ap, sym, subst, ◌∙◌}
+use Rattle.std.proofs.Common.{◌≡◌, ◌<◌, ◌≤◌, ◌++◌, length, ap, sym, subst, ◌∙◌}
 use Rattle.logic3.specs.Wave.{changes_below}
 use Rattle.logic3.proofs.CallerLemmas.{OnErr_always}
 use Rattle.gate_process.specs.Step.{ProcessState, ProcessView, drained, drained_changes}
@@ -32,10 +32,10 @@ taken : (c : After-split_below) → changes_below c.args.bound c.self.inside.wav
 unfolding before
 taken c = taken_out (before c) c.args.bound (is_process c) (within c) ∙ ap (drained_changes c.args.bound) (view_is c)
 
-pub returns-in_err-changes-clause-memory : goal.returns-in_err-changes-clause-memory
-returns-in_err-changes-clause-memory c =
-    let at = (goal.at.returns-in_err-changes-clause-memory c).After-split_below in
-    OnErr_always _ (subst (λ (cs : _). 0 < length cs) (taken at) c.in_err-changes.ensures.memory)
+pub returns-in_err-split_below-clause-memory : goal.returns-in_err-split_below-clause-memory
+returns-in_err-split_below-clause-memory c =
+    let at = (goal.at.returns-in_err-split_below-clause-memory c).After-split_below in
+    OnErr_always _ (subst (λ (cs : _). 0 < length cs) (taken at) c.in_err-split_below.ensures.memory)
 
 after : goal.After-self-1 → ProcessState
 after c = record {
@@ -50,7 +50,7 @@ is_drained : (c : goal.After-self-1) → after c ≡ drained c.args.bound (befor
 unfolding before after
 is_drained c =
     let at = (goal.at.invariant_of-self-2 c).After-split_below in
-    let wave = c.in_ok-changes.ensures.rest ∙ left (before at) c.args.bound (is_process at) (within at) in
+    let wave = c.in_ok-split_below.ensures.rest ∙ left (before at) c.args.bound (is_process at) (within at) in
     λ i. record {
       net = c.self.inside.net;
       end = c.self.inside.end;
@@ -67,7 +67,8 @@ invariant_of-self-2 c = λ running.
 
 pub returns-clause-changes : goal.returns-clause-changes
 returns-clause-changes c =
-    let at = (goal.at.returns-clause-changes c).After-split_below in c.in_ok-changes.ensures.below ∙ taken at
+    let at = (goal.at.returns-clause-changes c).After-split_below in
+    c.in_ok-split_below.ensures.below ∙ ap (λ cs. c.args.changes.now.items ++ cs) (taken at)
 
 pub returns-clause-ok : goal.returns-clause-ok
 unfolding after
