@@ -1,4 +1,4 @@
-use Rattle.std.proofs.Common.{◌≤◌, arith}
+use Rattle.std.proofs.Common.{arith}
 use Rattle.design.proofs.Cutting.{loop_closed, loop_whole}
 use Rattle.design.proofs.segments.loop_end.Goals as goal
 use Rattle.design.proofs.segments.loop_end.Goals.{then-ahead-at, else-ahead-at}

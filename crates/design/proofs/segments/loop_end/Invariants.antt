@@ -1,4 +1,4 @@
-use Rattle.std.proofs.Common.{◌≡◌, ℕ, ◌-◌, ◌<◌, ◌≤◌, length}
+use Rattle.std.proofs.Common.{ℕ, ◌-◌, ◌<◌, ◌≤◌, length}
 use Rattle.design.specs.Segments.{past_of}
 use Rattle.design.proofs.segments.loop_end.Given as goal
 
