@@ -1,6 +1,7 @@
 mod Behind
 mod Built
 pub mod CallerLemmas
+mod Cutting
 mod Joined
 mod Numbers
 mod Ordered

@@ -13,5 +13,6 @@ pub mod Equations
 pub mod Pins
 pub mod Flow
 pub mod Walk
+pub mod Segments
 pub mod Build
 pub mod Faults

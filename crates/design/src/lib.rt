@@ -7,9 +7,11 @@ pub mod laws;
 mod order;
 mod plain;
 mod samples;
+mod segments;
 
 pub use design::Design;
 pub use fault::BuildFault;
 pub use order::flow_order;
 pub use plain::plain_waves;
 pub use samples::Timing;
+pub use segments::{Segment, segments_of};

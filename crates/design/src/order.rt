@@ -70,7 +70,7 @@ fn rank(part: Part) -> u8
 }
 
 /// Whether a part is a gate.
-fn is_gate(part: Part) -> bool
+pub(crate) fn is_gate(part: Part) -> bool
     ensures { result ≡ (rank part == 1) }
 {
     matches!(part, Part::Gate(_))

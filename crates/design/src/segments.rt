@@ -1,0 +1,145 @@
+//! The order of the nets, cut up into loops of gates and straight stretches.
+ghost use Rattle.std.specs.Prelude.{◌≡◌, ℕ, ◌+◌, ◌<◌, ◌≤◌, length, All, IfOk, true, false};
+ghost use Rattle.design.specs.Design.{IsDesign};
+ghost use Rattle.design.specs.Flow.{IsGate, Feeds};
+ghost use Rattle.design.specs.Segments.{past_of, IsAhead, IsCutUp, IsLoop, IsPast, IsSegment, IsStraight};
+
+use crate::design::Design;
+use crate::order::is_gate;
+use std::alloc::{AllocError, Global};
+
+/// A segment of an order of nets: it begins where the one before it ends.
+#[derive(Clone, Copy, Debug, PartialEq, Eq)]
+pub struct Segment {
+    /// The place behind its last net.
+    pub end: usize,
+    /// Whether it is a loop of gates; else none of its gates stands at or before a gate at its pins.
+    pub loops: bool,
+}
+
+/// The segments of an order of nets, end to end: loops of gates and the straight stretches between them.
+///
+/// A loop is a stretch in which values flow back past each place, from a gate to one at or before it,
+/// and out of which no values flow back. Flip-flops make no loops, since they show what their pins
+/// showed at a sample.
+///
+/// Takes time and memory in proportion to the nets and pins.
+///
+/// # Errors
+/// An `AllocError` where a growth was refused.
+pub fn segments_of(
+    alloc: Global,
+    design: &Design,
+    order: &[u32],
+) -> Result<Vec<Segment>, AllocError>
+    requires { All (λ net. net < length design.now.circuit) order.now }
+    ensures { IfOk result (λ segments. IsCutUp design.now.circuit order.now segments.items) }
+{
+    let ahead = gates_ahead(alloc, design, order)?;
+    let mut segments = Vec::new(alloc);
+    let mut begin = 0;
+    while begin < ahead.len() {
+        let segment = segment_at(ahead.as_slice(), begin);
+        segments.push(segment)?;
+        begin = segment.end;
+    }
+    Ok(segments)
+}
+
+/// For each net one past its last place, 0 where it has none.
+fn places_past(alloc: Global, design: &Design, order: &[u32]) -> Result<Vec<usize>, AllocError>
+    requires { All (λ net. net < length design.now.circuit) order.now }
+    ensures size { IfOk result (λ past. length past.items ≡ length design.now.circuit) }
+    ensures past { IfOk result (λ past. IsPast order.now (length order.now) past.items) }
+{
+    let mut past = vec![in alloc; 0; design.nets() as usize]?;
+    for place in 0..order.len() {
+        past[order[place] as usize] = place + 1;
+    }
+    Ok(past)
+}
+
+/// For each place one past the last place of a gate at the pins of the gate there, 0 where it has none.
+fn gates_ahead(alloc: Global, design: &Design, order: &[u32]) -> Result<Vec<usize>, AllocError>
+    requires { All (λ net. net < length design.now.circuit) order.now }
+    ensures { IfOk result (λ ahead. IsAhead design.now.circuit order.now (length order.now) ahead.items) }
+{
+    let past = places_past(alloc, design, order)?;
+    let mut ahead = Vec::new(alloc);
+    for net in order {
+        ahead.push(past_gates(design, *net, past.as_slice()))?;
+    }
+    Ok(ahead)
+}
+
+/// The greatest of what is told of the gates at the pins of a gate; 0 where there is none.
+fn past_gates(design: &Design, net: u32, past: &[usize]) -> usize
+    requires net { net < length design.now.circuit }
+    requires size { length past.now ≡ length design.now.circuit }
+    ensures each { (source : ℕ) → IsGate design.now.circuit source → Feeds design.now.circuit source net →
+        past_of past.now source ≤ result }
+    ensures there { 0 < result → (source : ℕ) × IsGate design.now.circuit source × Feeds design.now.circuit source net
+        × (past_of past.now source ≡ result) }
+{
+    let _ = design.nets();
+    if !is_gate(design.part(net)) {
+        return 0;
+    }
+    let mut last = 0;
+    let pins = design.pins_of(net);
+    for pin in pins {
+        if is_gate(design.part(*pin)) && past[*pin as usize] > last {
+            last = past[*pin as usize];
+        }
+    }
+    last
+}
+
+/// The segment that begins at a place.
+fn segment_at(ahead: &[usize], begin: usize) -> Segment
+    requires begin { begin < length ahead.now }
+    requires within { All (λ end. end ≤ length ahead.now) ahead.now }
+    ensures loops { result.loops ≡ true → (begin < past_of ahead.now begin) × IsLoop ahead.now begin result.end }
+    ensures straight { result.loops ≡ false → (begin < result.end) × IsStraight ahead.now begin result.end }
+{
+    if ahead[begin] > begin {
+        Segment {
+            end: loop_end(ahead, begin),
+            loops: true,
+        }
+    } else {
+        Segment {
+            end: straight_end(ahead, begin),
+            loops: false,
+        }
+    }
+}
+
+/// Where the loop that begins at a place ends.
+fn loop_end(ahead: &[usize], begin: usize) -> usize
+    requires begin { begin < length ahead.now }
+    requires within { All (λ end. end ≤ length ahead.now) ahead.now }
+    ensures { IsLoop ahead.now begin result }
+{
+    let mut at = begin;
+    let mut end = begin + 1;
+    while at < end {
+        if ahead[at] > end {
+            end = ahead[at];
+        }
+        at += 1;
+    }
+    end
+}
+
+/// Where the straight stretch that begins at a place ends.
+fn straight_end(ahead: &[usize], begin: usize) -> usize
+    requires { begin ≤ length ahead.now }
+    ensures { IsStraight ahead.now begin result }
+{
+    let mut end = begin;
+    while end < ahead.len() && ahead[end] <= end {
+        end += 1;
+    }
+    end
+}
