@@ -7,7 +7,7 @@ ghost use Rattle.runs.specs.Paces.{Suits};
 ghost use Rattle.runs.specs.declared.pace.Pace.TheVariants.{Rounds};
 
 use crate::simulation::RunKernel;
-use crate::windows::{FIRST_WIDTH, next_width, reach};
+use crate::windows::{FIRST_WIDTH, most_told, next_width, reach};
 use cmb_kernel::KernelFault;
 use design::{Design, flow_order};
 use std::alloc::{AllocError, Global};
@@ -27,6 +27,8 @@ pub(crate) enum Pace {
 pub(crate) struct Sweeps {
     order: Vec<u32>,
     end: u64,
+    // The most changes that a sweep should tell.
+    most: u64,
     // The width of the next window, in ticks.
     width: u64,
 }
@@ -43,6 +45,7 @@ impl Pace {
         Ok(Pace::Sweeps(Sweeps {
             order: flow_order(alloc, design)?,
             end: horizon.ticks() + 1,
+            most: most_told(design.nets()),
             width: FIRST_WIDTH,
         }))
     }
@@ -92,7 +95,7 @@ impl Sweeps {
         ensures floors { OnOk result
             ((net : ℕ) → floor_at kernel.new.state net ≡ floor_at kernel.old.state net) }
         ensures width { OnOk result (self.new ≡ record self.old {
-          width = next_width self.old.width (kernel.new.state.counts.changes - kernel.old.state.counts.changes);
+          width = next_width self.old.width (kernel.new.state.counts.changes - kernel.old.state.counts.changes) self.old.most;
         }) }
         ensures sound { OnOk result (IsSound kernel.new.circuit kernel.new.end kernel.new.state) }
         ensures err { IfErr result (λ fault. fault ≡ KernelFault.Memory) }
@@ -101,7 +104,7 @@ impl Sweeps {
         let tick = reach(kernel.least_frontier(), self.width, self.end);
         kernel.sweep(self.order.as_slice(), tick)?;
         let told = kernel.counts().changes.saturating_sub(before);
-        self.width = next_width(self.width, told);
+        self.width = next_width(self.width, told, self.most);
         Ok(())
     }
 }
