@@ -29,10 +29,10 @@ impl Packed {
     {
         let (tick, code) = match message {
             Message::Change(change) => (change.tick, code_of(change.value)),
-            Message::Null(bound) => (bound, 3),
+            Message::Null(bound) => (bound as u32, 3),
         };
         Packed {
-            number: tick as u32 * 4 + code,
+            number: tick * 4 + code,
         }
     }
 
@@ -40,12 +40,12 @@ impl Packed {
     pub fn message(&self) -> Message
         ensures { result ≡ self.now }
     {
-        let tick = u64::from(self.number / 4);
+        let tick = self.number / 4;
         let value = match self.number % 4 {
             0 => Value::Zero,
             1 => Value::One,
             2 => Value::Unknown,
-            _ => return Message::Null(tick),
+            _ => return Message::Null(u64::from(tick)),
         };
         Message::Change(Change { tick, value })
     }

@@ -2,12 +2,13 @@
 //!
 //! It is the second opinion on any other engine, so it does nothing clever: an earlier value is
 //! looked up in the waveforms so far, and nothing else is kept.
-ghost use Rattle.std.specs.Prelude.{◌≡◌, ℕ, ◌+◌, ◌<◌, if◌then◌else◌, List, [], ◌∷◌, length, map, slice_get, All, IfOk, OnOk};
+ghost use Rattle.std.specs.Prelude.{◌≡◌, ℕ, ◌+◌, ◌<◌, ◌≤◌, if◌then◌else◌, List, [], ◌∷◌, length, map, slice_get, All, IfOk, OnOk};
 ghost use Rattle.std.specs.Option.{option_map_or};
 ghost use Rattle.logic3.specs.declared.value.Value.TheVariants.{Unknown};
 ghost use Rattle.logic3.specs.Value.{is_same};
 ghost use Rattle.logic3.specs.Gate.{HasArity, value_of_gate};
 ghost use Rattle.logic3.specs.Wave.{last_value, joined};
+ghost use Rattle.timing_text.specs.Ranges.{most_ticks};
 ghost use Rattle.design.specs.Design.{IsDesign};
 ghost use Rattle.design.specs.Equations.{equation_at, signals_in, waves_of};
 
@@ -54,7 +55,8 @@ fn advance(
     waves: &mut [Waveform],
     values: &mut Vec<Value>,
 ) -> Result<(), AllocError>
-    requires { waves.old ≡ waves_of design.now.circuit tick }
+    requires tick { tick ≤ most_ticks }
+    requires waves { waves.old ≡ waves_of design.now.circuit tick }
     ensures { OnOk result (waves.new ≡ waves_of design.now.circuit (tick + 1)) }
 {
     for net in 0..design.nets() {
@@ -66,12 +68,13 @@ fn advance(
 
 /// Carries a waveform one tick on: with a change where the value isn't the last one.
 fn extend(wave: &mut Waveform, tick: u64, value: Value) -> Result<(), AllocError>
-    requires { All (λ (earlier : Change). earlier.tick < tick) wave.old.changes }
+    requires tick { tick ≤ most_ticks }
+    requires later { All (λ (earlier : Change). earlier.tick < tick) wave.old.changes }
     ensures { OnOk result (wave.new ≡ joined wave.old
         (if is_same value (last_value wave.old) then [] else record { tick = tick; value = value } ∷ [])) }
 {
     if value != wave.last_value() {
-        wave.push(Change { tick, value })?;
+        wave.push(Change { tick: tick as u32, value })?;
     }
     Ok(())
 }

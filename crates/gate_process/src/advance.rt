@@ -78,7 +78,7 @@ fn walk(
         let look = net.look(read, tick, to, &mut values)?;
         if look.value != wave.last_value() {
             let change = Change {
-                tick,
+                tick: tick as u32,
                 value: look.value,
             };
             wave.push(change)?;

@@ -19,7 +19,7 @@ pub fn due_changes(changes: &[Change], tick: u64) -> usize
 {
     changes
         .iter()
-        .take_while(|change| change.tick <= tick)
+        .take_while(|change| u64::from(change.tick) <= tick)
         .count()
 }
 
@@ -30,6 +30,6 @@ pub fn early_changes(changes: &[Change], tick: u64) -> usize
 {
     changes
         .iter()
-        .take_while(|change| change.tick < tick)
+        .take_while(|change| u64::from(change.tick) < tick)
         .count()
 }

@@ -78,7 +78,7 @@ impl<'c> Cursor<'c> {
         ensures steady { (t : ℕ) → t < result → value_at self.now t ≡ self.now.before }
     {
         match self.later.first() {
-            Some(change) => limit.min(change.tick),
+            Some(change) => limit.min(u64::from(change.tick)),
             None => limit,
         }
     }

@@ -64,7 +64,7 @@ impl Received {
         match message {
             Message::Change(change) => {
                 self.changes.push(change)?;
-                self.frontier = change.tick + 1;
+                self.frontier = u64::from(change.tick) + 1;
             }
             Message::Null(bound) => self.frontier = bound,
         }

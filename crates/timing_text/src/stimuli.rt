@@ -65,7 +65,7 @@ fn no_changes(alloc: Global, nets: u32) -> Result<Vec<Vec<Change>>, AllocError>
 }
 
 /// Whether the tick is above that of the last change.
-fn is_after(tick: u64, changes: &[Change]) -> bool
+fn is_after(tick: u32, changes: &[Change]) -> bool
     ensures { result
         ≡ option_map_or (λ (last : Change). nat_lt last.tick tick) (slice_get changes.now (length changes.now - 1)) true }
 {
@@ -96,7 +96,7 @@ fn net_change(netlist: &Netlist, line: u64, code: &[u8]) -> Result<NetChange, St
     };
     Ok(NetChange {
         net,
-        change: Change { tick, value },
+        change: Change { tick: tick as u32, value },
     })
 }
 

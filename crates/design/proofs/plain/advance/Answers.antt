@@ -15,8 +15,8 @@ pub bounds-waves-net : goal.bounds-waves-net
 bounds-waves-net c =
     let all = ap length c.loop-net.invariant ∙ length-ahead_at c.args.design.now.circuit c.args.tick c.loop-net.net in omega arith
 
-pub extend-requires : goal.extend-requires
-extend-requires c =
+pub extend-requires-clause-later : goal.extend-requires-clause-later
+extend-requires-clause-later c =
     let circuit = c.args.design.now.circuit in
     let here = ap (λ waves. get_or waves c.loop-net.net c.index-waves-net.result) c.loop-net.invariant
     ∙ get_or-ahead_at circuit c.args.tick c.loop-net.net c.index-waves-net.result (omega arith) in
