@@ -2,5 +2,5 @@
 pub use Rattle.vcd_dump.proofs.BytesLemmas.{AppendsPrefix-after, AppendsPrefix-longer, OnErr-always}
 pub use Rattle.vcd_dump.proofs.ShownValues.{shown_value-dump_text}
 pub use Rattle.vcd_dump.proofs.Signals.{span_text-more}
-pub use Rattle.vcd_dump.proofs.Streams.{stream_at-begun, stream_at-can, stream_at-spanned}
+pub use Rattle.vcd_dump.proofs.Streams.{with_parts-none, with_parts-more, with_parts-can, stream_at-begun, stream_at-can, stream_at-spanned}
 pub use Rattle.vcd_dump.proofs.Wholes.{dump_text-nets}

@@ -14,6 +14,7 @@ use Rattle.vcd_dump.specs.Dump.{Trace, variable_at, variables_of, declaration, d
 use Rattle.vcd_dump.specs.Traces.{EndsBy, name_of, traces, named}
 use Rattle.vcd_dump.specs.Spans.{span_lines, span_text, latest, IsPart, parts_of, shown_signals, whole_text}
 use Rattle.vcd_dump.specs.Written.{InOrder}
+use Rattle.vcd_dump.proofs.Gathered.{OfSpan-parts}
 use Rattle.vcd_dump.proofs.Stepped.{Stepped, Stepped-in_order}
 use Rattle.vcd_dump.proofs.Streams.{IsPart-parts_of}
 use Rattle.vcd_dump.proofs.Wholes.{dump_text-whole}
@@ -99,9 +100,10 @@ dump_text-waves unit horizon circuit shown waves same are =
 
 -- their lines in order
 pub Stepped-waves : (nets horizon : ℕ) (waves : List Wave) (sorted : List Line) → nets ≡ length waves → AreShown horizon waves →
-    InOrder (span_lines 0 (changes_of waves)) sorted → Stepped nets 0 0 (horizon + 1) (changes_of waves) sorted
+    InOrder (span_lines 0 (changes_of waves)) sorted → Stepped nets 0 0 (horizon + 1) (span_lines 0 (changes_of waves)) sorted
 Stepped-waves nets horizon waves sorted count are order =
     let parts = changes_of-is horizon waves are in
-    Stepped-in_order nets 0 0 (horizon + 1) (changes_of waves) sorted order
-    (subst (All (IsPart 0 (horizon + 1))) (sym parts) (IsPart-parts_of (map value_at waves) 0 (horizon + 1)))
-    (length-map waves (λ (wave : Wave). wave.changes) ∙ sym count) (omega arith) (omega arith)
+    Stepped-in_order nets 0 0 (horizon + 1) (span_lines 0 (changes_of waves)) sorted order
+    (OfSpan-parts nets 0 (horizon + 1) (changes_of waves) (omega arith)
+    (length-map waves (λ (wave : Wave). wave.changes) ∙ sym count)
+    (subst (All (IsPart 0 (horizon + 1))) (sym parts) (IsPart-parts_of (map value_at waves) 0 (horizon + 1)))) (omega arith) (omega arith)

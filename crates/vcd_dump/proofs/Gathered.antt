@@ -1,5 +1,5 @@
 -- The lines of a span, gathered net after net.
-use Rattle.std.proofs.Common.{◌≡◌, ℕ, suc, ◌+◌, ◌<◌, ◌≤◌, ◌==◌, Bool, true, false, cond, List, [], ◌∷◌, ◌++◌, length, map, flat_map, All, refl, ap, ◌∙◌, arith, length-append}
+use Rattle.std.proofs.Common.{◌≡◌, ℕ, suc, ◌+◌, ◌<◌, ◌≤◌, ◌==◌, Bool, true, false, cond, List, [], ◌∷◌, ◌++◌, length, map, flat_map, All, refl, ap, sym, ◌∙◌, arith, append_assoc, append-nil, length-append}
 use Rattle.std.specs.List.{AllByRecursion, enumerate_from}
 use Rattle.std.proofs.lemmas.Bool.Decides.{nat_tests}
 use Rattle.std.proofs.lemmas.List.Elements.{filter-append, recursion_from_All}
@@ -132,9 +132,9 @@ AllByRecursion-map P Q [] f all = tt
 AllByRecursion-map P Q (x ∷ xs) f all = (f x all.0, AllByRecursion-map P Q xs f all.1)
 
 -- their lines are those of the span
-pub OfSpan-parts : (from to : ℕ) (parts : List (List Change)) → from < to → All (IsPart from to) parts →
-    OfSpan (length parts) from to (span_lines from parts)
-OfSpan-parts from to parts ahead proper =
+pub OfSpan-parts : (nets from to : ℕ) (parts : List (List Change)) → from < to → length parts ≡ nets → All (IsPart from to) parts →
+    OfSpan nets from to (span_lines from parts)
+OfSpan-parts nets from to parts ahead many proper =
     let each = recursion_from_All (IsPart from to) parts proper in
     record {
       low = EachLine-span_lines (λ tick. from ≤ tick) from parts (λ e. omega arith)
@@ -143,5 +143,27 @@ OfSpan-parts from to parts ahead proper =
       high = EachLine-span_lines (λ tick. tick < to) from parts (λ e. omega arith)
           (AllByRecursion-map (IsPart from to) (EachTick (λ tick. tick < to)) parts
           (λ part is. recursion_from_All (λ (change : Change). change.tick < to) part is.high) each);
-      count = λ e. rw e (each_at_zero 0 parts (AllByRecursion-map (IsPart from to) TicksRise parts (λ part is. is.rises) each));
+      count = λ e. rw e (each_at_zero 0 parts (AllByRecursion-map (IsPart from to) TicksRise parts (λ part is. is.rises) each) ∙ many);
     }
+
+-- ---- one part more
+
+lines_more : (from place : ℕ) (parts : List (List Change)) (part : List Change) →
+    flat_map (lines_of from) (enumerate_from place (parts ++ part ∷ []))
+    ≡ flat_map (lines_of from) (enumerate_from place parts) ++ lines_of from (place + length parts, part)
+lines_more from place [] part =
+    let here : place ≡ place + 0 = omega arith in
+    append-nil (lines_of from (place, part)) ∙ ap (λ p. lines_of from (p, part)) here
+lines_more from place (first ∷ parts) part =
+    let along : place + 1 + length parts ≡ place + suc (length parts) = omega arith in
+    ap (λ ls. lines_of from (place, first) ++ ls) (lines_more from (place + 1) parts part)
+    ∙ sym (append_assoc (lines_of from (place, first)) (flat_map (lines_of from) (enumerate_from (place + 1) parts))
+    (lines_of from (place + 1 + length parts, part)))
+    ∙ ap (λ p. (lines_of from (place, first) ++ flat_map (lines_of from) (enumerate_from (place + 1) parts)) ++ lines_of from (p, part)) along
+
+-- its lines stand behind those of the others
+pub span_lines-more : (from : ℕ) (parts : List (List Change)) (part : List Change) →
+    span_lines from (parts ++ part ∷ []) ≡ span_lines from parts ++ lines_of from (length parts, part)
+span_lines-more from parts part =
+    let here : 0 + length parts ≡ length parts = omega arith in
+    lines_more from 0 parts part ∙ ap (λ p. span_lines from parts ++ lines_of from (p, part)) here

@@ -1,5 +1,5 @@
 -- A stream of signals goes on as they do.
-use Rattle.std.proofs.Common.{◌≡◌, ℕ, ◌+◌, ◌<◌, ◌≤◌, false, List, [], ◌∷◌, length, All, get_or, subst, sym, arith}
+use Rattle.std.proofs.Common.{◌≡◌, ℕ, ◌+◌, ◌<◌, ◌≤◌, false, List, [], ◌∷◌, ◌++◌, length, length-append, All, get_or, subst, sym, arith}
 use Rattle.std.specs.List.{AllByRecursion}
 use Rattle.std.proofs.lemmas.List.Elements.{All-from_recursion, recursion_from_All, All-contains_itself}
 use Rattle.std.proofs.lemmas.List.{length-map}
@@ -8,8 +8,8 @@ use Rattle.logic3.specs.declared.change.Change.{Change}
 use Rattle.logic3.specs.Wave.{value_before, changes_between}
 use Rattle.logic3.proofs.CallerLemmas.{All-wave_of, AllPairs-Alternates, Contains-wave_of_iff, IsWave-wave_of, changes_between-split}
 use Rattle.vcd_dump.specs.declared.line.Line.{Line}
-use Rattle.vcd_dump.specs.Spans.{begun, span_lines, latest, spanned, IsPart, CanSpan, parts_of, stream_at}
-use Rattle.vcd_dump.proofs.Gathered.{EachTick, EachLine, EachLine-span_lines, EachTick-span_lines, AllByRecursion-append, AllByRecursion-both, AllByRecursion-map}
+use Rattle.vcd_dump.specs.Spans.{StreamView, begun, with_part, with_parts, span_lines, latest, spanned, IsPart, CanSpan, parts_of, stream_at}
+use Rattle.vcd_dump.proofs.Gathered.{EachTick, EachLine, OfSpan-parts, span_lines-more, EachLine-span_lines, EachTick-span_lines, AllByRecursion-append, AllByRecursion-both, AllByRecursion-map}
 use Rattle.vcd_dump.proofs.Ordered.{latest-bounds, latest-least}
 
 -- ---- the latest time
@@ -62,6 +62,48 @@ latest-more signals from to h = omega (arith, low, high)
         (each_joined P signals from to h (EachTick-span_lines P 0 (parts_of signals 0 from) earlier.1)
         (EachTick-span_lines P from (parts_of signals from to) later.1)))
 
+-- ---- what a stream was given
+
+-- nothing yet
+pub with_parts-none : (stream : StreamView) → stream.given ≡ 0 → stream.lines ≡ [] → with_parts stream [] ≡ stream
+with_parts-none stream none empty = λ i. record {
+  nets = stream.nets;
+  horizon = stream.horizon;
+  written = stream.written;
+  time = stream.time;
+  given = sym none i;
+  lines = sym empty i;
+  failed = stream.failed;
+}
+
+-- the changes of one net more
+pub with_parts-more : (stream : StreamView) (parts : List (List Change)) (part : List Change) → stream.failed ≡ false →
+    with_part (with_parts stream parts) part ≡ with_parts stream (parts ++ part ∷ [])
+with_parts-more stream parts part running = λ i. record {
+  nets = stream.nets;
+  horizon = stream.horizon;
+  written = stream.written;
+  time = stream.time;
+  given = sym (length-append parts (part ∷ [])) i;
+  lines = sym (span_lines-more stream.written parts part) i;
+  failed = sym running i;
+}
+
+-- by those of each net it can go on
+pub with_parts-can : (stream : StreamView) (upto : ℕ) (parts : List (List Change)) → stream.written < upto → upto ≤ stream.horizon + 1 →
+    length parts ≡ stream.nets → All (IsPart stream.written upto) parts → CanSpan (with_parts stream parts) upto
+with_parts-can stream upto parts ahead within each proper =
+    let of_span = OfSpan-parts stream.nets stream.written upto parts ahead each proper in
+    let lines = span_lines stream.written parts in
+    record {
+      ahead = ahead;
+      within = within;
+      each = each;
+      values = of_span.count;
+      low = All-from_recursion (λ (line : Line). stream.written ≤ line.tick) lines of_span.low;
+      high = All-from_recursion (λ (line : Line). line.tick < upto) lines of_span.high;
+    }
+
 -- ---- streams
 
 none_yet : (P : ℕ → Type 0) (signals : List (ℕ → Value)) → AllByRecursion (EachTick P) (parts_of signals 0 0)
@@ -75,6 +117,8 @@ stream_at-begun signals horizon = λ i. record {
   horizon = horizon;
   written = 0;
   time = start i;
+  given = 0;
+  lines = [];
   failed = false;
 }
   where
@@ -86,12 +130,14 @@ stream_at-begun signals horizon = λ i. record {
 
 -- after a span
 pub stream_at-spanned : (signals : List (ℕ → Value)) (horizon from to : ℕ) → from ≤ to →
-    spanned (stream_at signals horizon from) to (parts_of signals from to) ≡ stream_at signals horizon to
+    spanned (with_parts (stream_at signals horizon from) (parts_of signals from to)) to ≡ stream_at signals horizon to
 stream_at-spanned signals horizon from to h = λ i. record {
   nets = length signals;
   horizon = horizon;
   written = to;
   time = latest-more signals from to h i;
+  given = 0;
+  lines = [];
   failed = false;
 }
 
@@ -114,13 +160,10 @@ IsPart-parts_of signals from to = All-from_recursion (IsPart from to) (parts_of 
 
 -- it can go on
 pub stream_at-can : (signals : List (ℕ → Value)) (horizon from to : ℕ) → from < to → to ≤ horizon + 1 →
-    CanSpan (stream_at signals horizon from) to (parts_of signals from to)
-stream_at-can signals horizon from to ahead within = record {
-  ahead = ahead;
-  within = within;
-  each = length-map signals (λ signal. changes_between signal from to);
-  proper = IsPart-parts_of signals from to;
-}
+    CanSpan (with_parts (stream_at signals horizon from) (parts_of signals from to)) to
+stream_at-can signals horizon from to ahead within =
+    with_parts-can (stream_at signals horizon from) to (parts_of signals from to) ahead within
+    (length-map signals (λ signal. changes_between signal from to)) (IsPart-parts_of signals from to)
 
 -- ---- the latest time of all
 

@@ -57,36 +57,77 @@ abbrev pub tick_text : List Line → ℕ → List ℕ
 tick_text lines tick =
     if tick == 0 then zero_text (flat_map line_text (at_tick lines tick)) else later_text tick (at_tick lines tick)
 
--- the text of a span: of the ticks from one up to but not including another
+-- the text of the ticks from one up to but not including another, of these lines
+abbrev pub lines_text : ℕ → ℕ → List Line → List ℕ
+lines_text from to lines = flat_map (tick_text lines) (range_with_len from (to - from))
+
+-- the text of a span: that of the lines of its changes
 abbrev pub span_text : ℕ → ℕ → List (List Change) → List ℕ
-span_text from to parts = flat_map (tick_text (span_lines from parts)) (range_with_len from (to - from))
+span_text from to parts = lines_text from to (span_lines from parts)
 
 -- ---- streams
 
--- what a stream has written: how many nets it shows, its last tick, the ticks that went out, and the last time line
+-- what a stream has written: how many nets it shows, its last tick, the ticks that went out, and the last time line;
+-- and what it was given since: the changes of how many nets, and their lines, net after net
 pub record StreamView : Type 0 where
   pub nets : ℕ
   pub horizon : ℕ
   pub written : ℕ
   pub time : ℕ
+  pub given : ℕ
+  pub lines : List Line
   pub failed : Bool
 
 -- a stream that has written the declarations
 abbrev pub begun : ℕ → ℕ → StreamView
-begun nets horizon = record { nets = nets; horizon = horizon; written = 0; time = 0; failed = false }
+begun nets horizon = record {
+  nets = nets;
+  horizon = horizon;
+  written = 0;
+  time = 0;
+  given = 0;
+  lines = [];
+  failed = false;
+}
+
+-- a stream that was given the changes of the next net at the ticks that it hasn't written yet
+abbrev pub with_part : StreamView → List Change → StreamView
+with_part stream part = record {
+  nets = stream.nets;
+  horizon = stream.horizon;
+  written = stream.written;
+  time = stream.time;
+  given = stream.given + 1;
+  lines = stream.lines ++ lines_of stream.written (stream.given, part);
+  failed = false;
+}
+
+-- a stream that was given the changes of these nets alone, the first ones
+abbrev pub with_parts : StreamView → List (List Change) → StreamView
+with_parts stream parts = record {
+  nets = stream.nets;
+  horizon = stream.horizon;
+  written = stream.written;
+  time = stream.time;
+  given = length parts;
+  lines = span_lines stream.written parts;
+  failed = stream.failed;
+}
 
 -- the latest of a time and the times of lines
 abbrev pub latest : ℕ → List Line → ℕ
 latest time [] = time
 latest time (line ∷ lines) = latest (max time line.tick) lines
 
--- a stream after a span up to but not including a tick
-abbrev pub spanned : StreamView → ℕ → List (List Change) → StreamView
-spanned stream upto parts = record {
+-- a stream after a span up to but not including a tick, of the lines that it was given
+abbrev pub spanned : StreamView → ℕ → StreamView
+spanned stream upto = record {
   nets = stream.nets;
   horizon = stream.horizon;
   written = upto;
-  time = latest stream.time (span_lines stream.written parts);
+  time = latest stream.time stream.lines;
+  given = 0;
+  lines = [];
   failed = false;
 }
 
@@ -100,12 +141,15 @@ pub record IsPart (from to : ℕ) (part : List Change) : Type 0 where
   pub low : All (λ (change : Change). from ≤ change.tick) part
   pub high : All (λ (change : Change). change.tick < to) part
 
--- a stream can go on up to but not including a tick, by the changes of each net since it was written
-pub record CanSpan (stream : StreamView) (upto : ℕ) (parts : List (List Change)) : Type 0 where
+-- a stream can go on up to but not including a tick: it was given the changes of each net, of which each shows a value
+-- at tick 0, and all of them are at the ticks of the span
+pub record CanSpan (stream : StreamView) (upto : ℕ) : Type 0 where
   pub ahead : stream.written < upto
   pub within : upto ≤ stream.horizon + 1
-  pub each : length parts ≡ stream.nets
-  pub proper : All (IsPart stream.written upto) parts
+  pub each : stream.given ≡ stream.nets
+  pub values : stream.written ≡ 0 → length (at_tick stream.lines 0) ≡ stream.nets
+  pub low : All (λ (line : Line). stream.written ≤ line.tick) stream.lines
+  pub high : All (λ (line : Line). line.tick < upto) stream.lines
 
 -- ---- spans of signals
 
@@ -120,6 +164,8 @@ stream_at signals horizon to = record {
   horizon = horizon;
   written = to;
   time = latest 0 (span_lines 0 (parts_of signals 0 to));
+  given = 0;
+  lines = [];
   failed = false;
 }
 

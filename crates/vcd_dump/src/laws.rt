@@ -1,11 +1,12 @@
 //! Facts about the definitions alone.
-ghost use Rattle.std.specs.Prelude.{◌≡◌, ◌≢◌, ℕ, ◌+◌, ◌<◌, ◌≤◌, ◌^◌, List, ◌∷◌, ◌++◌, length, flat_map, All, Contains};
+ghost use Rattle.std.specs.Prelude.{◌≡◌, ◌≢◌, ℕ, ◌+◌, ◌<◌, ◌≤◌, ◌^◌, false, List, [], ◌∷◌, ◌++◌, length, flat_map, All, Contains};
 ghost use Rattle.logic3.specs.declared.value.Value.{Value};
+ghost use Rattle.logic3.specs.declared.change.Change.{Change};
 ghost use Rattle.text_lines.specs.Text.{lines_of, words_of};
 ghost use Rattle.vcd_dump.specs.declared.unit.TimeUnit.{TimeUnit};
 ghost use Rattle.vcd_dump.specs.Codes.{code_at};
 ghost use Rattle.vcd_dump.specs.Dump.{dump_keywords, Trace, variables_of, declarations, dump_text};
-ghost use Rattle.vcd_dump.specs.Spans.{begun, spanned, span_text, CanSpan, parts_of, stream_at, shown_signals, whole_text};
+ghost use Rattle.vcd_dump.specs.Spans.{StreamView, begun, with_part, with_parts, spanned, span_text, IsPart, CanSpan, parts_of, stream_at, shown_signals, whole_text};
 ghost use Rattle.vcd_dump.specs.Shown.{dump_tokens, IsReadable, Shows};
 
 /// The identifier codes of distinct places differ.
@@ -33,15 +34,27 @@ pub fn shown()
         All (Shows (dump_text unit horizon traces) horizon) traces }
 {}
 
+/// Changes that are given net after net are the stream's lines, and it can go on by those of each net
+/// at the ticks of a span.
+pub fn parts_are_given()
+    ensures first { (stream : StreamView) → stream.given ≡ 0 → stream.lines ≡ [] → with_parts stream [] ≡ stream }
+    ensures next { (stream : StreamView) (parts : List (List Change)) (part : List Change) → stream.failed ≡ false →
+        with_part (with_parts stream parts) part ≡ with_parts stream (parts ++ part ∷ []) }
+    ensures can { (stream : StreamView) (upto : ℕ) (parts : List (List Change)) →
+        stream.written < upto → upto ≤ stream.horizon + 1 → length parts ≡ stream.nets →
+        All (IsPart stream.written upto) parts → CanSpan (with_parts stream parts) upto }
+{}
+
 /// What a stream writes of signals, span by span, is their dump: it begins, can go on from any tick to
 /// any later one up to the horizon, and has then written what one span would have.
 pub fn spans_make_the_dump()
     ensures begins { (signals : List (ℕ → Value)) (horizon : ℕ) →
         begun (length signals) horizon ≡ stream_at signals horizon 0 }
     ensures can { (signals : List (ℕ → Value)) (horizon from to : ℕ) → from < to → to ≤ horizon + 1 →
-        CanSpan (stream_at signals horizon from) to (parts_of signals from to) }
+        CanSpan (with_parts (stream_at signals horizon from) (parts_of signals from to)) to }
     ensures goes_on { (signals : List (ℕ → Value)) (horizon from to : ℕ) → from < to →
-        spanned (stream_at signals horizon from) to (parts_of signals from to) ≡ stream_at signals horizon to }
+        spanned (with_parts (stream_at signals horizon from) (parts_of signals from to)) to
+        ≡ stream_at signals horizon to }
     ensures text { (signals : List (ℕ → Value)) (from to : ℕ) → from ≤ to →
         span_text 0 from (parts_of signals 0 from) ++ span_text from to (parts_of signals from to)
         ≡ span_text 0 to (parts_of signals 0 to) }

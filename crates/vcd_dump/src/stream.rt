@@ -1,13 +1,13 @@
-ghost use Rattle.std.specs.Prelude.{◌≡◌, ◌≢◌, ◌+◌, ℕ, ◌<◌, length, map, true, false, Err, All, AllPairs, OnOk, OnErr, IfOk, IfErr};
+ghost use Rattle.std.specs.Prelude.{◌≡◌, ◌≢◌, ◌+◌, ℕ, ◌<◌, length, true, false, Err, All, AllPairs, OnOk, OnErr, IfOk, IfErr};
 ghost use Rattle.std.specs.Io.KnownBytes.{Appends, Keeps};
 ghost use Rattle.vcd_dump.specs.Bytes.{AppendsPrefix};
 ghost use Rattle.vcd_dump.specs.Dump.{declarations};
 ghost use Rattle.vcd_dump.specs.Traces.{named};
-ghost use Rattle.vcd_dump.specs.Spans.{begun, spanned, span_text, last_text, CanSpan};
+ghost use Rattle.vcd_dump.specs.Spans.{begun, with_part, spanned, lines_text, last_text, CanSpan};
 
 use crate::dumper::write_declarations;
 use crate::fault::DumpFault;
-use crate::line::{Line, gather_parts};
+use crate::line::{Line, gather, sort_lines};
 use crate::unit::TimeUnit;
 use crate::writer::{write_last_time, write_span};
 use design::Design;
@@ -17,8 +17,8 @@ use std::io::Write;
 use std::marker::Model;
 use timing_text::Horizon;
 
-/// A dump that is written a span of ticks at a time: [`begin`](Self::begin), a
-/// [`span`](Self::span) for each of them, and [`finish`](Self::finish).
+/// A dump that is written a span of ticks at a time: [`begin`](Self::begin), for each span a
+/// [`part`](Self::part) of each shown net and a [`span`](Self::span), and [`finish`](Self::finish).
 ///
 /// Text goes out in pieces of some 64 KiB, and at the end of each call. A call that answers a fault
 /// wrote a prefix of its text; the stream has failed then, writes nothing more, and answers
@@ -30,8 +30,10 @@ pub struct Stream {
     written: u64,
     // The time of the last time line.
     time: u64,
-    failed: bool,
+    // The nets whose changes were given since, and their lines.
+    given: usize,
     lines: Vec<Line>,
+    failed: bool,
     text: Vec<u8>,
 }
 
@@ -46,6 +48,8 @@ impl Model for Stream {
       horizon = s.horizon;
       written = s.written;
       time = s.time;
+      given = s.given;
+      lines = s.lines.items;
       failed = s.failed;
     } };
 
@@ -81,8 +85,9 @@ impl Stream {
             horizon: horizon.ticks(),
             written: 0,
             time: 0,
-            failed: false,
+            given: 0,
             lines: Vec::new(alloc),
+            failed: false,
             text,
         })
     }
@@ -94,25 +99,43 @@ impl Stream {
         self.written
     }
 
-    /// Writes the lines of the ticks up to but not including one, from the changes of each net at the
-    /// ticks that weren't written yet.
+    /// Gives the changes of the next shown net at the ticks that weren't written yet, those of the
+    /// next span alone. Nothing is written.
     ///
-    /// It takes time for the changes and one look at each net, and none for ticks at which nothing happens.
+    /// # Errors
+    /// [`DumpFault::Failed`] where the stream has failed, else [`DumpFault::Memory`]; the stream has
+    /// failed then.
+    pub fn part(&mut self, changes: &[Change]) -> Result<(), DumpFault>
+        requires { self.old.failed ≡ false → self.old.given < self.old.nets }
+        ensures stream { OnOk result (self.new ≡ with_part self.old changes.now) }
+        ensures fails { OnErr result (self.new.failed ≡ true) }
+        ensures failed { self.old.failed ≡ true → result ≡ Err DumpFault.Failed }
+        ensures fault { self.old.failed ≡ false → IfErr result (λ fault. fault ≡ DumpFault.Memory) }
+    {
+        if self.failed {
+            return Err(DumpFault::Failed);
+        }
+        self.failed = true;
+        gather(&mut self.lines, self.written, self.given, changes)?;
+        self.given += 1;
+        self.failed = false;
+        Ok(())
+    }
+
+    /// Writes the lines of the ticks up to but not including one, from the changes that were given, of
+    /// each shown net.
+    ///
+    /// It takes time for the changes, and none for ticks at which nothing happens.
     ///
     /// # Errors
     /// [`DumpFault::Failed`] where the stream has failed, else as [`begin`](Self::begin).
-    pub fn span<W: Write>(
-        &mut self,
-        out: &mut W,
-        upto: u64,
-        parts: &[Vec<Change>],
-    ) -> Result<(), DumpFault>
-        requires { self.old.failed ≡ false → CanSpan self.old upto (map (λ part. part.items) parts.now) }
-        ensures stream { OnOk result (self.new ≡ spanned self.old upto (map (λ part. part.items) parts.now)) }
+    pub fn span<W: Write>(&mut self, out: &mut W, upto: u64) -> Result<(), DumpFault>
+        requires { self.old.failed ≡ false → CanSpan self.old upto }
+        ensures stream { OnOk result (self.new ≡ spanned self.old upto) }
         ensures ok { OnOk result (Appends (W.contents out.old) (W.contents out.new)
-            (span_text self.old.written upto (map (λ part. part.items) parts.now))) }
+            (lines_text self.old.written upto self.old.lines)) }
         ensures err { OnErr result (AppendsPrefix (W.contents out.old) (W.contents out.new)
-            (span_text self.old.written upto (map (λ part. part.items) parts.now))) }
+            (lines_text self.old.written upto self.old.lines)) }
         ensures fails { OnErr result (self.new.failed ≡ true) }
         ensures failed { self.old.failed ≡ true →
             (result ≡ Err DumpFault.Failed) × Keeps (W.contents out.old) (W.contents out.new) }
@@ -122,7 +145,7 @@ impl Stream {
             return Err(DumpFault::Failed);
         }
         self.failed = true;
-        gather_parts(&mut self.lines, self.written, parts)?;
+        sort_lines(&mut self.lines)?;
         self.time = write_span(
             out,
             &mut self.text,
@@ -131,6 +154,8 @@ impl Stream {
             self.written,
             self.time,
         )?;
+        self.lines.clear();
+        self.given = 0;
         self.written = upto;
         self.failed = false;
         Ok(())

@@ -16,7 +16,7 @@ use Rattle.vcd_dump.proofs.dumper.dump.Goals as goal
 
 -- the lines in order
 stepped : (horizon : ℕ) (waves : List Wave) (lines sorted : List Line) → AreShown horizon waves → InOrder (span_lines 0 (changes_of waves)) lines →
-    sorted ≡ lines → Stepped (length waves) 0 0 (horizon + 1) (changes_of waves) sorted
+    sorted ≡ lines → Stepped (length waves) 0 0 (horizon + 1) (span_lines 0 (changes_of waves)) sorted
 stepped horizon waves lines sorted are order is =
     Stepped-waves (length waves) horizon waves sorted refl are (subst (InOrder (span_lines 0 (changes_of waves))) (sym is) order)
 
