@@ -2,7 +2,7 @@
 use Rattle.std.proofs.Common.{◌≡◌, ℕ, zero, suc, ◌+◌, ◌<◌, ◌≤◌, min, nat_lt, Bool, true, false, cond, List, [], ◌∷◌, map, length, drop, Option, None, Some, slice_get, All, refl, ap, sym, subst, ◌∙◌, arith, ltb-false}
 use Rattle.std.specs.List.{range_with_len, Contains}
 use Rattle.std.specs.Option.{option_map_or}
-use Rattle.std.proofs.lemmas.List.Elements.{All-nil, All-head, All-tail}
+use Rattle.std.proofs.lemmas.List.Elements.{All-nil, All-cons, All-head, All-tail}
 use Rattle.std.proofs.lemmas.List.FromFn.{length-range_with_len, get_or-range_with_len}
 use Rattle.std.proofs.lemmas.Option.{slice_get_within}
 use Rattle.design.specs.Circuit.{Net, Circuit, IsCircuit, pin_count}
@@ -14,7 +14,7 @@ use Rattle.gate_process.proofs.CallerLemmas.{least-bound}
 use Rattle.cmb_events.specs.declared.event.Event.TheVariants.{Deliver, Advance}
 use Rattle.cmb_kernel.specs.State.{State, frontier_at, received_at, least_frontier, least_delay}
 use Rattle.cmb_kernel.specs.Step.{step}
-use Rattle.cmb_kernel.specs.Sweeps.{pin_numbers, taken_below, caught_up, all_caught_up, swept_net, swept, HoldsAll, EventsLead}
+use Rattle.cmb_kernel.specs.Sweeps.{pin_numbers, taken_below, caught_up, all_caught_up, swept_net, swept, AllKnow, HoldsAll, EventsLead}
 use Rattle.cmb_kernel.specs.Sound.{IsSound}
 use Rattle.cmb_kernel.proofs.Soundness.{get_below, net_at, step_sound}
 use Rattle.cmb_kernel.proofs.LeastFrontier.{join, at_pin, deliver_there, NetKnows, pin_knows, net_count, advances_farther, least_frontier-le, least_frontier_greatest}
@@ -109,14 +109,10 @@ sweep_sound circuit ok last tick order state sound exist =
 
 module _ (circuit : Circuit) (ok : IsCircuit circuit) (last : ℕ) where
   module _ (low tick : ℕ) (in_time : low ≤ tick) where
-    -- each net is known up to a tick
-    abbrev Reach : State → Type 0
-    Reach state = (number : ℕ) → number < length circuit → low ≤ frontier_at state number
-
     -- where no message waits
-    idle_knows : (state : State) → IsSound circuit last state → Reach state → (pin : ℕ) → pin < pin_count circuit →
+    idle_knows : (state : State) → IsSound circuit last state → AllKnow circuit low state → (pin : ℕ) → pin < pin_count circuit →
         at_pin state pin ≡ [] → low ≤ received_at state pin
-    idle_knows state sound reach pin exists empty =
+    idle_knows state sound all pin exists empty =
         let there = pin_is circuit pin exists in
         let nets = net_count circuit last state sound in
         let below = slice_get_within circuit (net_of_pin circuit pin) there.net there.at in
@@ -128,22 +124,22 @@ module _ (circuit : Circuit) (ok : IsCircuit circuit) (last : ℕ) where
         let within = there.within in
         let received = get_below (process.0).received (place_of_pin circuit pin) (omega (arith, long, pins, within)) in
         let known = pin_knows circuit last low state sound ok (net_of_pin circuit pin) (place_of_pin circuit pin)
-        (ap (at_pin state) there.number_is ∙ empty) reach process.0 received.0 process.1 received.1 in
+        (ap (at_pin state) there.number_is ∙ empty) all process.0 received.0 process.1 received.1 in
         let is = received_there circuit ok last state sound (net_of_pin circuit pin) (place_of_pin circuit pin) process.0 received.0 process.1 received.1 in
         subst (λ n. low ≤ received_at state n) there.number_is
         (let at_least : low ≤ received_at state (first_pin circuit (net_of_pin circuit pin) + place_of_pin circuit pin) = omega (arith, known, is) in at_least)
 
-    reach_on : {old new : State} → EventsLead circuit old new → IsSound circuit last old → Reach old → Reach new
-    reach_on {old} {new} lead sound reach = λ number below.
-        join low (frontier_at old number) (frontier_at new number) (reach number below) (lead_frontier circuit ok last lead sound number)
+    known_on : {old new : State} → EventsLead circuit old new → IsSound circuit last old → AllKnow circuit low old → AllKnow circuit low new
+    known_on {old} {new} lead sound all = λ number below.
+        join low (frontier_at old number) (frontier_at new number) (all number below) (lead_frontier circuit ok last lead sound number)
 
-    taking_knows : (pin : ℕ) → pin < pin_count circuit → (messages : List Message) (state : State) → IsSound circuit last state → Reach state →
+    taking_knows : (pin : ℕ) → pin < pin_count circuit → (messages : List Message) (state : State) → IsSound circuit last state → AllKnow circuit low state →
         at_pin state pin ≡ messages → low ≤ received_at (taken_below tick pin state messages) pin
-    taking_knows pin exists [] state sound reach waiting = idle_knows state sound reach pin exists waiting
-    taking_knows pin exists (message ∷ messages) state sound reach waiting =
+    taking_knows pin exists [] state sound all waiting = idle_knows state sound all pin exists waiting
+    taking_knows pin exists (message ∷ messages) state sound all waiting =
         go (nat_lt (received_at state pin) tick) refl
         (taking_knows pin exists messages (step state (Deliver pin)) (step_sound circuit ok last state (Deliver pin) sound exists)
-        (reach_on (event_leads circuit state (Deliver pin) exists) sound reach)
+        (known_on (event_leads circuit state (Deliver pin) exists) sound all)
         (deliver_there state pin (let l = sound.lists in omega (arith, l, exists)) ∙ ap (λ ms. drop 1 ms) waiting))
       where
         go : (early : Bool) → nat_lt (received_at state pin) tick ≡ early →
@@ -152,20 +148,20 @@ module _ (circuit : Circuit) (ok : IsCircuit circuit) (last : ℕ) where
         go true e later = later
         go false e later = let enough = ltb-false (received_at state pin) tick e in omega (arith, enough, in_time)
 
-    all_catching_up_knows : (pins : List ℕ) (state : State) → IsSound circuit last state → Reach state →
+    all_catching_up_knows : (pins : List ℕ) (state : State) → IsSound circuit last state → AllKnow circuit low state →
         All (λ pin. pin < pin_count circuit) pins → (pin : ℕ) → Contains pins pin → low ≤ received_at (all_caught_up tick state pins) pin
-    all_catching_up_knows [] state sound reach exist pin (place, h, is) = absurd (omega (arith, h))
-    all_catching_up_knows (first ∷ pins) state sound reach exist pin (zero, h, is) =
+    all_catching_up_knows [] state sound all exist pin (place, h, is) = absurd (omega (arith, h))
+    all_catching_up_knows (first ∷ pins) state sound all exist pin (zero, h, is) =
         let there = All-head (λ pin. pin < pin_count circuit) first pins exist in
         let lead = catching_up_leads circuit tick state first there in
-        let now = taking_knows first there (at_pin state first) state sound reach refl in
+        let now = taking_knows first there (at_pin state first) state sound all refl in
         let later = lead_received circuit ok last
         (all_catching_up_leads circuit tick (caught_up tick state first) pins (All-tail (λ pin. pin < pin_count circuit) first pins exist))
         (lead_sound circuit ok last lead sound) first in
         subst (λ p. low ≤ received_at (all_caught_up tick (caught_up tick state first) pins) p) is (join low _ _ now later)
-    all_catching_up_knows (first ∷ pins) state sound reach exist pin (suc place, h, is) =
+    all_catching_up_knows (first ∷ pins) state sound all exist pin (suc place, h, is) =
         let lead = catching_up_leads circuit tick state first (All-head (λ pin. pin < pin_count circuit) first pins exist) in
-        all_catching_up_knows pins (caught_up tick state first) (lead_sound circuit ok last lead sound) (reach_on lead sound reach)
+        all_catching_up_knows pins (caught_up tick state first) (lead_sound circuit ok last lead sound) (known_on lead sound all)
         (All-tail (λ pin. pin < pin_count circuit) first pins exist) pin (place, omega (arith, h), is)
 
     net_knows : (state : State) → IsSound circuit last state → (number : ℕ) →
@@ -181,34 +177,37 @@ module _ (circuit : Circuit) (ok : IsCircuit circuit) (last : ℕ) where
 
     -- ---- how far nets come
 
-    net_farther : low ≤ last → (state : State) → IsSound circuit last state → Reach state → (net : ℕ) → net < length circuit →
+    net_farther : low ≤ last → (state : State) → IsSound circuit last state → AllKnow circuit low state → (net : ℕ) → net < length circuit →
         min last (low + least_delay last circuit) ≤ frontier_at (swept_net tick state net) net
-    net_farther within state sound reach net exists =
+    net_farther within state sound all net exists =
         let lead = all_catching_up_leads circuit tick state (pin_numbers circuit net) (pins_exist circuit net) in
         let after = lead_sound circuit ok last lead sound in
         let knows = net_knows (all_caught_up tick state (pin_numbers circuit net)) after net
-        (all_catching_up_knows (pin_numbers circuit net) state sound reach (pins_exist circuit net)) in
+        (all_catching_up_knows (pin_numbers circuit net) state sound all (pins_exist circuit net)) in
         subst (λ s. min last (low + least_delay last circuit) ≤ frontier_at s net) (sym (swept_net_is circuit last tick state net sound))
         (advances_farther circuit last low (all_caught_up tick state (pin_numbers circuit net)) net after ok within knows exists)
 
-    sweep_farther : low ≤ last → (order : List ℕ) (state : State) → IsSound circuit last state → Reach state →
-        All (λ net. net < length circuit) order → (net : ℕ) → Contains order net →
-        min last (low + least_delay last circuit) ≤ frontier_at (swept tick order state) net
-    sweep_farther within [] state sound reach exist net (place, h, is) = absurd (omega (arith, h))
-    sweep_farther within (first ∷ order) state sound reach exist net (zero, h, is) =
+    -- a net is the least delay farther, or at the end
+    abbrev pub IsFarther : State → ℕ → Type 0
+    IsFarther state net = min last (low + least_delay last circuit) ≤ frontier_at state net
+
+    pub sweep_farther : low ≤ last → (order : List ℕ) (state : State) → IsSound circuit last state → AllKnow circuit low state →
+        All (λ net. net < length circuit) order → All (IsFarther (swept tick order state)) order
+    sweep_farther within [] state sound all exist = All-nil (IsFarther state)
+    sweep_farther within (first ∷ order) state sound all exist =
         let there = All-head (λ net. net < length circuit) first order exist in
+        let others = All-tail (λ net. net < length circuit) first order exist in
         let lead = net_sweep_leads circuit last tick state first sound there in
         let after = lead_sound circuit ok last lead sound in
-        let now = net_farther within state sound reach first there in
-        let later = lead_frontier circuit ok last
-        (sweep_leads circuit ok last tick order (swept_net tick state first) after (All-tail (λ net. net < length circuit) first order exist))
-        after first in
-        subst (λ n. min last (low + least_delay last circuit) ≤ frontier_at (swept tick order (swept_net tick state first)) n) is
+        let now = net_farther within state sound all first there in
+        let later = lead_frontier circuit ok last (sweep_leads circuit ok last tick order (swept_net tick state first) after others) after first in
+        All-cons (IsFarther (swept tick order (swept_net tick state first))) first order
         (join (min last (low + least_delay last circuit)) _ _ now later)
-    sweep_farther within (first ∷ order) state sound reach exist net (suc place, h, is) =
-        let lead = net_sweep_leads circuit last tick state first sound (All-head (λ net. net < length circuit) first order exist) in
-        sweep_farther within order (swept_net tick state first) (lead_sound circuit ok last lead sound) (reach_on lead sound reach)
-        (All-tail (λ net. net < length circuit) first order exist) net (place, omega (arith, h), is)
+        (sweep_farther within order (swept_net tick state first) after (known_on lead sound all) others)
+
+-- what holds of each of a list, holds of what it contains
+pub of_contained : (P : ℕ → Type 0) (numbers : List ℕ) → All P numbers → (number : ℕ) → Contains numbers number → P number
+of_contained P numbers each number (place, h, is) = subst P is (each place number h)
 
 -- a sweep over all nets to a tick that is not below the least frontier
 pub sweep_raises : (circuit : Circuit) → IsCircuit circuit → (last : ℕ) (state : State) → IsSound circuit last state → (tick : ℕ) (order : List ℕ) →
@@ -219,5 +218,6 @@ sweep_raises circuit ok last state sound tick order exist holds in_time =
     least_frontier_greatest circuit last (min last (least_frontier last state + least_delay last circuit)) (swept tick order state)
     (sweep_sound circuit ok last tick order state sound exist) (omega arith)
     (λ net below.
-    sweep_farther circuit ok last (least_frontier last state) tick in_time within order state sound
-    (λ number h. least_frontier-le circuit last state sound number h) exist net (holds net below))
+    of_contained (IsFarther circuit ok last (least_frontier last state) tick in_time (swept tick order state)) order
+    (sweep_farther circuit ok last (least_frontier last state) tick in_time within order state sound
+    (λ number h. least_frontier-le circuit last state sound number h) exist) net (holds net below))

@@ -1,5 +1,5 @@
 -- Sweeps: nets in some order take what they need to reach a tick, and advance.
-use Rattle.std.specs.Prelude.{◌≡◌, ℕ, ◌<◌, nat_lt, if◌then◌else◌, List, [], ◌∷◌, All, length, slice_get, slice_index_or}
+use Rattle.std.specs.Prelude.{◌≡◌, ℕ, ◌<◌, ◌≤◌, nat_lt, if◌then◌else◌, List, [], ◌∷◌, All, length, slice_get, slice_index_or}
 use Rattle.std.specs.List.{range_with_len, Contains}
 use Rattle.std.specs.Option.{option_map_or}
 use Rattle.design.specs.Circuit.{Net, Circuit}
@@ -8,7 +8,7 @@ use Rattle.cmb_channels.specs.declared.message.Message.{Message}
 use Rattle.cmb_events.specs.Schedule.{Exists}
 use Rattle.cmb_events.specs.declared.event.Event.{Event}
 use Rattle.cmb_events.specs.declared.event.Event.TheVariants.{Deliver, Advance}
-use Rattle.cmb_kernel.specs.State.{State, nets_of, received_at}
+use Rattle.cmb_kernel.specs.State.{State, nets_of, frontier_at, received_at}
 use Rattle.cmb_kernel.specs.Step.{step, steps}
 
 -- the numbers of a net's pins
@@ -43,6 +43,10 @@ swept tick (net ∷ order) state = swept tick order (swept_net tick state net)
 -- the list holds every net of a circuit
 abbrev pub HoldsAll : Circuit → List ℕ → Type 0
 HoldsAll circuit order = (net : ℕ) → net < length circuit → Contains order net
+
+-- each net of a circuit is known up to a tick
+abbrev pub AllKnow : Circuit → ℕ → State → Type 0
+AllKnow circuit tick state = (net : ℕ) → net < length circuit → tick ≤ frontier_at state net
 
 -- some events, each of a pin or net that is there, lead from the one state to the other
 pub record EventsLead (circuit : Circuit) (old new : State) : Type 0 where

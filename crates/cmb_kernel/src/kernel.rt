@@ -1,5 +1,5 @@
 ghost use Rattle.std.specs.Prelude.{◌≡◌, ◌≢◌, ◌+◌, ◌<◌, ◌≤◌, false, length, map, slice_index_or, [], IfOk};
-ghost use Rattle.design.specs.Circuit.{pin_count};
+ghost use Rattle.design.specs.Circuit.{IsCircuit, pin_count};
 ghost use Rattle.design.specs.Design.{IsDesign};
 ghost use Rattle.design.specs.Equations.{value_of};
 ghost use Rattle.logic3.specs.Wave.{wave_of};
@@ -95,6 +95,7 @@ impl<'d, F: Fabric> Kernel<'d, F> {
     /// Whether a call was broken off by want of memory.
     pub fn is_failed(&self) -> bool
         ensures failed { result ≡ self.now.failed }
+        ensures circuit { self.now.failed ≡ false → IsCircuit self.now.circuit }
         ensures sound { self.now.failed ≡ false → IsSound self.now.circuit self.now.end self.now.state }
     {
         self.failed

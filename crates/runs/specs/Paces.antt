@@ -1,16 +1,21 @@
 -- How a run goes on to its end.
-use Rattle.std.specs.Prelude.{◌≡◌, ℕ, ◌<◌, All, length}
+use Rattle.std.specs.Prelude.{◌≡◌, ℕ, ◌+◌, ◌<◌, ◌≤◌, min, List, All, length}
 use Rattle.design.specs.Circuit.{Circuit}
+use Rattle.design.specs.Segments.{IsCutUp}
+use Rattle.cmb_kernel.specs.State.{KernelView, State, floor_at, frontier_at, least_delay}
+use Rattle.cmb_kernel.specs.Sound.{IsSound}
 use Rattle.cmb_kernel.specs.Sweeps.{HoldsAll}
+use Rattle.cmb_kernel.specs.Useful.{NoneFalls}
 use Rattle.runs.specs.Windows.{most_told}
 use Rattle.runs.specs.declared.pace.Pace.{Pace}
 use Rattle.runs.specs.declared.pace.Pace.TheVariants.{Rounds, Sweeps}
-use Rattle.runs.specs.declared.pace.Sweeps as of_sweeps
+use Rattle.runs.specs.declared.sweeps.Sweeps as of_sweeps
 
 -- sweeps go over each net of a circuit, and to the end of its run
 pub record Covers (sweeps : of_sweeps.Sweeps) (circuit : Circuit) (end : ℕ) : Type 0 where
   pub within : All (λ net. net < length circuit) sweeps.order.items
   pub all : HoldsAll circuit sweeps.order.items
+  pub cut_up : IsCutUp circuit sweeps.order.items sweeps.segments.items
   pub to_end : sweeps.end ≡ end
   pub most : sweeps.most ≡ most_told (length circuit)
 
@@ -18,3 +23,14 @@ pub record Covers (sweeps : of_sweeps.Sweeps) (circuit : Circuit) (end : ℕ) : 
 abbrev pub Suits : Pace → Circuit → ℕ → Type 0
 Suits Rounds circuit end = Unit {0}
 Suits (Sweeps sweeps) circuit end = Covers sweeps circuit end
+
+-- a run goes on over the same circuit: no frontier falls, and nothing is taken out
+pub record GoesOn (old new : KernelView) : Type 0 where
+  pub run : new ≡ record old { state = new.state }
+  pub sound : IsSound new.circuit new.end new.state
+  pub none_falls : NoneFalls old.state new.state
+  pub floors : (net : ℕ) → floor_at new.state net ≡ floor_at old.state net
+
+-- in a state of a run each of these nets is the least delay past a tick, or at the end
+abbrev pub AllFarther : KernelView → ℕ → State → List ℕ → Type 0
+AllFarther run tick state nets = All (λ net. min run.end (tick + least_delay run.end run.circuit) ≤ frontier_at state net) nets

@@ -14,6 +14,7 @@ mod simulation;
 mod source;
 mod streaming;
 mod sweep_run;
+mod sweeps;
 mod twin_run;
 mod view;
 mod windows;

@@ -7,9 +7,9 @@ ghost use Rattle.runs.specs.Paces.{Suits};
 ghost use Rattle.runs.specs.declared.pace.Pace.TheVariants.{Rounds};
 
 use crate::simulation::RunKernel;
-use crate::windows::{FIRST_WIDTH, most_told, next_width, reach};
+use crate::sweeps::Sweeps;
 use cmb_kernel::KernelFault;
-use design::{Design, flow_order};
+use design::Design;
 use std::alloc::{AllocError, Global};
 use timing_text::Horizon;
 
@@ -22,17 +22,6 @@ pub(crate) enum Pace {
     Sweeps(Sweeps),
 }
 
-/// Sweeps over all nets, each one over a window of ticks.
-#[derive(Drop)]
-pub(crate) struct Sweeps {
-    order: Vec<u32>,
-    end: u64,
-    // The most changes that a sweep should tell.
-    most: u64,
-    // The width of the next window, in ticks.
-    width: u64,
-}
-
 impl Pace {
     /// Sweeps over the nets of a design, up to a horizon.
     pub(crate) fn sweeps(
@@ -42,17 +31,17 @@ impl Pace {
     ) -> Result<Pace, AllocError>
         ensures { IfOk result (λ pace. Suits pace design.now.circuit (horizon + 1)) }
     {
-        Ok(Pace::Sweeps(Sweeps {
-            order: flow_order(alloc, design)?,
-            end: horizon.ticks() + 1,
-            most: most_told(design.nets()),
-            width: FIRST_WIDTH,
-        }))
+        Ok(Pace::Sweeps(Sweeps::new(alloc, design, horizon)?))
     }
 
-    /// Goes on with a run.
-    pub(crate) fn go_on(&mut self, kernel: &mut RunKernel<'_>) -> Result<(), KernelFault>
+    /// Goes on with a run, where so many ticks are known of every net.
+    pub(crate) fn go_on(
+        &mut self,
+        kernel: &mut RunKernel<'_>,
+        known: u64,
+    ) -> Result<(), KernelFault>
         requires running { kernel.old.failed ≡ false }
+        requires known { known ≡ least_frontier kernel.old.end kernel.old.state }
         requires suits { Suits self.old kernel.old.circuit kernel.old.end }
         ensures goes { OnOk result (kernel.new ≡ record kernel.old { state = kernel.new.state }) }
         // So a run comes to its end.
@@ -71,40 +60,8 @@ impl Pace {
     {
         match self {
             Pace::Rounds => kernel.round()?,
-            Pace::Sweeps(sweeps) => sweeps.sweep(kernel)?,
+            Pace::Sweeps(sweeps) => sweeps.sweep(kernel, known)?,
         }
-        Ok(())
-    }
-}
-
-impl Sweeps {
-    ghost use Rattle.std.specs.Prelude.{◌-◌};
-    ghost use Rattle.runs.specs.Windows.{next_width};
-    ghost use Rattle.runs.specs.Paces.{Covers};
-
-    /// Sweeps once over all nets, up to where the window reaches.
-    fn sweep(&mut self, kernel: &mut RunKernel<'_>) -> Result<(), KernelFault>
-        requires running { kernel.old.failed ≡ false }
-        requires covers { Covers self.old kernel.old.circuit kernel.old.end }
-        ensures goes { OnOk result (kernel.new ≡ record kernel.old { state = kernel.new.state }) }
-        ensures raises { OnOk result
-            (min kernel.old.end (least_frontier kernel.old.end kernel.old.state + least_delay kernel.old.end kernel.old.circuit)
-            ≤ least_frontier kernel.new.end kernel.new.state) }
-        ensures rises { OnOk result (least_frontier kernel.old.end kernel.old.state < kernel.old.end →
-            least_frontier kernel.old.end kernel.old.state < least_frontier kernel.new.end kernel.new.state) }
-        ensures floors { OnOk result
-            ((net : ℕ) → floor_at kernel.new.state net ≡ floor_at kernel.old.state net) }
-        ensures width { OnOk result (self.new ≡ record self.old {
-          width = next_width self.old.width (kernel.new.state.counts.changes - kernel.old.state.counts.changes) self.old.most;
-        }) }
-        ensures sound { OnOk result (IsSound kernel.new.circuit kernel.new.end kernel.new.state) }
-        ensures err { IfErr result (λ fault. fault ≡ KernelFault.Memory) }
-    {
-        let before = kernel.counts().changes;
-        let tick = reach(kernel.least_frontier(), self.width, self.end);
-        kernel.sweep(self.order.as_slice(), tick)?;
-        let told = kernel.counts().changes.saturating_sub(before);
-        self.width = next_width(self.width, told, self.most);
         Ok(())
     }
 }

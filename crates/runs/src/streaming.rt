@@ -131,7 +131,8 @@ fn stream_to_end<W: Write>(
             stream.finish(out)?;
             return Ok(());
         }
-        pace.go_on(kernel)?;
+        let reached = kernel.least_frontier();
+        pace.go_on(kernel, reached)?;
     }
 }
 

@@ -99,7 +99,8 @@ fn run_to_end(kernel: &mut RunKernel<'_>, pace: &mut Pace) -> Result<(), KernelF
     ensures err { IfErr result (λ fault. fault ≡ KernelFault.Memory) }
 {
     while !kernel.is_complete() {
-        pace.go_on(kernel)?;
+        let known = kernel.least_frontier();
+        pace.go_on(kernel, known)?;
     }
     Ok(())
 }

@@ -2,8 +2,8 @@ ghost use Rattle.std.specs.Prelude.{◌≡◌, ℕ, ◌+◌, ◌<◌, ◌≤◌,
 ghost use Rattle.std.specs.Option.{ForSome};
 ghost use Rattle.design.specs.Circuit.{Net};
 ghost use Rattle.design.specs.Pins.{first_pin};
-ghost use Rattle.cmb_kernel.specs.State.{floor_at, received_at, least_frontier, least_delay};
-ghost use Rattle.cmb_kernel.specs.Sweeps.{caught_up, swept_net, swept, HoldsAll};
+ghost use Rattle.cmb_kernel.specs.State.{floor_at, frontier_at, received_at, least_frontier, least_delay};
+ghost use Rattle.cmb_kernel.specs.Sweeps.{caught_up, swept_net, swept, AllKnow, HoldsAll};
 ghost use Rattle.cmb_kernel.specs.Useful.{NoneFalls};
 ghost use Rattle.cmb_kernel.specs.Sound.{IsSound};
 ghost use Rattle.cmb_kernel.specs.Calls.{IsOutcome};
@@ -37,6 +37,11 @@ impl<'d, F: Fabric> Kernel<'d, F> {
         ensures rises { HoldsAll self.old.circuit order.now → least_frontier self.old.end self.old.state ≤ tick →
             OnOk result (least_frontier self.old.end self.old.state < self.old.end →
             least_frontier self.old.end self.old.state < least_frontier self.new.end self.new.state) }
+        // Where every net is known up to a tick, each net of the list comes at least the least delay farther,
+        // or to the end.
+        ensures farther { (low : ℕ) → AllKnow self.old.circuit low self.old.state → low ≤ tick → low ≤ self.old.end →
+            OnOk result (All (λ net.
+            min self.old.end (low + least_delay self.old.end self.old.circuit) ≤ frontier_at self.new.state net) order.now) }
         ensures none_falls { OnOk result (NoneFalls self.old.state self.new.state) }
         // It takes out no changes.
         ensures floors { OnOk result ((net : ℕ) → floor_at self.new.state net ≡ floor_at self.old.state net) }

@@ -1,10 +1,10 @@
-use Rattle.std.proofs.Common.{◌+◌, ◌<◌, ◌≤◌, min, get_or, ap, sym, subst, ◌∙◌, arith}
-use Rattle.cmb_kernel.specs.State.{KernelView, floor_at, least_frontier, least_delay}
+use Rattle.std.proofs.Common.{◌+◌, ◌<◌, ◌≤◌, min, All, get_or, ap, sym, subst, ◌∙◌, arith}
+use Rattle.cmb_kernel.specs.State.{KernelView, floor_at, frontier_at, least_frontier, least_delay}
 use Rattle.cmb_kernel.specs.Sweeps.{swept_net}
 use Rattle.cmb_kernel.specs.Useful.{NoneFalls}
 use Rattle.cmb_kernel.proofs.Moved.{moved_on}
 use Rattle.cmb_kernel.proofs.EventsLead.{lead_falls, lead_floor}
-use Rattle.cmb_kernel.proofs.Sweeping.{sweep_leads, sweep_raises}
+use Rattle.cmb_kernel.proofs.Sweeping.{sweep_farther, sweep_leads, sweep_raises}
 use Rattle.cmb_kernel.proofs.SweepLoops.{one_more_net, all_nets}
 use Rattle.cmb_kernel.proofs.UsefulEvents.{rises_by_delay}
 use Rattle.cmb_kernel.proofs.kernel.Kernel.sweep.Goals as goal
@@ -47,3 +47,11 @@ returns-clause-floors g c = λ net.
     let lead = sweep_leads c.args.self.now.circuit c.in_ok-check_running.ensures.circuit c.args.self.now.end c.args.tick c.args.order.now
     c.args.self.now.state c.in_ok-check_running.ensures.sound c.requires.nets in
     ap (λ (r : KernelView). floor_at r.state net) came ∙ lead_floor c.args.self.now.circuit lead net
+
+pub returns-clause-farther : goal.returns-clause-farther
+returns-clause-farther g c = λ low known in_time within.
+    let now = c.args.self.now in
+    let came = all_nets c.args.tick c.loop-net.net-index c.args.order.now now c.loop-net.invariant.run (omega arith) in
+    subst (λ (r : KernelView). All (λ net. min now.end (low + least_delay now.end now.circuit) ≤ frontier_at r.state net) c.args.order.now) (sym came)
+    (sweep_farther now.circuit c.in_ok-check_running.ensures.circuit now.end low c.args.tick in_time within c.args.order.now now.state
+    c.in_ok-check_running.ensures.sound known c.requires.nets)

@@ -1,0 +1,117 @@
+-- A pass over the segments of an order: each net comes the least delay farther, or to the end.
+use Rattle.std.proofs.Common.{◌≡◌, ℕ, ◌+◌, ◌-◌, ◌<◌, ◌≤◌, min, false, List, [], ◌∷◌, ◌++◌, take, drop, length, get_or, suc, refl, ap, sym, subst, ◌∙◌, arith, drop-cons, take-add}
+use Rattle.std.specs.List.{All}
+use Rattle.std.proofs.lemmas.List.{drop_of_length-le, take_all}
+use Rattle.std.proofs.lemmas.List.Elements.{All-append, All-nil}
+use Rattle.design.specs.Circuit.{Circuit}
+use Rattle.design.specs.Segments.{IsSegment, LieBetween}
+use Rattle.design.specs.declared.segments.Segment.{Segment}
+use Rattle.cmb_kernel.specs.State.{KernelView, State, floor_at, frontier_at, least_delay, least_frontier}
+use Rattle.cmb_kernel.specs.Sound.{IsSound}
+use Rattle.cmb_kernel.specs.Sweeps.{AllKnow, HoldsAll}
+use Rattle.cmb_kernel.specs.Useful.{NoneFalls}
+use Rattle.cmb_kernel.proofs.CallerLemmas.{least_frontier-le, least_frontier_greatest, of_contained}
+use Rattle.runs.specs.Paces.{AllFarther, GoesOn}
+use Rattle.runs.proofs.Streamed.{least_within}
+
+-- ---- a run goes on
+
+pub GoesOn-none : (run : KernelView) → IsSound run.circuit run.end run.state → GoesOn run run
+GoesOn-none run sound = record {
+  run = refl;
+  sound = sound;
+  none_falls = record { nets = λ net. omega arith; pins = λ pin. omega arith };
+  floors = λ net. refl;
+}
+
+pub GoesOn-trans : {start now next : KernelView} → GoesOn start now → GoesOn now next → GoesOn start next
+GoesOn-trans {start} {now} {next} came goes = record {
+  run = goes.run ∙ ap (λ (k : KernelView). record k { state = next.state }) came.run;
+  sound = goes.sound;
+  none_falls = record {
+    nets = λ net. (let a = came.none_falls.nets net in let b = goes.none_falls.nets net in omega (arith, a, b));
+    pins = λ pin. (let a = came.none_falls.pins pin in let b = goes.none_falls.pins pin in omega (arith, a, b));
+  };
+  floors = λ net. goes.floors net ∙ came.floors net;
+}
+
+-- a sweep goes on
+module _ {now next : KernelView} {after : State} (goes : next ≡ record now { state = after }) where
+  pub still_runs : now.failed ≡ false → next.failed ≡ false
+  still_runs running = ap (λ (k : KernelView). k.failed) goes ∙ running
+
+  pub GoesOn-sweep : IsSound next.circuit next.end next.state → NoneFalls now.state next.state →
+      ((net : ℕ) → floor_at next.state net ≡ floor_at now.state net) → GoesOn now next
+  GoesOn-sweep sound none_falls floors = record {
+    run = goes ∙ ap (λ s. record now { state = s }) (sym (ap (λ (k : KernelView). k.state) goes));
+    sound = sound;
+    none_falls = none_falls;
+    floors = floors;
+  }
+
+module _ {start now : KernelView} (goes : GoesOn start now) where
+  pub runs_on : start.failed ≡ false → now.failed ≡ false
+  runs_on running = ap (λ (k : KernelView). k.failed) goes.run ∙ running
+
+  -- nets of the one circuit are nets of the other
+  pub nets_on : (nets : List ℕ) → All (λ net. net < length start.circuit) nets → All (λ net. net < length now.circuit) nets
+  nets_on nets exist = subst (λ (k : KernelView). All (λ net. net < length k.circuit) nets) (sym goes.run) exist
+
+  -- what nets know, they go on to know
+  pub AllKnow-on : (tick : ℕ) → AllKnow start.circuit tick start.state → AllKnow now.circuit tick now.state
+  AllKnow-on tick all = λ net below.
+      let circuit = ap (λ (k : KernelView). length k.circuit) goes.run in
+      let known = all net (omega (arith, below, circuit)) in
+      let rises = goes.none_falls.nets net in
+      omega (arith, known, rises)
+
+  -- so nets that are farther stay so
+  pub AllFarther-on : (run : KernelView) (tick : ℕ) (nets : List ℕ) → AllFarther run tick start.state nets → AllFarther run tick now.state nets
+  AllFarther-on run tick nets farther = λ place d h.
+      let far : min run.end (tick + least_delay run.end run.circuit) ≤ frontier_at start.state (get_or nets place d) = farther place d h in
+      let rises = goes.none_falls.nets (get_or nets place d) in
+      omega (arith, far, rises)
+
+  -- and what is said of the end and the least delay is the same of both
+  pub AllFarther-same : (tick : ℕ) (state : State) (nets : List ℕ) → AllFarther now tick state nets → AllFarther start tick state nets
+  AllFarther-same tick state nets = subst (λ (k : KernelView). AllFarther k tick state nets) goes.run
+
+  -- where each net is farther, so is the least
+  pub all_farther : (order : List ℕ) → HoldsAll start.circuit order → AllFarther start (least_frontier start.end start.state) now.state order →
+      min start.end (least_frontier start.end start.state + least_delay start.end start.circuit) ≤ least_frontier now.end now.state
+  all_farther order holds farther =
+      let raised = least_frontier_greatest now.circuit now.end (min start.end (least_frontier start.end start.state + least_delay start.end start.circuit))
+      now.state goes.sound (let end = ap (λ (k : KernelView). k.end) goes.run in omega (arith, end))
+      (λ net below.
+      of_contained (λ n. min start.end (least_frontier start.end start.state + least_delay start.end start.circuit) ≤ frontier_at now.state n) order farther
+      net (holds net (subst (λ (k : KernelView). net < length k.circuit) goes.run below))) in
+      raised
+
+-- every net knows what the least does
+pub all_know_least : (run : KernelView) → IsSound run.circuit run.end run.state → AllKnow run.circuit (least_frontier run.end run.state) run.state
+all_know_least run sound = λ net below. least_frontier-le run.circuit run.end run.state sound net below
+
+-- ---- segments
+
+-- the segment that comes next, and those behind it
+pub next_segment : (circuit : Circuit) (order : List ℕ) (begin end : ℕ) (segments : List Segment) (index : ℕ) (d : Segment) → index < length segments →
+    LieBetween circuit order begin (drop index segments) end →
+    IsSegment circuit order begin (get_or segments index d) × LieBetween circuit order (get_or segments index d).end (drop (index + 1) segments) end
+next_segment circuit order begin end segments index d h lie =
+    let more : suc index ≡ index + 1 = omega arith in
+    subst (λ n. IsSegment circuit order begin (get_or segments index d) × LieBetween circuit order (get_or segments index d).end (drop n segments) end) more
+    (subst (λ left. LieBetween circuit order begin left end) (drop-cons segments index d h) lie)
+
+-- behind the last one the order ends
+pub no_segment : (circuit : Circuit) (order : List ℕ) (begin end : ℕ) (segments : List Segment) (index : ℕ) → length segments ≤ index →
+    LieBetween circuit order begin (drop index segments) end → begin ≡ end
+no_segment circuit order begin end segments index h lie =
+    subst (λ left. LieBetween circuit order begin left end) (drop_of_length-le segments h) lie
+
+-- a stretch more of a list
+pub All-stretch : (P : ℕ → Type 0) (numbers : List ℕ) (begin end : ℕ) → begin ≤ end → All P (take begin numbers) →
+    All P (take (end - begin) (drop begin numbers)) → All P (take end numbers)
+All-stretch P numbers begin end h before stretch =
+    let all : begin + (end - begin) ≡ end = omega arith in
+    subst (All P) (sym (take-add begin (end - begin) numbers) ∙ ap (λ n. take n numbers) all)
+    (All-append P (take begin numbers) (take (end - begin) (drop begin numbers)) before stretch)
