@@ -27,10 +27,11 @@ fn write_lines<W: Write>(
 {
     let mut before = time;
     for line in lines {
-        push_time_after(text, before, line.tick)?;
+        let tick = u64::from(line.tick);
+        push_time_after(text, before, tick)?;
         push_change(text, line.value, line.place)?;
         send_long(out, text)?;
-        before = line.tick;
+        before = tick;
     }
     Ok(before)
 }

@@ -15,17 +15,18 @@ line_at lines index = get_or lines index (record { tick = 0; place = 0; value = 
 next_line : (lines : List Line) (index : ℕ) → index < length lines → drop index lines ≡ line_at lines index ∷ drop (index + 1) lines
 next_line lines index within = rw (add-one, drop-cons lines index (record { tick = 0; place = 0; value = Zero })) refl
 
--- a line that was pushed
-pushed : (before index : ℕ) (lines : List Line) (waiting with_time piece : List ℕ) → index < length lines →
-    with_time ≡ waiting ++ time_line_after before (line_at lines index).tick → piece ≡ with_time ++ line_text (line_at lines index) →
-    waiting ++ written_text before (drop index lines) ≡ piece ++ written_text (line_at lines index).tick (drop (index + 1) lines)
-pushed before index lines waiting with_time piece within p q =
+-- a line that was pushed, behind the time of its tick
+pushed : (before index tick : ℕ) (lines : List Line) (waiting with_time piece : List ℕ) → index < length lines →
+    tick ≡ (line_at lines index).tick → with_time ≡ waiting ++ time_line_after before tick → piece ≡ with_time ++ line_text (line_at lines index) →
+    waiting ++ written_text before (drop index lines) ≡ piece ++ written_text tick (drop (index + 1) lines)
+pushed before index tick lines waiting with_time piece within told p q =
     let line = line_at lines index in
     let rest = drop (index + 1) lines in
     ap (λ ls. waiting ++ written_text before ls) (next_line lines index within)
-    ∙ regroup waiting (time_line_after before line.tick) (line_text line) (written_text line.tick rest)
-    ∙ ap (λ xs. (xs ++ line_text line) ++ written_text line.tick rest) (sym p)
-    ∙ ap (λ xs. xs ++ written_text line.tick rest) (sym q)
+    ∙ ap (λ at. waiting ++ (time_line_after before at ++ line_text line ++ written_text at rest)) (sym told)
+    ∙ regroup waiting (time_line_after before tick) (line_text line) (written_text tick rest)
+    ∙ ap (λ xs. (xs ++ line_text line) ++ written_text tick rest) (sym p)
+    ∙ ap (λ xs. xs ++ written_text tick rest) (sym q)
   where
     regroup : (a b c d : List ℕ) → a ++ (b ++ c ++ d) ≡ ((a ++ b) ++ c) ++ d
     regroup a b c d = simp append_assoc
@@ -43,10 +44,11 @@ returns-in_err-send_long-clause-err g c =
     let held = g.W.Write.contents in
     let lines = c.args.lines.now in
     let index = c.loop-line.line-index in
-    let rest = written_text (line_at lines index).tick (drop (index + 1) lines) in
+    let tick = c.from-tick.result in
+    let rest = written_text tick (drop (index + 1) lines) in
     let piece = c.push_change.new.line.items in
-    let is = pushed c.loop-line.before index lines c.loop-line.text.items c.push_time_after.new.line.items piece (omega arith)
-    c.in_ok-push_time_after.ensures c.in_ok-push_change.ensures in
+    let is = pushed c.loop-line.before index tick lines c.loop-line.text.items c.push_time_after.new.line.items piece (omega arith)
+    c.from-tick.ensures c.in_ok-push_time_after.ensures c.in_ok-push_change.ensures in
     OnErr-always c.from_residual-in_err-send_long.result
     (GoesOut-fault (held c.args.out.now) (held c.loop-line.out) (held c.send_long.new.out) _ piece rest
     (subst (GoesOut _ _ _) is c.loop-line.invariant.text) c.in_err-send_long.ensures.err)
@@ -56,12 +58,14 @@ loop-line-preserved g c =
     let held = g.W.Write.contents in
     let lines = c.args.lines.now in
     let index = c.loop-line.line-index in
-    let rest = written_text (line_at lines index).tick (drop (index + 1) lines) in
+    let tick = c.from-tick.result in
+    let rest = written_text tick (drop (index + 1) lines) in
     let piece = c.push_change.new.line.items in
-    let is = pushed c.loop-line.before index lines c.loop-line.text.items c.push_time_after.new.line.items piece (omega arith)
-    c.in_ok-push_time_after.ensures c.in_ok-push_change.ensures in
+    let is = pushed c.loop-line.before index tick lines c.loop-line.text.items c.push_time_after.new.line.items piece (omega arith)
+    c.from-tick.ensures c.in_ok-push_time_after.ensures c.in_ok-push_change.ensures in
     record {
-      last = sym (ap (last_tick c.loop-line.before) (next_line lines index (omega arith))) ∙ c.loop-line.invariant.last;
+      last = ap (λ at. last_tick at (drop (index + 1) lines)) c.from-tick.ensures
+          ∙ sym (ap (last_tick c.loop-line.before) (next_line lines index (omega arith))) ∙ c.loop-line.invariant.last;
       text = GoesOut-then (held c.args.out.now) (held c.loop-line.out) (held c.send_long.new.out) _ piece c.send_long.new.text.items rest
           (subst (GoesOut _ _ _) is c.loop-line.invariant.text) c.in_ok-send_long.ensures.ok;
     }
