@@ -1,7 +1,7 @@
 -- A pass over the segments of an order: each net comes the least delay farther, or to the end.
-use Rattle.std.proofs.Common.{◌≡◌, ℕ, ◌+◌, ◌-◌, ◌<◌, ◌≤◌, min, false, List, [], ◌∷◌, ◌++◌, take, drop, length, get_or, suc, refl, ap, sym, subst, ◌∙◌, arith, drop-cons, take-add}
+use Rattle.std.proofs.Common.{◌≡◌, ℕ, ◌+◌, ◌-◌, ◌<◌, ◌≤◌, min, List, [], ◌∷◌, ◌++◌, take, drop, length, get_or, suc, refl, ap, sym, subst, ◌∙◌, arith, drop-cons, drop_of_length-le, take-add}
 use Rattle.std.specs.List.{All}
-use Rattle.std.proofs.lemmas.List.{drop_of_length-le, take_all}
+use Rattle.std.proofs.lemmas.List.{take_all}
 use Rattle.std.proofs.lemmas.List.Elements.{All-append, All-nil}
 use Rattle.design.specs.Circuit.{Circuit}
 use Rattle.design.specs.Segments.{IsSegment, LieBetween}
@@ -35,28 +35,7 @@ GoesOn-trans {start} {now} {next} came goes = record {
   floors = λ net. goes.floors net ∙ came.floors net;
 }
 
--- a sweep goes on
-module _ {now next : KernelView} {after : State} (goes : next ≡ record now { state = after }) where
-  pub still_runs : now.failed ≡ false → next.failed ≡ false
-  still_runs running = ap (λ (k : KernelView). k.failed) goes ∙ running
-
-  pub GoesOn-sweep : IsSound next.circuit next.end next.state → NoneFalls now.state next.state →
-      ((net : ℕ) → floor_at next.state net ≡ floor_at now.state net) → GoesOn now next
-  GoesOn-sweep sound none_falls floors = record {
-    run = goes ∙ ap (λ s. record now { state = s }) (sym (ap (λ (k : KernelView). k.state) goes));
-    sound = sound;
-    none_falls = none_falls;
-    floors = floors;
-  }
-
 module _ {start now : KernelView} (goes : GoesOn start now) where
-  pub runs_on : start.failed ≡ false → now.failed ≡ false
-  runs_on running = ap (λ (k : KernelView). k.failed) goes.run ∙ running
-
-  -- nets of the one circuit are nets of the other
-  pub nets_on : (nets : List ℕ) → All (λ net. net < length start.circuit) nets → All (λ net. net < length now.circuit) nets
-  nets_on nets exist = subst (λ (k : KernelView). All (λ net. net < length k.circuit) nets) (sym goes.run) exist
-
   -- what nets know, they go on to know
   pub AllKnow-on : (tick : ℕ) → AllKnow start.circuit tick start.state → AllKnow now.circuit tick now.state
   AllKnow-on tick all = λ net below.
@@ -80,16 +59,22 @@ module _ {start now : KernelView} (goes : GoesOn start now) where
   pub all_farther : (order : List ℕ) → HoldsAll start.circuit order → AllFarther start (least_frontier start.end start.state) now.state order →
       min start.end (least_frontier start.end start.state + least_delay start.end start.circuit) ≤ least_frontier now.end now.state
   all_farther order holds farther =
-      let raised = least_frontier_greatest now.circuit now.end (min start.end (least_frontier start.end start.state + least_delay start.end start.circuit))
+      least_frontier_greatest now.circuit now.end (min start.end (least_frontier start.end start.state + least_delay start.end start.circuit))
       now.state goes.sound (let end = ap (λ (k : KernelView). k.end) goes.run in omega (arith, end))
       (λ net below.
       of_contained (λ n. min start.end (least_frontier start.end start.state + least_delay start.end start.circuit) ≤ frontier_at now.state n) order farther
-      net (holds net (subst (λ (k : KernelView). net < length k.circuit) goes.run below))) in
-      raised
+      net (holds net (subst (λ (k : KernelView). net < length k.circuit) goes.run below)))
 
 -- every net knows what the least does
 pub all_know_least : (run : KernelView) → IsSound run.circuit run.end run.state → AllKnow run.circuit (least_frontier run.end run.state) run.state
 all_know_least run sound = λ net below. least_frontier-le run.circuit run.end run.state sound net below
+
+-- what each of some nets knows, each knows of less
+pub all_less : (state : State) (known less : ℕ) (nets : List ℕ) → less ≤ known → All (λ net. known ≤ frontier_at state net) nets →
+    All (λ net. less ≤ frontier_at state net) nets
+all_less state known less nets h each = λ place d within.
+    let here : known ≤ frontier_at state (get_or nets place d) = each place d within in
+    omega (arith, here, h)
 
 -- ---- segments
 
@@ -115,3 +100,13 @@ All-stretch P numbers begin end h before stretch =
     let all : begin + (end - begin) ≡ end = omega arith in
     subst (All P) (sym (take-add begin (end - begin) numbers) ∙ ap (λ n. take n numbers) all)
     (All-append P (take begin numbers) (take (end - begin) (drop begin numbers)) before stretch)
+
+-- behind the last segment the whole order is farther, and so is the least
+pub covered : {start now : KernelView} → GoesOn start now → (order : List ℕ) (segments : List Segment) (begin index : ℕ) → length segments ≤ index →
+    HoldsAll start.circuit order → AllFarther start (least_frontier start.end start.state) now.state (take begin order) →
+    LieBetween start.circuit order begin (drop index segments) (length order) →
+    min start.end (least_frontier start.end start.state + least_delay start.end start.circuit) ≤ least_frontier now.end now.state
+covered {start} {now} goes order segments begin index h holds farther lie =
+    let end = no_segment start.circuit order begin (length order) segments index h lie in
+    all_farther goes order holds
+    (subst (AllFarther start (least_frontier start.end start.state) now.state) (take_all begin order (omega (arith, end))) farther)

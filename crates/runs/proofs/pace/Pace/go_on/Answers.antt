@@ -16,5 +16,5 @@ returns-in_ok-sweep-in-Sweeps-clause-suits c =
     subst (λ (pace : Pace). Suits pace now.circuit now.end) c.in-Sweeps.is c.requires.suits in
     let still : Covers c.sweep.new.self now.circuit now.end =
     subst (λ s. Covers s now.circuit now.end) (sym c.in_ok-sweep-in-Sweeps.ensures.width)
-    (record { within = covers.within; all = covers.all; to_end = covers.to_end; most = covers.most }) in
-    subst (λ (k : KernelView). Covers c.sweep.new.self k.circuit k.end) (sym c.in_ok-sweep-in-Sweeps.ensures.goes) still
+    (record { within = covers.within; all = covers.all; cut_up = covers.cut_up; to_end = covers.to_end; most = covers.most }) in
+    subst (λ (k : KernelView). Covers c.sweep.new.self k.circuit k.end) (sym c.in_ok-sweep-in-Sweeps.ensures.goes.run) still
