@@ -1,7 +1,8 @@
 -- A kernel whose nets are drained one after another.
-use Rattle.std.proofs.Common.{◌≡◌, ◌≢◌, ℕ, ◌+◌, ◌<◌, ◌≤◌, ◌==◌, Bool, true, false, List, [], ◌∷◌, ◌++◌, map, take, get_or, length, refl, ap, sym, subst, ◌∙◌, arith, ◌⊎◌, inl, inr}
+use Rattle.std.proofs.Common.{◌≡◌, ◌≢◌, ℕ, ◌+◌, ◌<◌, ◌≤◌, ◌==◌, Bool, true, false, List, [], ◌∷◌, ◌++◌, map, take, get_or, length, All, refl, ap, sym, subst, ◌∙◌, arith, ◌⊎◌, inl, inr}
 use Rattle.std.proofs.lemmas.Bool.{eqb-true, eqb-false}
 use Rattle.std.proofs.lemmas.List.{map_more}
+use Rattle.std.proofs.lemmas.List.Elements.{All-more, All-weaker}
 use Rattle.logic3.specs.declared.change.Change.{Change}
 use Rattle.logic3.specs.Wave.{changes_between}
 use Rattle.design.specs.Equations.{value_of}
@@ -61,6 +62,23 @@ module _ {now next : KernelView} {net bound : ℕ} (drain : IsDrain now next net
       go (inl (is, floor)) = omega arith
       go (inr (apart, floor)) =
           let there = low other (subst (λ c. other < length c) (ap (λ (k : KernelView). k.circuit) drain.goes) below) in omega arith
+
+  -- a net that was drained so far stays so
+  pub stays_drained : (other : ℕ) → floor_at now.state other ≡ bound → floor_at next.state other ≡ bound
+  stays_drained other drained = go (floor_after other)
+    where
+      go : ((other ≡ net) × (floor_at next.state other ≡ bound)) ⊎ ((other ≢ net) × (floor_at next.state other ≡ floor_at now.state other)) →
+          floor_at next.state other ≡ bound
+      go (inl (is, floor)) = floor
+      go (inr (apart, floor)) = floor ∙ drained
+
+  -- one net more was drained
+  pub drained_more : (nets : List ℕ) (i : ℕ) → i < length nets → get_or nets i 0 ≡ net →
+      All (λ other. floor_at now.state other ≡ bound) (take i nets) → All (λ other. floor_at next.state other ≡ bound) (take (i + 1) nets)
+  drained_more nets i inside here so_far =
+      All-more (λ other. floor_at next.state other ≡ bound) nets i 0 inside
+      (All-weaker (λ other. floor_at now.state other ≡ bound) (λ other. floor_at next.state other ≡ bound) stays_drained (take i nets) so_far)
+      (ap (floor_at next.state) here ∙ drain.floor)
 
   -- of the nets before a place in a list none but this one was touched
   pub others_after : (start : KernelView) (nets : List ℕ) (i : ℕ) → get_or nets i 0 ≡ net →

@@ -6,6 +6,7 @@ mod Drains
 mod Ends
 mod Isolated
 mod Nets
+mod Others
 mod Runs
 mod Signals
 mod Simulated

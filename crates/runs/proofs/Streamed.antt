@@ -1,6 +1,7 @@
 -- A run that goes on, with what every net knows taken out each time.
-use Rattle.std.proofs.Common.{◌≡◌, ℕ, ◌+◌, ◌-◌, ◌<◌, ◌≤◌, min, true, false, List, [], ◌∷◌, map, length, refl, ap, sym, subst, ◌∙◌, arith, eqb-true}
+use Rattle.std.proofs.Common.{◌≡◌, ◌≢◌, ℕ, ◌+◌, ◌-◌, ◌<◌, ◌≤◌, ◌==◌, min, Bool, true, false, List, [], ◌∷◌, map, length, refl, ap, sym, subst, ◌∙◌, arith, eqb-true}
 use Rattle.std.specs.List.{All}
+use Rattle.std.proofs.lemmas.Bool.Decides.{nat_tests}
 use Rattle.std.proofs.lemmas.List.Elements.{All-head, All-tail}
 use Rattle.logic3.specs.Wave.{changes_between}
 use Rattle.design.specs.Circuit.{Circuit, IsCircuit}
@@ -46,6 +47,17 @@ streamed_begins ByRounds start sound undrained = record {
   ahead = omega arith;
 }
 
+-- known to the end of a run, or not yet
+pub at_end : {known ticks end last : ℕ} → last ≡ end + 1 → ticks ≡ end → known ≡ ticks + 1 → known ≡ last
+at_end ends is whole = omega (arith, ends, is, whole)
+
+pub still_more : {known ticks end last : ℕ} → last ≡ end + 1 → ticks ≡ end → known ≢ ticks + 1 → known ≢ last
+still_more ends is more whole = more (omega (arith, ends, is, whole))
+
+-- what was written isn't ahead of what is known
+pub ahead_of : {written known least : ℕ} → written ≤ least → known ≡ least → written ≤ known
+ahead_of ahead is = omega (arith, ahead, is)
+
 -- no frontier is past the end
 pub least_within : (kernel : KernelView) → least_frontier kernel.end kernel.state ≤ kernel.end
 least_within kernel = least-bound kernel.end (map (λ (p : ProcessState). p.known.frontier) kernel.state.processes)
@@ -71,8 +83,14 @@ module _ (pace : Pace) (circuit : Circuit) (end : ℕ) (start now : KernelView) 
       subst (λ e. Suits pace circuit e) (ap (λ (k : KernelView). k.end) led ∙ to)
       (subst (λ c. Suits pace c now.end) (ap (λ (k : KernelView). k.circuit) led ∙ over) suits)
 
-module _ {ByRounds : Type 0} {start now mid : KernelView} {written : ℕ} (so_far : Streamed ByRounds start now written) (drains : DrainsTo now mid)
-    (floors : EachFloor mid (λ floor. floor ≡ least_frontier now.end now.state)) (ok : IsCircuit start.circuit) where
+-- a run is complete where all is known up to the end
+pub complete_is : (now mid : KernelView) (known : ℕ) → DrainsTo now mid → known ≡ least_frontier now.end now.state → (known == now.end) ≡ is_complete mid.state
+complete_is now mid known drains is =
+    let end = ap (λ (k : KernelView). k.end) drains.run in
+    (λ i. (is ∙ sym (least_same now mid drains)) i == sym end i) ∙ least_tells mid.circuit mid.end mid.state drains.sound
+
+module _ {ByRounds : Type 0} {start now mid : KernelView} {written known : ℕ} (so_far : Streamed ByRounds start now written) (drains : DrainsTo now mid)
+    (is : known ≡ least_frontier now.end now.state) (floors : EachFloor mid (λ floor. floor ≡ known)) (ok : IsCircuit start.circuit) where
   same_run : mid ≡ record start { state = mid.state }
   same_run = same so_far drains
 
@@ -84,10 +102,17 @@ module _ {ByRounds : Type 0} {start now mid : KernelView} {written : ℕ} (so_fa
 
   module _ (next : KernelView) (goes : next ≡ record mid { state = next.state }) (sound_next : IsSound next.circuit next.end next.state)
       (raised : min mid.end (least_frontier mid.end mid.state + least_delay mid.end mid.circuit) ≤ least_frontier next.end next.state)
-      (incomplete : is_complete mid.state ≡ false) where
+      (more : known ≢ now.end) where
+    incomplete : is_complete mid.state ≡ false
+    incomplete = go (is_complete mid.state) refl
+      where
+        go : (complete : Bool) → is_complete mid.state ≡ complete → complete ≡ false
+        go true e = absurd (more (eqb-true known now.end (complete_is now mid known drains is ∙ e)))
+        go false e = refl
+
     -- it goes on
     pub streamed_more : (ByRounds → next.state ≡ round_of mid.state) → ((net : ℕ) → floor_at next.state net ≡ floor_at mid.state net) →
-        Streamed ByRounds start next (least_frontier now.end now.state)
+        Streamed ByRounds start next known
     streamed_more round kept = record {
       run = led so_far drains next goes;
       sound = sound_next;
@@ -97,7 +122,7 @@ module _ {ByRounds : Type 0} {start now mid : KernelView} {written : ℕ} (so_fa
       ahead =
           let least = least_same now mid drains in
           let within = least_within mid in
-          omega (arith, least, within, raised);
+          omega (arith, least, within, raised, is);
     }
 
     -- and less is left to the end
@@ -112,14 +137,9 @@ module _ {ByRounds : Type 0} {start now mid : KernelView} {written : ℕ} (so_fa
         let least_start = ap (λ (k : KernelView). least_frontier k.end mid.state) same_run in
         omega (arith, fell, end, end_now, least, end_start, least_start)
 
-  -- at the end all is known
-  pub known_whole : is_complete mid.state ≡ true → least_frontier now.end now.state ≡ now.end
-  known_whole complete =
-      let end = ap (λ (k : KernelView). k.end) drains.run in
-      sym (least_same now mid drains)
-      ∙ eqb-true _ _ (least_tells mid.circuit mid.end mid.state drains.sound ∙ complete) ∙ end
-
-  -- and as much was counted as by rounds alone
-  pub counts_are : ByRounds → IsSound start.circuit start.end start.state → is_complete mid.state ≡ true →
+  -- at the end as much was counted as by rounds alone
+  pub counts_are : ByRounds → IsSound start.circuit start.end start.state → known ≡ now.end →
       mid.state.counts ≡ (completed_within (most_rounds start.end start.circuit) start.state).counts
-  counts_are by begun complete = same_counts start.circuit ok start.end start.state mid.state (alike by) begun complete
+  counts_are by begun whole =
+      let ended : (known == now.end) ≡ true = grind (arith, nat_tests) in
+      same_counts start.circuit ok start.end start.state mid.state (alike by) begun (sym (complete_is now mid known drains is) ∙ ended)

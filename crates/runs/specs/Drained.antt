@@ -1,6 +1,8 @@
 -- A run's kernel out of which changes are taken.
-use Rattle.std.specs.Prelude.{◌≡◌, ℕ, ◌<◌, List, map, length}
+use Rattle.std.specs.Prelude.{◌≡◌, ℕ, ◌<◌, ◌==◌, ◌↔◌, Bool, false, List, map, length, Contains}
+use Rattle.std.specs.List.{list_any}
 use Rattle.logic3.specs.declared.value.Value.{Value}
+use Rattle.logic3.specs.Rising.{Rises}
 use Rattle.design.specs.Circuit.{Circuit}
 use Rattle.design.specs.Equations.{value_of}
 use Rattle.cmb_kernel.specs.State.{KernelView, floor_at}
@@ -20,3 +22,12 @@ pub record DrainsTo (start now : KernelView) : Type 0 where
 -- what the equations give each of these nets
 abbrev pub values_of : Circuit → List ℕ → List (ℕ → Value)
 values_of circuit nets = map (value_of circuit) nets
+
+-- a net is one of these
+abbrev pub is_among : List ℕ → ℕ → Bool
+is_among nets net = list_any (λ other. net == other) nets
+
+-- those of so many nets that aren't among these, rising
+pub record IsRest (count : ℕ) (nets rest : List ℕ) : Type 0 where
+  pub rising : Rises rest
+  pub others : (net : ℕ) → Contains rest net ↔ ((net < count) × (is_among nets net ≡ false))

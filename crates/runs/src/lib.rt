@@ -6,6 +6,7 @@ mod cone_run;
 mod draining;
 mod dumping;
 mod fault;
+mod hiding;
 pub mod laws;
 mod pace;
 mod plain_run;

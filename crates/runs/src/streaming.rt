@@ -8,16 +8,17 @@ ghost use Rattle.cmb_kernel.specs.Sound.{IsSound};
 ghost use Rattle.cmb_events.specs.Schedule.{most_events, Exists};
 ghost use Rattle.vcd_dump.specs.Dump.{dump_text};
 ghost use Rattle.vcd_dump.specs.Spans.{parts_of, span_text, stream_at};
-ghost use Rattle.runs.specs.Drained.{EachFloor, DrainsTo, values_of};
+ghost use Rattle.runs.specs.Drained.{EachFloor, DrainsTo, IsRest, values_of};
 ghost use Rattle.runs.specs.Ends.{BreaksOff};
 ghost use Rattle.runs.specs.Paces.{Suits};
 ghost use Rattle.runs.specs.Simulated.{report_of, reported, seen_run};
 ghost use Rattle.runs.specs.Source.{dump_of_design, signals_of};
 ghost use Rattle.runs.specs.declared.pace.Pace.TheVariants.{Rounds};
 
-use crate::draining::{drain_nets, forget_below};
+use crate::draining::{forget_below, give_parts};
 use crate::dumping::shown_nets;
 use crate::fault::SimFault;
+use crate::hiding::hidden_nets;
 use crate::pace::Pace;
 use crate::preparation::PreparedRun;
 use crate::simulation::{Report, RunKernel};
@@ -124,10 +125,21 @@ fn stream_to_end<W: Write>(
     ensures err { IfErr result (BreaksOff (W.contents out.old) (W.contents out.new)
         (dump_text unit run.now.horizon (signals_of run.now.design.circuit nets.now))) }
 {
+    let hidden = hidden_nets(alloc, run.design.nets(), nets)?;
+    let end = run.horizon.ticks() + 1;
     let mut stream = Stream::begin(alloc, out, &run.design, nets, run.horizon, unit)?;
     loop {
-        write_known(alloc, kernel, run, nets, &mut stream, out)?;
-        if kernel.is_complete() {
+        let known = kernel.least_frontier();
+        write_known(
+            alloc,
+            kernel,
+            nets,
+            hidden.as_slice(),
+            known,
+            &mut stream,
+            out,
+        )?;
+        if known == end {
             stream.finish(out)?;
             return Ok(());
         }
@@ -135,45 +147,44 @@ fn stream_to_end<W: Write>(
     }
 }
 
-/// Writes what every net knows and wasn't written yet, and forgets it.
+/// Writes what wasn't written yet of the ticks before one up to which every net is known, and forgets
+/// it; `hidden` are the nets that aren't shown.
 fn write_known<W: Write>(
     alloc: Global,
     kernel: &mut RunKernel<'_>,
-    run: &PreparedRun,
     nets: &[u32],
+    hidden: &[u32],
+    known: u64,
     stream: &mut Stream,
     out: &mut W,
 ) -> Result<(), SimFault>
     requires running { kernel.old.failed ≡ false }
     requires sound { IsSound kernel.old.circuit kernel.old.end kernel.old.state }
-    requires circuit { kernel.old.circuit ≡ run.now.design.circuit }
-    requires nets { All (λ net. net < length run.now.design.circuit) nets.now }
+    requires nets { All (λ net. net < length kernel.old.circuit) nets.now }
     requires once { AllPairs (λ (earlier later : ℕ). earlier ≢ later) nets.now }
+    requires hidden { IsRest (length kernel.old.circuit) nets.now hidden.now }
     requires floors { EachFloor kernel.old (λ floor. floor ≡ stream.old.written) }
-    requires ahead { stream.old.written ≤ least_frontier kernel.old.end kernel.old.state }
-    requires end { least_frontier kernel.old.end kernel.old.state ≤ stream.old.horizon + 1 }
+    requires ahead { stream.old.written ≤ known }
+    requires known { known ≤ least_frontier kernel.old.end kernel.old.state }
+    requires end { known ≤ stream.old.horizon + 1 }
     requires stream { stream.old ≡ stream_at (values_of kernel.old.circuit nets.now)
         stream.old.horizon stream.old.written }
     ensures drains { OnOk result (DrainsTo kernel.old kernel.new) }
-    ensures floors { OnOk result
-        (EachFloor kernel.new (λ floor. floor ≡ least_frontier kernel.old.end kernel.old.state)) }
+    ensures floors { OnOk result (EachFloor kernel.new (λ floor. floor ≡ known)) }
     ensures stream { OnOk result (stream.new ≡ stream_at (values_of kernel.old.circuit nets.now)
-        stream.old.horizon (least_frontier kernel.old.end kernel.old.state)) }
+        stream.old.horizon known) }
     ensures ok { OnOk result (Appends (W.contents out.old) (W.contents out.new)
-        (span_text stream.old.written (least_frontier kernel.old.end kernel.old.state)
-        (parts_of (values_of kernel.old.circuit nets.now)
-        stream.old.written (least_frontier kernel.old.end kernel.old.state)))) }
+        (span_text stream.old.written known
+        (parts_of (values_of kernel.old.circuit nets.now) stream.old.written known))) }
     ensures err { IfErr result (BreaksOff (W.contents out.old) (W.contents out.new)
-        (span_text stream.old.written (least_frontier kernel.old.end kernel.old.state)
-        (parts_of (values_of kernel.old.circuit nets.now)
-        stream.old.written (least_frontier kernel.old.end kernel.old.state)))) }
+        (span_text stream.old.written known
+        (parts_of (values_of kernel.old.circuit nets.now) stream.old.written known))) }
 {
-    let known = kernel.least_frontier();
     if stream.written() == known {
         return Ok(());
     }
-    let parts = drain_nets(alloc, kernel, nets, known)?;
-    forget_below(alloc, kernel, run.design.nets(), known)?;
-    stream.span(out, known, parts.as_slice())?;
+    give_parts(alloc, kernel, nets, known, stream)?;
+    forget_below(alloc, kernel, hidden, known)?;
+    stream.span(out, known)?;
     Ok(())
 }

@@ -1,13 +1,14 @@
-use Rattle.std.proofs.Common.{◌≡◌, ◌≢◌, ◌<◌, ◌+◌, ℕ, length, ap, ◌∙◌, arith, ◌⊎◌, inl, inr}
-use Rattle.cmb_kernel.specs.State.{KernelView, floor_at}
-use Rattle.runs.proofs.Drains.{IsDrain, DrainsTo-none, DrainsTo-trans, DrainsTo-drain, least_same, floor_after, EachFloor-drain}
+use Rattle.std.proofs.Common.{◌<◌, get_or, length, refl, ap, ◌∙◌, arith}
+use Rattle.cmb_kernel.specs.State.{KernelView}
+use Rattle.runs.proofs.Drains.{IsDrain, DrainsTo-none, DrainsTo-trans, DrainsTo-drain, least_same, EachFloor-drain, drained_more, stays_drained}
 use Rattle.runs.proofs.draining.forget_below.Goals as goal
 
 pub loop-net-init : goal.loop-net-init
 loop-net-init c = record {
   drains = DrainsTo-none c.args.kernel.now c.requires.sound;
   floors = c.requires.floors;
-  done = λ net below. absurd (omega arith);
+  drained = λ k d inside. absurd (omega (arith, inside));
+  stays = λ net drained. drained;
 }
 
 pub drain_below-requires-clause-known : goal.drain_below-requires-clause-known
@@ -18,7 +19,9 @@ drain_below-requires-clause-known c = λ _.
 pub loop-net-preserved : goal.loop-net-preserved
 loop-net-preserved c =
     let start = c.args.kernel.now in
-    let net = c.loop-net.net in
+    let i = c.loop-net.net-index in
+    let net = get_or c.args.nets.now i 0 in
+    let inside : i < length c.args.nets.now = omega arith in
     let so_far = c.loop-net.invariant in
     let runs = ap (λ (k : KernelView). k.failed) c.in_ok-drain_below.ensures.ok ∙ c.in_ok-drain_below.ensures.running in
     let drain : IsDrain c.loop-net.kernel c.drain_below.new.self net c.args.bound = record {
@@ -29,16 +32,6 @@ loop-net-preserved c =
     record {
       drains = DrainsTo-trans start c.loop-net.kernel c.drain_below.new.self so_far.drains (DrainsTo-drain drain);
       floors = EachFloor-drain drain so_far.floors;
-      done = λ other below. done_more c.loop-net.kernel c.drain_below.new.self net c.args.bound other below so_far.done (floor_after drain other);
+      drained = drained_more drain c.args.nets.now i inside refl so_far.drained;
+      stays = λ other before. stays_drained drain other (so_far.stays other before);
     }
-  where
-    done_more : (now next : KernelView) (net bound other : ℕ) → other < net + 1 → ((n : ℕ) → n < net → floor_at now.state n ≡ bound) →
-        ((other ≡ net) × (floor_at next.state other ≡ bound)) ⊎ ((other ≢ net) × (floor_at next.state other ≡ floor_at now.state other)) →
-        floor_at next.state other ≡ bound
-    done_more now next net bound other below done (inl (is, floor)) = floor
-    done_more now next net bound other below done (inr (apart, floor)) = floor ∙ done other (omega (arith, apart, below))
-
-pub returns-clause-floors : goal.returns-clause-floors
-returns-clause-floors c = λ net below.
-    let circuit = ap (λ (k : KernelView). length k.circuit) c.loop-net.invariant.drains.run in
-    c.loop-net.invariant.done net (omega (arith, below, circuit, c.requires.nets, c.loop-net-test.false))

@@ -5,13 +5,14 @@ use Rattle.std.proofs.lemmas.Result.{err_from_is_err_and}
 use Rattle.design.specs.Circuit.{Circuit, IsCircuit}
 use Rattle.design.specs.Equations.{value_of}
 use Rattle.design.proofs.CallerLemmas.{IsCircuit-from_IsDesign}
-use Rattle.cmb_kernel.specs.State.{KernelView, least_frontier}
+use Rattle.cmb_kernel.specs.State.{KernelView}
 use Rattle.vcd_dump.specs.Spans.{StreamView, begun, parts_of, span_text, stream_at}
 use Rattle.vcd_dump.proofs.CallerLemmas.{stream_at-begun}
 use Rattle.runs.specs.Drained.{values_of}
 use Rattle.runs.specs.Ends.{BreaksOff}
 use Rattle.runs.specs.declared.pace.Pace.TheVariants.{Rounds}
-use Rattle.runs.proofs.Streamed.{Streamed, same, led, suits_of, suits_still, streamed_begins, least_within, streamed_more, streamed_less, known_whole, counts_are}
+use Rattle.runs.proofs.Ends.{BreaksOff-memory}
+use Rattle.runs.proofs.Streamed.{Streamed, same, ahead_of, at_end, still_more, led, suits_of, suits_still, streamed_begins, least_within, streamed_more, streamed_less, counts_are}
 use Rattle.runs.proofs.Streams.{text_before, text_begins, breaks_at_first, goes_on, breaks_in_span, breaks_here, ends, breaks_at_end}
 use Rattle.runs.proofs.streaming.stream_to_end.Goals as goal
 
@@ -30,9 +31,14 @@ goes_at circuit now nets horizon stream next to same at goes =
     goes ∙ ap (λ c. stream_at (values_of c nets) stream.horizon to) same
     ∙ ap (λ h. stream_at (values_of circuit nets) h to) (ap (λ (s : StreamView). s.horizon) at)
 
+pub returns-in_err-hidden-clause-err : goal.returns-in_err-hidden-clause-err
+returns-in_err-hidden-clause-err g c =
+    let p = err_from_is_err_and c.from_residual.result c.from_residual.ensures.1 in
+    rw (p.1, p.2) (BreaksOff-memory _ _)
+
 pub returns-in_err-stream-clause-err : goal.returns-in_err-stream-clause-err
 returns-in_err-stream-clause-err g c =
-    let p = err_from_is_err_and c.from_residual.result c.from_residual.ensures.1 in
+    let p = err_from_is_err_and c.from_residual-in_err-stream.result c.from_residual-in_err-stream.ensures.1 in
     rw (p.1, p.2)
     (breaks_at_first c.args.unit c.args.run.now.horizon c.args.run.now.design.circuit c.args.nets.now (g.W.Write.contents c.args.out.now) (g.W.Write.contents c.begin.new.out) c.in_err-stream.field-0.0 c.in_err-stream.ensures.err)
 
@@ -61,7 +67,7 @@ pub write_known-requires-clause-end : goal.write_known-requires-clause-end
 write_known-requires-clause-end g c =
     let end = ap (λ (k : KernelView). k.end) c.loop-stream.invariant.streamed.run ∙ c.requires.end in
     let horizon = ap (λ (s : StreamView). s.horizon) c.loop-stream.invariant.stream in
-    omega (arith, end, horizon, least_within c.loop-stream.kernel)
+    omega (arith, end, horizon, least_within c.loop-stream.kernel, c.least_frontier-known.ensures)
 
 pub returns-in_err-write_known-clause-err : goal.returns-in_err-write_known-clause-err
 returns-in_err-write_known-clause-err g c =
@@ -69,73 +75,64 @@ returns-in_err-write_known-clause-err g c =
     let circuit = ap (λ (k : KernelView). k.circuit) c.loop-stream.invariant.streamed.run ∙ c.requires.circuit in
     let end = ap (λ (k : KernelView). k.end) c.loop-stream.invariant.streamed.run ∙ c.requires.end in
     let from = c.loop-stream.stream.written in
-    let to = least_frontier c.loop-stream.kernel.end c.loop-stream.kernel.state in
+    let to = c.least_frontier-known.result in
     rw (p.1, p.2)
     (breaks_in_span c.args.unit c.args.run.now.horizon c.args.run.now.design.circuit c.args.nets.now (g.W.Write.contents c.args.out.now) (g.W.Write.contents c.loop-stream.out) from c.loop-stream.invariant.text (g.W.Write.contents c.write_known.new.out) to c.in_err-write_known.field-0.0
-    c.loop-stream.invariant.streamed.ahead (omega (arith, end, least_within c.loop-stream.kernel))
+    (ahead_of c.loop-stream.invariant.streamed.ahead c.least_frontier-known.ensures) (omega (arith, end, least_within c.loop-stream.kernel, c.least_frontier-known.ensures))
     (subst (λ cs. BreaksOff (g.W.Write.contents c.loop-stream.out) (g.W.Write.contents c.write_known.new.out) (span_text from to (parts_of (values_of cs c.args.nets.now) from to)) c.in_err-write_known.field-0.0) circuit c.in_err-write_known.ensures.err))
 
 pub finish-requires : goal.finish-requires
 finish-requires g c = λ _.
     let inv = c.loop-stream.invariant in
     let circuit = ap (λ (k : KernelView). k.circuit) inv.streamed.run ∙ c.requires.circuit in
-    let end = ap (λ (k : KernelView). k.end) inv.streamed.run ∙ c.requires.end in
-    let ok = subst IsCircuit (sym c.requires.circuit) (IsCircuit-from_IsDesign c.args.run.now.design c.requires.well_formed) in
-    let complete = sym c.is_complete.ensures.complete ∙ c.if-is_complete.true in
-    let all = known_whole inv.streamed c.in_ok-write_known.ensures.drains c.in_ok-write_known.ensures.floors ok complete in
+    let all : c.least_frontier-known.result ≡ c.args.run.now.horizon + 1 = omega (arith, c.if-known-end.true, c.ticks-end.ensures.ticks) in
     let next = goes_at c.args.run.now.design.circuit c.loop-stream.kernel.circuit c.args.nets.now c.args.run.now.horizon c.loop-stream.stream
     c.write_known.new.stream _ circuit inv.stream c.in_ok-write_known.ensures.stream in
-    ap (λ (s : StreamView). s.written) next ∙ all ∙ end ∙ ap (λ n. n + 1) (sym (ap (λ (s : StreamView). s.horizon) next))
+    ap (λ (s : StreamView). s.written) next ∙ all ∙ ap (λ n. n + 1) (sym (ap (λ (s : StreamView). s.horizon) next))
 
 pub returns-in_err-finish-clause-err : goal.returns-in_err-finish-clause-err
 returns-in_err-finish-clause-err g c =
     let p = err_from_is_err_and c.from_residual-in_err-finish.result c.from_residual-in_err-finish.ensures.1 in
     let inv = c.loop-stream.invariant in
     let circuit = ap (λ (k : KernelView). k.circuit) inv.streamed.run ∙ c.requires.circuit in
-    let end = ap (λ (k : KernelView). k.end) inv.streamed.run ∙ c.requires.end in
-    let ok = subst IsCircuit (sym c.requires.circuit) (IsCircuit-from_IsDesign c.args.run.now.design c.requires.well_formed) in
-    let complete = sym c.is_complete.ensures.complete ∙ c.if-is_complete.true in
-    let all = known_whole inv.streamed c.in_ok-write_known.ensures.drains c.in_ok-write_known.ensures.floors ok complete in
+    let all : c.least_frontier-known.result ≡ c.args.run.now.horizon + 1 = omega (arith, c.if-known-end.true, c.ticks-end.ensures.ticks) in
     let next = goes_at c.args.run.now.design.circuit c.loop-stream.kernel.circuit c.args.nets.now c.args.run.now.horizon c.loop-stream.stream
     c.write_known.new.stream _ circuit inv.stream c.in_ok-write_known.ensures.stream in
     let from = c.loop-stream.stream.written in
-    let to = least_frontier c.loop-stream.kernel.end c.loop-stream.kernel.state in
-    let went = goes_on c.args.unit c.args.run.now.horizon c.args.run.now.design.circuit c.args.nets.now (g.W.Write.contents c.args.out.now) (g.W.Write.contents c.loop-stream.out) from inv.text (g.W.Write.contents c.write_known.new.out) to inv.streamed.ahead
+    let to = c.least_frontier-known.result in
+    let went = goes_on c.args.unit c.args.run.now.horizon c.args.run.now.design.circuit c.args.nets.now (g.W.Write.contents c.args.out.now) (g.W.Write.contents c.loop-stream.out) from inv.text (g.W.Write.contents c.write_known.new.out) to (ahead_of inv.streamed.ahead c.least_frontier-known.ensures)
     (subst (λ cs. Appends (g.W.Write.contents c.loop-stream.out) (g.W.Write.contents c.write_known.new.out) (span_text from to (parts_of (values_of cs c.args.nets.now) from to))) circuit c.in_ok-write_known.ensures.ok) in
     rw (p.1, p.2)
     (breaks_at_end c.args.unit c.args.run.now.horizon c.args.run.now.design.circuit c.args.nets.now (g.W.Write.contents c.args.out.now) (g.W.Write.contents c.write_known.new.out) to went (g.W.Write.contents c.finish.new.out) c.write_known.new.stream c.in_err-finish.field-0.0
-    (all ∙ end) next c.in_err-finish.ensures.err)
+    all next c.in_err-finish.ensures.err)
 
-pub returns-then-is_complete-clause-counts : goal.returns-then-is_complete-clause-counts
-returns-then-is_complete-clause-counts g c =
+pub returns-then-known-end-clause-counts : goal.returns-then-known-end-clause-counts
+returns-then-known-end-clause-counts g c =
     let ok = subst IsCircuit (sym c.requires.circuit) (IsCircuit-from_IsDesign c.args.run.now.design c.requires.well_formed) in
-    λ by. counts_are c.loop-stream.invariant.streamed c.in_ok-write_known.ensures.drains c.in_ok-write_known.ensures.floors ok by c.requires.sound
-    (sym c.is_complete.ensures.complete ∙ c.if-is_complete.true)
+    λ by. counts_are c.loop-stream.invariant.streamed c.in_ok-write_known.ensures.drains c.least_frontier-known.ensures c.in_ok-write_known.ensures.floors ok by c.requires.sound
+    (at_end (ap (λ (k : KernelView). k.end) c.loop-stream.invariant.streamed.run ∙ c.requires.end) c.ticks-end.ensures.ticks c.if-known-end.true)
 
-pub returns-then-is_complete-clause-ok : goal.returns-then-is_complete-clause-ok
-returns-then-is_complete-clause-ok g c =
+pub returns-then-known-end-clause-ok : goal.returns-then-known-end-clause-ok
+returns-then-known-end-clause-ok g c =
     let inv = c.loop-stream.invariant in
     let circuit = ap (λ (k : KernelView). k.circuit) inv.streamed.run ∙ c.requires.circuit in
-    let end = ap (λ (k : KernelView). k.end) inv.streamed.run ∙ c.requires.end in
-    let ok = subst IsCircuit (sym c.requires.circuit) (IsCircuit-from_IsDesign c.args.run.now.design c.requires.well_formed) in
-    let complete = sym c.is_complete.ensures.complete ∙ c.if-is_complete.true in
-    let all = known_whole inv.streamed c.in_ok-write_known.ensures.drains c.in_ok-write_known.ensures.floors ok complete in
+    let all : c.least_frontier-known.result ≡ c.args.run.now.horizon + 1 = omega (arith, c.if-known-end.true, c.ticks-end.ensures.ticks) in
     let next = goes_at c.args.run.now.design.circuit c.loop-stream.kernel.circuit c.args.nets.now c.args.run.now.horizon c.loop-stream.stream
     c.write_known.new.stream _ circuit inv.stream c.in_ok-write_known.ensures.stream in
     let from = c.loop-stream.stream.written in
-    let to = least_frontier c.loop-stream.kernel.end c.loop-stream.kernel.state in
-    let went = goes_on c.args.unit c.args.run.now.horizon c.args.run.now.design.circuit c.args.nets.now (g.W.Write.contents c.args.out.now) (g.W.Write.contents c.loop-stream.out) from inv.text (g.W.Write.contents c.write_known.new.out) to inv.streamed.ahead
+    let to = c.least_frontier-known.result in
+    let went = goes_on c.args.unit c.args.run.now.horizon c.args.run.now.design.circuit c.args.nets.now (g.W.Write.contents c.args.out.now) (g.W.Write.contents c.loop-stream.out) from inv.text (g.W.Write.contents c.write_known.new.out) to (ahead_of inv.streamed.ahead c.least_frontier-known.ensures)
     (subst (λ cs. Appends (g.W.Write.contents c.loop-stream.out) (g.W.Write.contents c.write_known.new.out) (span_text from to (parts_of (values_of cs c.args.nets.now) from to))) circuit c.in_ok-write_known.ensures.ok) in
     ends c.args.unit c.args.run.now.horizon c.args.run.now.design.circuit c.args.nets.now (g.W.Write.contents c.args.out.now) (g.W.Write.contents c.write_known.new.out) to went (g.W.Write.contents c.finish.new.out) c.write_known.new.stream
-    (all ∙ end) next c.in_ok-finish.ensures.ok
+    all next c.in_ok-finish.ensures.ok
 
 pub loop-stream-smaller : goal.loop-stream-smaller
 loop-stream-smaller g c =
     let inv = c.loop-stream.invariant in
     let ok = subst IsCircuit (sym c.requires.circuit) (IsCircuit-from_IsDesign c.args.run.now.design c.requires.well_formed) in
     let drains = c.in_ok-write_known.ensures.drains in
-    streamed_less inv.streamed drains c.in_ok-write_known.ensures.floors ok c.go_on.new.kernel c.in_ok-go_on.ensures.goes
-    c.in_ok-go_on.ensures.sound c.in_ok-go_on.ensures.raises (sym c.is_complete.ensures.complete ∙ c.if-is_complete.false)
+    streamed_less inv.streamed drains c.least_frontier-known.ensures c.in_ok-write_known.ensures.floors ok c.go_on.new.kernel c.in_ok-go_on.ensures.goes
+    c.in_ok-go_on.ensures.sound c.in_ok-go_on.ensures.raises (still_more (ap (λ (k : KernelView). k.end) c.loop-stream.invariant.streamed.run ∙ c.requires.end) c.ticks-end.ensures.ticks c.if-known-end.false)
 
 pub loop-stream-preserved : goal.loop-stream-preserved
 loop-stream-preserved g c =
@@ -147,14 +144,14 @@ loop-stream-preserved g c =
     let next = goes_at c.args.run.now.design.circuit c.loop-stream.kernel.circuit c.args.nets.now c.args.run.now.horizon c.loop-stream.stream
     c.write_known.new.stream _ circuit inv.stream c.in_ok-write_known.ensures.stream in
     let from = c.loop-stream.stream.written in
-    let to = least_frontier c.loop-stream.kernel.end c.loop-stream.kernel.state in
+    let to = c.least_frontier-known.result in
     let written : c.write_known.new.stream.written ≡ to = ap (λ (s : StreamView). s.written) next in
-    let went = goes_on c.args.unit c.args.run.now.horizon c.args.run.now.design.circuit c.args.nets.now (g.W.Write.contents c.args.out.now) (g.W.Write.contents c.loop-stream.out) from inv.text (g.W.Write.contents c.write_known.new.out) to inv.streamed.ahead
+    let went = goes_on c.args.unit c.args.run.now.horizon c.args.run.now.design.circuit c.args.nets.now (g.W.Write.contents c.args.out.now) (g.W.Write.contents c.loop-stream.out) from inv.text (g.W.Write.contents c.write_known.new.out) to (ahead_of inv.streamed.ahead c.least_frontier-known.ensures)
     (subst (λ cs. Appends (g.W.Write.contents c.loop-stream.out) (g.W.Write.contents c.write_known.new.out) (span_text from to (parts_of (values_of cs c.args.nets.now) from to))) circuit c.in_ok-write_known.ensures.ok) in
     record {
       streamed = subst (Streamed (c.args.pace.now ≡ Rounds) start c.go_on.new.kernel) (sym written)
-          (streamed_more inv.streamed drains c.in_ok-write_known.ensures.floors ok c.go_on.new.kernel c.in_ok-go_on.ensures.goes
-          c.in_ok-go_on.ensures.sound c.in_ok-go_on.ensures.raises (sym c.is_complete.ensures.complete ∙ c.if-is_complete.false)
+          (streamed_more inv.streamed drains c.least_frontier-known.ensures c.in_ok-write_known.ensures.floors ok c.go_on.new.kernel c.in_ok-go_on.ensures.goes
+          c.in_ok-go_on.ensures.sound c.in_ok-go_on.ensures.raises (still_more (ap (λ (k : KernelView). k.end) c.loop-stream.invariant.streamed.run ∙ c.requires.end) c.ticks-end.ensures.ticks c.if-known-end.false)
           (λ by. c.in_ok-go_on.ensures.rounds (inv.same by)) c.in_ok-go_on.ensures.floors);
       same = λ by. c.go_on.ensures.same (inv.same by);
       suits = suits_still c.go_on.new.self c.args.run.now.design.circuit (c.args.run.now.horizon + 1) c.args.kernel.now c.go_on.new.kernel
@@ -170,9 +167,9 @@ returns-in_err-go_on-clause-err g c =
     let circuit = ap (λ (k : KernelView). k.circuit) inv.streamed.run ∙ c.requires.circuit in
     let end = ap (λ (k : KernelView). k.end) inv.streamed.run ∙ c.requires.end in
     let from = c.loop-stream.stream.written in
-    let to = least_frontier c.loop-stream.kernel.end c.loop-stream.kernel.state in
-    let went = goes_on c.args.unit c.args.run.now.horizon c.args.run.now.design.circuit c.args.nets.now (g.W.Write.contents c.args.out.now) (g.W.Write.contents c.loop-stream.out) from inv.text (g.W.Write.contents c.write_known.new.out) to inv.streamed.ahead
+    let to = c.least_frontier-known.result in
+    let went = goes_on c.args.unit c.args.run.now.horizon c.args.run.now.design.circuit c.args.nets.now (g.W.Write.contents c.args.out.now) (g.W.Write.contents c.loop-stream.out) from inv.text (g.W.Write.contents c.write_known.new.out) to (ahead_of inv.streamed.ahead c.least_frontier-known.ensures)
     (subst (λ cs. Appends (g.W.Write.contents c.loop-stream.out) (g.W.Write.contents c.write_known.new.out) (span_text from to (parts_of (values_of cs c.args.nets.now) from to))) circuit c.in_ok-write_known.ensures.ok) in
     rw (p.1, p.2)
     (breaks_here c.args.unit c.args.run.now.horizon c.args.run.now.design.circuit c.args.nets.now (g.W.Write.contents c.args.out.now) (g.W.Write.contents c.write_known.new.out) to went
-    (omega (arith, end, least_within c.loop-stream.kernel)))
+    (omega (arith, end, least_within c.loop-stream.kernel, c.least_frontier-known.ensures)))

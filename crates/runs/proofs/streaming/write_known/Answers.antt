@@ -1,68 +1,91 @@
-use Rattle.std.proofs.Common.{◌≡◌, ◌<◌, map, ap, sym, subst, ◌∙◌, arith}
+use Rattle.std.proofs.Common.{◌≡◌, ◌<◌, length, All, ap, sym, subst, ◌∙◌, arith, ⊎_elim}
 use Rattle.std.specs.Io.KnownBytes.{Appends}
+use Rattle.std.proofs.lemmas.List.{length-map}
+use Rattle.std.proofs.lemmas.List.Elements.{All-contains}
 use Rattle.std.proofs.lemmas.Result.{err_from_is_err_and}
-use Rattle.cmb_kernel.specs.State.{least_frontier}
+use Rattle.design.specs.Equations.{value_of}
+use Rattle.cmb_kernel.specs.State.{KernelView, floor_at}
 use Rattle.vcd_dump.specs.Bytes.{AppendsPrefix}
-use Rattle.vcd_dump.specs.Spans.{CanSpan, parts_of, span_text, spanned, stream_at}
-use Rattle.vcd_dump.proofs.CallerLemmas.{stream_at-can, stream_at-spanned}
+use Rattle.vcd_dump.specs.Spans.{StreamView, CanSpan, lines_text, parts_of, span_text, spanned, stream_at, with_parts}
+use Rattle.vcd_dump.proofs.CallerLemmas.{stream_at-can, stream_at-spanned, with_parts-none}
 use Rattle.runs.specs.Drained.{values_of}
-use Rattle.runs.proofs.Drains.{least_same}
+use Rattle.runs.proofs.Drains.{DrainsTo-trans, least_same}
 use Rattle.runs.proofs.Ends.{BreaksOff-dump}
+use Rattle.runs.proofs.Others.{IsRest-below, among_or_rest}
 use Rattle.runs.proofs.Streamed.{parts_are}
 use Rattle.runs.proofs.streaming.write_known.Given.{Over}
 use Rattle.runs.proofs.streaming.write_known.Goals as goal
-use Rattle.runs.proofs.streaming.write_known.Goals.{After-as_slice}
+use Rattle.runs.proofs.streaming.write_known.Goals.{In_ok-give_parts}
+
+pub give_parts-requires-clause-floors : goal.give_parts-requires-clause-floors
+give_parts-requires-clause-floors g c = λ net below. omega (arith, c.requires.floors net below, c.requires.ahead)
+
+pub give_parts-requires-clause-streams : goal.give_parts-requires-clause-streams
+give_parts-requires-clause-streams g c = ap (λ (s : StreamView). s.failed) c.requires.stream
+
+pub give_parts-requires-clause-each : goal.give_parts-requires-clause-each
+give_parts-requires-clause-each g c =
+    sym (ap (λ (s : StreamView). s.nets) c.requires.stream
+    ∙ length-map c.args.nets.now (value_of c.args.kernel.now.circuit))
+
+pub give_parts-requires-clause-none_yet : goal.give_parts-requires-clause-none_yet
+give_parts-requires-clause-none_yet g c =
+    with_parts-none c.args.stream.now (ap (λ (s : StreamView). s.given) c.requires.stream) (ap (λ (s : StreamView). s.lines) c.requires.stream)
+
+-- the stream was given the changes since it was written
+given_is : (g : Over) (c : In_ok-give_parts g) → c.give_parts.new.stream
+    ≡ with_parts (stream_at (values_of c.args.kernel.now.circuit c.args.nets.now) c.args.stream.now.horizon c.args.stream.now.written)
+    (parts_of (values_of c.args.kernel.now.circuit c.args.nets.now) c.args.stream.now.written c.args.known)
+given_is g c =
+    let parts = parts_are c.args.kernel.now c.args.stream.now.written c.args.known c.requires.floors c.args.nets.now c.requires.nets in
+    c.in_ok-give_parts.ensures.stream ∙ (λ i. with_parts (c.requires.stream i) (parts i))
+
+pub forget_below-requires-clause-nets : goal.forget_below-requires-clause-nets
+forget_below-requires-clause-nets g c =
+    subst (λ circuit. All (λ net. net < length circuit) c.args.hidden.now) (sym (ap (λ (k : KernelView). k.circuit) c.in_ok-give_parts.ensures.drains.run))
+    (IsRest-below (length c.args.kernel.now.circuit) c.args.nets.now c.args.hidden.now c.requires.hidden)
 
 pub forget_below-requires-clause-known : goal.forget_below-requires-clause-known
 forget_below-requires-clause-known g c =
-    omega (arith, c.least_frontier-known.ensures, least_same c.args.kernel.now c.drain_nets.new.kernel c.in_ok-parts.ensures.drains)
-
--- the parts are the changes since the stream was written
-parts_is : (g : Over) (c : After-as_slice g) → map (λ (v : _). v.items) c.as_slice.result.now
-    ≡ parts_of (values_of c.args.kernel.now.circuit c.args.nets.now) c.args.stream.now.written c.least_frontier-known.result
-parts_is g c =
-    ap (map (λ (v : _). v.items)) c.as_slice.ensures.value ∙ c.in_ok-parts.ensures.parts
-    ∙ parts_are c.args.kernel.now c.args.stream.now.written c.least_frontier-known.result c.requires.floors c.args.nets.now
-    (rw c.requires.circuit c.requires.nets)
-
-newer : (g : Over) (c : After-as_slice g) → c.args.stream.now.written < c.least_frontier-known.result
-newer g c = omega (arith, c.requires.ahead, c.least_frontier-known.ensures, c.written.ensures, c.if-written-known.false)
+    omega (arith, c.requires.known, least_same c.args.kernel.now c.give_parts.new.kernel c.in_ok-give_parts.ensures.drains)
 
 pub span-requires : goal.span-requires
 span-requires g c = λ running.
     let values = values_of c.args.kernel.now.circuit c.args.nets.now in
-    let can = stream_at-can values c.args.stream.now.horizon c.args.stream.now.written c.least_frontier-known.result (newer g c)
-    (omega (arith, c.requires.end, c.least_frontier-known.ensures)) in
-    subst (λ stream. CanSpan stream c.least_frontier-known.result (map (λ (v : _). v.items) c.as_slice.result.now)) (sym c.requires.stream)
-    (subst (CanSpan (stream_at values c.args.stream.now.horizon c.args.stream.now.written) c.least_frontier-known.result) (sym (parts_is g c)) can)
+    let newer : c.args.stream.now.written < c.args.known = omega (arith, c.requires.ahead, c.written.ensures, c.if-written-known.false) in
+    subst (λ (s : StreamView). CanSpan s c.args.known) (sym (given_is g (goal.at.span-requires g c).In_ok-give_parts))
+    (stream_at-can values c.args.stream.now.horizon c.args.stream.now.written c.args.known newer c.requires.end)
 
-text_is : (g : Over) (c : After-as_slice g) →
-    span_text c.args.stream.now.written c.least_frontier-known.result (map (λ (v : _). v.items) c.as_slice.result.now)
-    ≡ span_text c.args.stream.now.written (least_frontier c.args.kernel.now.end c.args.kernel.now.state)
-    (parts_of (values_of c.args.kernel.now.circuit c.args.nets.now) c.args.stream.now.written (least_frontier c.args.kernel.now.end c.args.kernel.now.state))
-text_is g c =
-    ap (span_text c.args.stream.now.written c.least_frontier-known.result) (parts_is g c)
-    ∙ ap (λ to. span_text c.args.stream.now.written to (parts_of (values_of c.args.kernel.now.circuit c.args.nets.now) c.args.stream.now.written to))
-    c.least_frontier-known.ensures
+text_is : (g : Over) (c : In_ok-give_parts g) →
+    lines_text c.give_parts.new.stream.written c.args.known c.give_parts.new.stream.lines
+    ≡ span_text c.args.stream.now.written c.args.known
+    (parts_of (values_of c.args.kernel.now.circuit c.args.nets.now) c.args.stream.now.written c.args.known)
+text_is g c = ap (λ (s : StreamView). lines_text s.written c.args.known s.lines) (given_is g c)
 
 pub returns-in_err-span-clause-err : goal.returns-in_err-span-clause-err
 returns-in_err-span-clause-err g c =
-    let at = (goal.at.returns-in_err-span-clause-err g c).After-as_slice in
     let p = err_from_is_err_and c.from_residual-in_err-span.result c.from_residual-in_err-span.ensures.1 in
-    rw (p.1, p.2) (BreaksOff-dump _ _ _ _ (subst (AppendsPrefix _ _) (text_is g at) c.in_err-span.ensures.err))
+    rw (p.1, p.2) (BreaksOff-dump _ _ _ _ (subst (AppendsPrefix _ _) (text_is g (goal.at.returns-in_err-span-clause-err g c).In_ok-give_parts) c.in_err-span.ensures.err))
+
+pub returns-clause-drains : goal.returns-clause-drains
+returns-clause-drains g c =
+    DrainsTo-trans c.args.kernel.now c.give_parts.new.kernel c.forget_below.new.kernel c.in_ok-give_parts.ensures.drains c.in_ok-forget_below.ensures.drains
+
+pub returns-clause-floors : goal.returns-clause-floors
+returns-clause-floors g c = λ net below.
+    let circuit = ap (λ (k : KernelView). length k.circuit) c.in_ok-forget_below.ensures.drains.run
+    ∙ ap (λ (k : KernelView). length k.circuit) c.in_ok-give_parts.ensures.drains.run in
+    ⊎_elim
+    (λ shown. c.in_ok-forget_below.ensures.stays net
+    (All-contains (λ n. floor_at c.give_parts.new.kernel.state n ≡ c.args.known) c.args.nets.now net c.in_ok-give_parts.ensures.drained shown))
+    (λ hidden. All-contains (λ n. floor_at c.forget_below.new.kernel.state n ≡ c.args.known) c.args.hidden.now net c.in_ok-forget_below.ensures.drained hidden)
+    (among_or_rest (length c.args.kernel.now.circuit) c.args.nets.now c.args.hidden.now c.requires.hidden net (omega (arith, below, circuit)))
 
 pub returns-clause-stream : goal.returns-clause-stream
 returns-clause-stream g c =
-    let at = (goal.at.returns-clause-stream g c).After-as_slice in
     let values = values_of c.args.kernel.now.circuit c.args.nets.now in
-    let from = c.args.stream.now.written in
-    let to = c.least_frontier-known.result in
-    let later = newer g at in
-    c.in_ok-span.ensures.stream ∙ ap (spanned c.args.stream.now to) (parts_is g at)
-    ∙ ap (λ stream. spanned stream to (parts_of values from to)) c.requires.stream
-    ∙ stream_at-spanned values c.args.stream.now.horizon from to (omega arith)
-    ∙ ap (stream_at values c.args.stream.now.horizon) c.least_frontier-known.ensures
+    c.in_ok-span.ensures.stream ∙ ap (λ s. spanned s c.args.known) (given_is g (goal.at.returns-clause-stream g c).In_ok-give_parts)
+    ∙ stream_at-spanned values c.args.stream.now.horizon c.args.stream.now.written c.args.known c.requires.ahead
 
 pub returns-clause-ok : goal.returns-clause-ok
-returns-clause-ok g c =
-    let at = (goal.at.returns-clause-ok g c).After-as_slice in subst (Appends _ _) (text_is g at) c.in_ok-span.ensures.ok
+returns-clause-ok g c = subst (Appends _ _) (text_is g (goal.at.returns-clause-ok g c).In_ok-give_parts) c.in_ok-span.ensures.ok
