@@ -11,6 +11,7 @@ use Rattle.vcd_dump.proofs.CallerLemmas.{stream_at-begun}
 use Rattle.runs.specs.Drained.{values_of}
 use Rattle.runs.specs.Ends.{BreaksOff}
 use Rattle.runs.specs.declared.pace.Pace.TheVariants.{Rounds}
+use Rattle.runs.proofs.Drains.{least_same}
 use Rattle.runs.proofs.Ends.{BreaksOff-memory}
 use Rattle.runs.proofs.Streamed.{Streamed, same, ahead_of, at_end, still_more, led, suits_of, suits_still, streamed_begins, least_within, streamed_more, streamed_less, counts_are}
 use Rattle.runs.proofs.Streams.{text_before, text_begins, breaks_at_first, goes_on, breaks_in_span, breaks_here, ends, breaks_at_end}
@@ -62,6 +63,10 @@ go_on-requires-clause-suits g c =
     let inv = c.loop-stream.invariant in
     suits_of c.loop-stream.pace c.args.run.now.design.circuit (c.args.run.now.horizon + 1) c.args.kernel.now c.write_known.new.kernel
     (same inv.streamed c.in_ok-write_known.ensures.drains) c.requires.circuit c.requires.end inv.suits
+
+pub go_on-requires-clause-known : goal.go_on-requires-clause-known
+go_on-requires-clause-known g c =
+    c.least_frontier-known.ensures ∙ sym (least_same c.loop-stream.kernel c.write_known.new.kernel c.in_ok-write_known.ensures.drains)
 
 pub write_known-requires-clause-end : goal.write_known-requires-clause-end
 write_known-requires-clause-end g c =

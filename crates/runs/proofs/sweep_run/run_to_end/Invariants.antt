@@ -5,13 +5,13 @@ use Rattle.cmb_kernel.specs.Sound.{IsSound}
 use Rattle.runs.specs.Paces.{Suits}
 use Rattle.runs.proofs.sweep_run.run_to_end.Given as goal
 
-abbrev pub invariant-loop-pace : goal.invariant-loop-pace
-invariant-loop-pace l = record {
+abbrev pub invariant-loop-kernel : goal.invariant-loop-kernel
+invariant-loop-kernel l = record {
   goes : l.kernel ≡ record l.fn.kernel { state = l.kernel.state };
   sound : IsSound l.kernel.circuit l.kernel.end l.kernel.state;
   undrained : IsUndrained l.kernel.state;
   suits : Suits l.pace l.kernel.circuit l.kernel.end;
 }
 
-abbrev pub decreases-loop-pace : goal.decreases-loop-pace
-decreases-loop-pace l = l.kernel.end - least_frontier l.kernel.end l.kernel.state
+abbrev pub decreases-loop-kernel : goal.decreases-loop-kernel
+decreases-loop-kernel l = l.kernel.end - least_frontier l.kernel.end l.kernel.state
