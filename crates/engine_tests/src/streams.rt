@@ -1,7 +1,7 @@
 //! Streams by direct calls: the text after each span, wherever the spans are cut, and what is left of
 //! a stream after a fault.
-ghost use Rattle.std.specs.Prelude.{◌≡◌, false, true, IfOk, OnErr};
-ghost use Rattle.vcd_dump.specs.Spans.{IsPart};
+ghost use Rattle.std.specs.Prelude.{◌≡◌, ◌+◌, ◌<◌, ◌≤◌, [], ◌∷◌, false, true, IfOk, OnOk, OnErr};
+ghost use Rattle.vcd_dump.specs.Spans.{with_parts, spanned, IsPart};
 
 use crate::circuits::INVERTER;
 use Value::{One, Zero};
@@ -41,12 +41,39 @@ fn part(
 // A span up to a tick, the changes of both nets in it, and how many bytes went out by its end.
 type Span = (u64, [&'static [Change]; 2], usize);
 
-// A stream of two nets up to tick 5.
+// What a stream of two nets answers that is given the changes of both, and then writes them.
+fn write_both<W: Write>(
+    stream: &mut Stream,
+    out: &mut W,
+    upto: u64,
+    first: &[Change],
+    second: &[Change],
+) -> Result<(), DumpFault>
+    requires shows { stream.old.failed ≡ false → stream.old.nets ≡ 2 }
+    requires none_given { stream.old.failed ≡ false → stream.old.given ≡ 0 }
+    requires no_lines { stream.old.failed ≡ false → stream.old.lines ≡ [] }
+    requires ahead { stream.old.written < upto }
+    requires within { stream.old.failed ≡ false → upto ≤ stream.old.horizon + 1 }
+    requires first { IsPart stream.old.written upto first.now }
+    requires second { IsPart stream.old.written upto second.now }
+    ensures stream { OnOk result
+        (stream.new ≡ spanned (with_parts stream.old (first.now ∷ second.now ∷ [])) upto) }
+    ensures running { OnOk result (stream.old.failed ≡ false) }
+    ensures fails { OnErr result (stream.new.failed ≡ true) }
+{
+    stream.part(first)?;
+    stream.part(second)?;
+    stream.span(out, upto)
+}
+
+// A stream of two nets up to tick 5, between two spans.
 #[derive(Drop)]
 struct Pair {
     stream: Stream,
     ghost shows: { stream.failed ≡ false → stream.nets ≡ 2 },
     ghost ends: { stream.failed ≡ false → stream.horizon ≡ 5 },
+    ghost none_given: { stream.failed ≡ false → stream.given ≡ 0 },
+    ghost no_lines: { stream.failed ≡ false → stream.lines ≡ [] },
 }
 
 impl Pair {
@@ -80,11 +107,15 @@ impl Pair {
         let from = self.stream.written();
         assert!(rt; from < upto);
         assert!(rt; upto <= 6);
-        let parts = [
-            part(rt, alloc, from, upto, first)?,
-            part(rt, alloc, from, upto, second)?,
-        ];
-        Ok(self.stream.span(out, upto, &parts))
+        let first = part(rt, alloc, from, upto, first)?;
+        let second = part(rt, alloc, from, upto, second)?;
+        Ok(write_both(
+            &mut self.stream,
+            out,
+            upto,
+            first.as_slice(),
+            second.as_slice(),
+        ))
     }
 
     // What the end answers, of a stream that wrote all spans.
