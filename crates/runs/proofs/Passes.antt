@@ -1,18 +1,16 @@
 -- A pass over the segments of an order: each net comes the least delay farther, or to the end.
-use Rattle.std.proofs.Common.{◌≡◌, ℕ, ◌+◌, ◌-◌, ◌<◌, ◌≤◌, min, List, [], ◌∷◌, ◌++◌, take, drop, length, get_or, suc, refl, ap, sym, subst, ◌∙◌, arith, drop-cons, drop_of_length-le, take-add}
+use Rattle.std.proofs.Common.{◌≡◌, ℕ, ◌+◌, ◌-◌, ◌<◌, ◌≤◌, min, List, take, drop, length, get_or, suc, refl, ap, sym, subst, ◌∙◌, arith, drop-cons, drop_of_length-le, take-add}
 use Rattle.std.specs.List.{All}
 use Rattle.std.proofs.lemmas.List.{take_all}
-use Rattle.std.proofs.lemmas.List.Elements.{All-append, All-nil}
+use Rattle.std.proofs.lemmas.List.Elements.{All-append}
 use Rattle.design.specs.Circuit.{Circuit}
 use Rattle.design.specs.Segments.{IsSegment, LieBetween}
 use Rattle.design.specs.declared.segments.Segment.{Segment}
-use Rattle.cmb_kernel.specs.State.{KernelView, State, floor_at, frontier_at, least_delay, least_frontier}
+use Rattle.cmb_kernel.specs.State.{KernelView, State, frontier_at, least_delay, least_frontier}
 use Rattle.cmb_kernel.specs.Sound.{IsSound}
 use Rattle.cmb_kernel.specs.Sweeps.{AllKnow, HoldsAll}
-use Rattle.cmb_kernel.specs.Useful.{NoneFalls}
 use Rattle.cmb_kernel.proofs.CallerLemmas.{least_frontier-le, least_frontier_greatest, of_contained}
 use Rattle.runs.specs.Paces.{AllFarther, GoesOn}
-use Rattle.runs.proofs.Streamed.{least_within}
 
 -- ---- a run goes on
 
