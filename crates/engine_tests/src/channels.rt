@@ -175,20 +175,22 @@ fn one_log(rt: HostRuntime) -> Result<(), Fail> {
     keep(&rt, rt.alloc(), &design)
 }
 
+fn follow_both(
+    rt: &impl Abort,
+    alloc: Global,
+    bench: &[u8],
+    joined: (u32, u32),
+    steps: &[Step],
+) -> Result<(), Fail> {
+    let design = built(alloc, bench, b"", b"", 10)?;
+    follows::<Queues>(rt, alloc, &design, joined, steps)?;
+    follows::<Logs>(rt, alloc, &design, joined, steps)
+}
+
 #[test]
 fn steps_of_channels(rt: HostRuntime) -> Result<(), Fail> {
+    let two_pins = b"INPUT(a)\ny = XOR(a, a)\n";
+    follow_both(&rt, rt.alloc(), two_pins, (2, 2), &AT_TWO_PINS)?;
     let two_gates = b"INPUT(a)\nINPUT(b)\ny = AND(b, a)\nz = NOT(a)\n";
-    for (bench, joined, steps) in [
-        (
-            b"INPUT(a)\ny = XOR(a, a)\n".as_slice(),
-            (2, 2),
-            AT_TWO_PINS.as_slice(),
-        ),
-        (two_gates.as_slice(), (4, 3), AT_TWO_GATES.as_slice()),
-    ] {
-        let design = built(rt.alloc(), bench, b"", b"", 10)?;
-        follows::<Queues>(&rt, rt.alloc(), &design, joined, steps)?;
-        follows::<Logs>(&rt, rt.alloc(), &design, joined, steps)?;
-    }
-    Ok(())
+    follow_both(&rt, rt.alloc(), two_gates, (4, 3), &AT_TWO_GATES)
 }

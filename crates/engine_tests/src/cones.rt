@@ -134,19 +134,24 @@ fn design_has_cone(
     Ok(())
 }
 
-// The cone of G12 goes through the flip-flop G7, and round its loop with G13.
+// Nets of S27, and the cone of each. That of G12 goes through the flip-flop G7, and round its loop
+// with G13.
+static IN_S27: [(&[u8], &[u32]); 4] = [
+    (b"G0", &[0]),
+    (b"G12", &[1, 2, 6, 15, 16]),
+    (b"G14", &[0, 7]),
+    (
+        b"G17",
+        &[0, 1, 2, 3, 4, 5, 6, 7, 8, 9, 10, 11, 12, 13, 14, 15, 16],
+    ),
+];
+
 #[test]
 fn worked_cones(rt: HostRuntime) -> Result<(), Fail> {
-    let all = [0, 1, 2, 3, 4, 5, 6, 7, 8, 9, 10, 11, 12, 13, 14, 15, 16];
-    for (circuit, name, nets) in [
-        (FIRST, b"y".as_slice(), [0, 1].as_slice()),
-        (FIRST, b"z".as_slice(), [0, 2, 3].as_slice()),
-        (S27, b"G0".as_slice(), [0].as_slice()),
-        (S27, b"G12".as_slice(), [1, 2, 6, 15, 16].as_slice()),
-        (S27, b"G14".as_slice(), [0, 7].as_slice()),
-        (S27, b"G17".as_slice(), all.as_slice()),
-    ] {
-        has_cone(&rt, rt.alloc(), circuit, name, nets)?;
+    has_cone(&rt, rt.alloc(), FIRST, b"y", &[0, 1])?;
+    has_cone(&rt, rt.alloc(), FIRST, b"z", &[0, 2, 3])?;
+    for &(name, nets) in &IN_S27 {
+        has_cone(&rt, rt.alloc(), S27, name, nets)?;
     }
     Ok(())
 }

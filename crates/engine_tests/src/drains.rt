@@ -11,7 +11,7 @@ use cmb_channels::{Fabric, Logs, Queues};
 use cmb_kernel::Kernel;
 use design::{Design, plain_waves};
 use logic3::{Change, Value, Waveform};
-use std::alloc::Global;
+use std::alloc::{AllocError, Global};
 use std::process::Abort;
 use std::test::Fail;
 use timing_text::Horizon;
@@ -168,17 +168,22 @@ fn follows<F: Fabric>(
     Ok(())
 }
 
+fn follow_both(
+    rt: &impl Abort,
+    alloc: Global,
+    circuit: Circuit,
+    horizon: u64,
+    steps: &[Step],
+) -> Result<(), Fail> {
+    let design = circuit.build(alloc)?;
+    follows::<Queues>(rt, alloc, &design, horizon, steps)?;
+    follows::<Logs>(rt, alloc, &design, horizon, steps)
+}
+
 #[test]
 fn drained_step_by_step(rt: HostRuntime) -> Result<(), Fail> {
-    for (circuit, horizon, steps) in [
-        (INVERTER, 5, IN_INVERTER.as_slice()),
-        (RING_COUNTER, 10, IN_RING_COUNTER.as_slice()),
-    ] {
-        let design = circuit.build(rt.alloc())?;
-        follows::<Queues>(&rt, rt.alloc(), &design, horizon, steps)?;
-        follows::<Logs>(&rt, rt.alloc(), &design, horizon, steps)?;
-    }
-    Ok(())
+    follow_both(&rt, rt.alloc(), INVERTER, 5, &IN_INVERTER)?;
+    follow_both(&rt, rt.alloc(), RING_COUNTER, 10, &IN_RING_COUNTER)
 }
 
 // What is taken out of the net in so many rounds.
@@ -198,23 +203,35 @@ fn taken<F: Fabric>(
     Ok(taken)
 }
 
-// The changes taken out in so many rounds, and those left when the run is complete, are the whole
-// waveform of the net; what is left begins where the last drain ended.
-fn adds_up<F: Fabric>(
+// Completes the run, and adds the changes that are left to those that were taken out; what is left
+// begins where the last drain ended.
+fn add_rest<F: Fabric>(
     rt: &impl Abort,
-    alloc: Global,
-    mut run: Run<F>,
+    run: &mut Run<F>,
     net: u32,
-    rounds: u64,
-    whole: &Waveform,
+    changes: &mut Vec<Change>,
 ) -> Result<(), Fail> {
-    let mut changes = taken(rt, alloc, &mut run, net, rounds)?;
     let floor = run.kernel(rt, net).least_frontier();
     let before = changes.last().map_or(Unknown, |change| change.value);
     run.complete()?;
     let left = run.kernel(rt, net).waveform(net).changes();
     run.keeps(rt, net, floor, before, left);
     changes.extend_from_slice(left)?;
+    Ok(())
+}
+
+// The changes taken out in so many rounds, and those left when the run is complete, are the whole
+// waveform of the net.
+fn adds_up<F: Fabric>(
+    rt: &impl Abort,
+    alloc: Global,
+    run: &mut Run<F>,
+    net: u32,
+    rounds: u64,
+    whole: &Waveform,
+) -> Result<(), Fail> {
+    let mut changes = taken(rt, alloc, run, net, rounds)?;
+    add_rest(rt, run, net, &mut changes)?;
     assert!(rt; changes.as_slice() == whole.changes());
     Ok(())
 }
@@ -230,8 +247,8 @@ fn each_adds_up<F: Fabric>(
     let waves = plain_waves(alloc, design, horizon)?;
     for net in 0..design.nets() {
         let whole = waves.get(net as usize).expect(rt, "a waveform of this net");
-        let run: Run<F> = Run::new(alloc, design, horizon)?;
-        adds_up(rt, alloc, run, net, rounds, whole)?;
+        let mut run: Run<F> = Run::new(alloc, design, horizon)?;
+        adds_up(rt, alloc, &mut run, net, rounds, whole)?;
     }
     Ok(())
 }
@@ -273,19 +290,38 @@ fn low_and_high(alloc: Global) -> Result<Waveform, Fail> {
     Ok(wave)
 }
 
+// What is split off below the tick is added to the list, and then these were split off, and these
+// are left.
+fn splits(
+    rt: &impl Abort,
+    wave: &mut Waveform,
+    below: &mut Vec<Change>,
+    tick: u64,
+    split: &[Change],
+    left: &[Change],
+) -> Result<(), AllocError> {
+    wave.split_below(tick, below)?;
+    assert!(rt; below.as_slice() == split);
+    assert!(rt; wave.changes() == left);
+    Ok(())
+}
+
+fn splits_in_three(
+    rt: &impl Abort,
+    wave: &mut Waveform,
+    below: &mut Vec<Change>,
+) -> Result<(), AllocError> {
+    splits(rt, wave, below, 3, &[LOW], &[HIGH])?;
+    assert!(rt; wave.before() == Zero);
+    splits(rt, wave, below, 3, &[LOW], &[HIGH])?;
+    splits(rt, wave, below, 4, &[LOW, HIGH], &[])
+}
+
 #[test]
 fn split_of_a_waveform(rt: HostRuntime) -> Result<(), Fail> {
     let mut wave = low_and_high(rt.alloc())?;
     assert!(rt; wave.copy()? == wave);
     let mut below = Vec::new(rt.alloc());
-    wave.split_below(3, &mut below)?;
-    assert!(rt; below.as_slice() == [LOW].as_slice());
-    assert!(rt; wave.before() == Zero);
-    assert!(rt; wave.changes() == [HIGH].as_slice());
-    wave.split_below(3, &mut below)?;
-    assert!(rt; below.as_slice() == [LOW].as_slice());
-    wave.split_below(4, &mut below)?;
-    assert!(rt; below.as_slice() == [LOW, HIGH].as_slice());
-    assert!(rt; wave.changes().len() == 0);
+    splits_in_three(&rt, &mut wave, &mut below)?;
     Ok(())
 }

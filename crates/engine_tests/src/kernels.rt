@@ -115,50 +115,6 @@ fn complete_twice<F: Fabric>(
     complete(rt, kernel, total)
 }
 
-// Applies the events and completes, with these counts and least frontier in between and at the end.
-fn run<F: Fabric>(
-    rt: &impl Abort,
-    alloc: Global,
-    circuit: Circuit,
-    horizon: u64,
-    events: &[Event],
-    after: (Counts, u64),
-    total: Counts,
-) -> Result<(), Fail> {
-    let horizon = Horizon::new(horizon)?;
-    let design = circuit.build(alloc)?;
-    run_design::<F>(rt, alloc, &design, horizon, events, after, total)
-}
-
-// The same for a design.
-fn run_design<F: Fabric>(
-    rt: &impl Abort,
-    alloc: Global,
-    design: &Design,
-    horizon: Horizon,
-    events: &[Event],
-    after: (Counts, u64),
-    total: Counts,
-) -> Result<(), Fail> {
-    let mut kernel: Kernel<F> = Kernel::new(alloc, design, horizon)?;
-    apply(rt, &mut kernel, events, after)?;
-    complete_twice(rt, alloc, design, horizon, &mut kernel, total)
-}
-
-// The same run over both fabrics.
-fn run_both(
-    rt: &impl Abort,
-    alloc: Global,
-    circuit: Circuit,
-    horizon: u64,
-    events: &[Event],
-    after: (Counts, u64),
-    total: Counts,
-) -> Result<(), Fail> {
-    run::<Queues>(rt, alloc, circuit, horizon, events, after, total)?;
-    run::<Logs>(rt, alloc, circuit, horizon, events, after, total)
-}
-
 #[test]
 fn by_rounds(rt: HostRuntime) -> Result<(), Fail> {
     for (circuit, horizon, total) in [
@@ -171,7 +127,13 @@ fn by_rounds(rt: HostRuntime) -> Result<(), Fail> {
         (SLOW_INVERTER, 5, counts(2, 2, 2, 1)),
     ] {
         let after = (counts(0, 0, 0, 0), 0);
-        run_both(&rt, rt.alloc(), circuit, horizon, &[], after, total)?;
+        plays(
+            &rt,
+            rt.alloc(),
+            circuit,
+            horizon,
+            Part::Runs(&[], after, total),
+        )?;
     }
     Ok(())
 }
@@ -195,7 +157,8 @@ fn schedules(rt: HostRuntime) -> Result<(), Fail> {
         (mixed.as_slice(), counts(3, 3, 1, 0), counts(17, 7, 3, 2)),
         (&[], counts(0, 0, 0, 0), counts(19, 7, 6, 3)),
     ] {
-        run_both(&rt, rt.alloc(), LATE_PIN, 8, events, (after, 0), total)?;
+        let part = Part::Runs(events, (after, 0), total);
+        plays(&rt, rt.alloc(), LATE_PIN, 8, part)?;
     }
     Ok(())
 }
@@ -269,20 +232,24 @@ fn refused_events<F: Fabric>(rt: &impl Abort, design: &Design, kernel: &mut Kern
     assert!(rt; kernel.frontier(0) == 0);
 }
 
-fn use_fresh<F: Fabric>(rt: &impl Abort, alloc: Global, design: &Design) -> Result<(), Fail> {
-    let mut kernel: Kernel<F> = Kernel::new(alloc, design, Horizon::new(5)?)?;
-    first_events(rt, &mut kernel)?;
-    refused_events(rt, design, &mut kernel);
-    limit_of_events(rt, alloc, &mut kernel)?;
-    counts_are(rt, &kernel, counts(3, 0, 1, 0));
+fn use_fresh<F: Fabric>(
+    rt: &impl Abort,
+    alloc: Global,
+    design: &Design,
+    kernel: &mut Kernel<F>,
+) -> Result<(), Fail>
+    requires { kernel.old.circuit ≡ design.now.circuit }
+{
+    first_events(rt, kernel)?;
+    refused_events(rt, design, kernel);
+    limit_of_events(rt, alloc, kernel)?;
+    counts_are(rt, kernel, counts(3, 0, 1, 0));
     Ok(())
 }
 
 #[test]
 fn fresh_kernel(rt: HostRuntime) -> Result<(), Fail> {
-    let design = INVERTER.build(rt.alloc())?;
-    use_fresh::<Queues>(&rt, rt.alloc(), &design)?;
-    use_fresh::<Logs>(&rt, rt.alloc(), &design)
+    plays(&rt, rt.alloc(), INVERTER, 5, Part::Fresh)
 }
 
 // Applies the event that the kernel calls useful.
@@ -294,12 +261,11 @@ fn apply_useful<F: Fabric>(rt: &impl Abort, kernel: &mut Kernel<F>) -> Result<()
 }
 
 // Seven events are useful, one after the other, and then none is.
-fn drive<F: Fabric>(rt: &impl Abort, alloc: Global, design: &Design) -> Result<(), Fail> {
-    let mut kernel: Kernel<F> = Kernel::new(alloc, design, Horizon::new(3)?)?;
+fn drive<F: Fabric>(rt: &impl Abort, kernel: &mut Kernel<F>) -> Result<(), Fail> {
     for _event in 0..7 {
-        apply_useful(rt, &mut kernel)?;
+        apply_useful(rt, kernel)?;
     }
-    counts_are(rt, &kernel, counts(7, 0, 4, 0));
+    counts_are(rt, kernel, counts(7, 0, 4, 0));
     assert!(rt; !kernel.is_failed());
     assert!(rt; kernel.useful().is_none());
     assert!(rt; kernel.is_complete());
@@ -308,9 +274,7 @@ fn drive<F: Fabric>(rt: &impl Abort, alloc: Global, design: &Design) -> Result<(
 
 #[test]
 fn driven_by_useful(rt: HostRuntime) -> Result<(), Fail> {
-    let design = SELF_INVERTER.build(rt.alloc())?;
-    drive::<Queues>(&rt, rt.alloc(), &design)?;
-    drive::<Logs>(&rt, rt.alloc(), &design)
+    plays(&rt, rt.alloc(), SELF_INVERTER, 3, Part::Driven)
 }
 
 // At each pin so many messages wait, and so many ticks of its source it knows.
@@ -329,22 +293,77 @@ fn pins_have<F: Fabric>(rt: &impl Abort, design: &Design, kernel: &Kernel<F>, wa
 // What the pins have after two events, and a round after them.
 fn wait_and_receive<F: Fabric>(
     rt: &impl Abort,
-    alloc: Global,
     design: &Design,
-) -> Result<(), Fail> {
-    let mut kernel: Kernel<F> = Kernel::new(alloc, design, Horizon::new(8)?)?;
+    kernel: &mut Kernel<F>,
+) -> Result<(), Fail>
+    requires { kernel.old.circuit ≡ design.now.circuit }
+{
     kernel.apply_all(&[Advance(0), Deliver(1)])?;
-    pins_have(rt, design, &kernel, &[(3, 0), (2, 1), (0, 0)]);
+    pins_have(rt, design, kernel, &[(3, 0), (2, 1), (0, 0)]);
     kernel.round()?;
-    counts_are(rt, &kernel, counts(10, 4, 3, 1));
+    counts_are(rt, kernel, counts(10, 4, 3, 1));
     Ok(())
 }
 
 #[test]
 fn waits_and_receives(rt: HostRuntime) -> Result<(), Fail> {
-    let design = LATE_PIN.build(rt.alloc())?;
-    wait_and_receive::<Queues>(&rt, rt.alloc(), &design)?;
-    wait_and_receive::<Logs>(&rt, rt.alloc(), &design)
+    plays(&rt, rt.alloc(), LATE_PIN, 8, Part::Waits)
+}
+
+// What is done with a new kernel. `Runs` applies the events and completes, with these counts and least
+// frontier in between, and these counts at the end.
+#[derive(Clone, Copy)]
+enum Part<'a> {
+    Runs(&'a [Event], (Counts, u64), Counts),
+    Fresh,
+    Driven,
+    Waits,
+}
+
+fn play<F: Fabric>(
+    rt: &impl Abort,
+    alloc: Global,
+    design: &Design,
+    horizon: Horizon,
+    kernel: &mut Kernel<F>,
+    part: Part<'_>,
+) -> Result<(), Fail>
+    requires { kernel.old.circuit ≡ design.now.circuit }
+{
+    match part {
+        Part::Runs(events, after, total) => {
+            apply(rt, kernel, events, after)?;
+            complete_twice(rt, alloc, design, horizon, kernel, total)
+        }
+        Part::Fresh => use_fresh(rt, alloc, design, kernel),
+        Part::Driven => drive(rt, kernel),
+        Part::Waits => wait_and_receive(rt, design, kernel),
+    }
+}
+
+fn play_over<F: Fabric>(
+    rt: &impl Abort,
+    alloc: Global,
+    design: &Design,
+    horizon: u64,
+    part: Part<'_>,
+) -> Result<(), Fail> {
+    let horizon = Horizon::new(horizon)?;
+    let mut kernel: Kernel<F> = Kernel::new(alloc, design, horizon)?;
+    play(rt, alloc, design, horizon, &mut kernel, part)
+}
+
+// The same over both fabrics.
+fn plays(
+    rt: &impl Abort,
+    alloc: Global,
+    circuit: Circuit,
+    horizon: u64,
+    part: Part<'_>,
+) -> Result<(), Fail> {
+    let design = circuit.build(alloc)?;
+    play_over::<Queues>(rt, alloc, &design, horizon, part)?;
+    play_over::<Logs>(rt, alloc, &design, horizon, part)
 }
 
 #[test]

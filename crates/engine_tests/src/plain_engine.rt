@@ -93,27 +93,30 @@ fn circuits_with_memory(rt: HostRuntime) -> Result<(), Fail> {
     Ok(())
 }
 
+// The nets of S27, and the changes of each.
+static OF_S27: [(&[u8], [(u64, Value); 2]); 17] = [
+    (b"G0", [(0, One), (12, Zero)]),
+    (b"G1", [(0, One), (22, Zero)]),
+    (b"G2", [(0, Zero), (12, One)]),
+    (b"G3", [(0, Zero), (22, One)]),
+    (b"G5", [(11, One), (21, Zero)]),
+    (b"G6", [(11, Zero), (31, One)]),
+    (b"G7", [(11, One), (21, Zero)]),
+    (b"G14", [(1, Zero), (13, One)]),
+    (b"G17", [(6, One), (27, Zero)]),
+    (b"G8", [(2, Zero), (32, One)]),
+    (b"G15", [(3, Zero), (24, One)]),
+    (b"G16", [(3, Zero), (23, One)]),
+    (b"G9", [(4, One), (25, Zero)]),
+    (b"G10", [(6, One), (14, Zero)]),
+    (b"G11", [(5, Zero), (26, One)]),
+    (b"G12", [(1, Zero), (23, One)]),
+    (b"G13", [(2, One), (13, Zero)]),
+];
+
 #[test]
 fn nets_of_s27(rt: HostRuntime) -> Result<(), Fail> {
-    for (net, changes) in [
-        (b"G0".as_slice(), [(0, One), (12, Zero)]),
-        (b"G1", [(0, One), (22, Zero)]),
-        (b"G2", [(0, Zero), (12, One)]),
-        (b"G3", [(0, Zero), (22, One)]),
-        (b"G5", [(11, One), (21, Zero)]),
-        (b"G6", [(11, Zero), (31, One)]),
-        (b"G7", [(11, One), (21, Zero)]),
-        (b"G14", [(1, Zero), (13, One)]),
-        (b"G17", [(6, One), (27, Zero)]),
-        (b"G8", [(2, Zero), (32, One)]),
-        (b"G15", [(3, Zero), (24, One)]),
-        (b"G16", [(3, Zero), (23, One)]),
-        (b"G9", [(4, One), (25, Zero)]),
-        (b"G10", [(6, One), (14, Zero)]),
-        (b"G11", [(5, Zero), (26, One)]),
-        (b"G12", [(1, Zero), (23, One)]),
-        (b"G13", [(2, One), (13, Zero)]),
-    ] {
+    for (net, changes) in &OF_S27 {
         shows(&rt, rt.alloc(), S27, 35, net, changes.as_slice())?;
     }
     Ok(())

@@ -3,8 +3,9 @@ ghost use Rattle.std.specs.Prelude.{◌≡◌, false, length, option_map, slice_
 ghost use Rattle.logic3.specs.Wave.{last_value};
 ghost use Rattle.gate_process.specs.Knowledge.{Knowledge};
 
-use crate::circuits::built;
+use crate::circuits::{CROSSING, Circuit, INVERTER, SAMPLER};
 use Message::Null;
+use Step::{Drains, Hears, HearsFar, Keeps, Knows, PinKnows, Shows, Tells, TellsFar};
 use Value::{One, Unknown, Zero};
 use cmb_channels::Message;
 use design::Design;
@@ -24,6 +25,24 @@ struct Probe<'d> {
     end: u64,
     ghost has_pins: { process.failed ≡ false → length process.state.received ≡ pins },
     ghost ends: { process.failed ≡ false → process.state.end ≡ end },
+}
+
+// A pin is told messages, or a thousand changes; an advance tells just these messages, or a thousand
+// changes of which the first is to this value; how many ticks all pins know, and how many it knows
+// itself; how many ticks a pin knows, and its last value; what it shows at a tick; its changes before
+// a tick, which are taken out; or the tick from which on it is kept, and its value before and its
+// changes from there on.
+#[derive(Clone, Copy)]
+enum Step {
+    Hears(u32, &'static [Message]),
+    HearsFar,
+    Tells(&'static [Message]),
+    TellsFar(Value),
+    Knows(u64, u64),
+    PinKnows(u32, u64, Value),
+    Shows(u64, Value),
+    Drains(u64, &'static [Change]),
+    Keeps(u64, Value, &'static [Change]),
 }
 
 impl<'d> Probe<'d> {
@@ -128,153 +147,77 @@ impl<'d> Probe<'d> {
         Ok(())
     }
 
-    // The pin at this place is told this message, and then it tells just these.
-    fn answers(
-        &mut self,
-        rt: &impl Abort,
-        place: u32,
-        told: Message,
-        wanted: &[Message],
-    ) -> Result<(), Fail> {
-        self.hear(rt, place, &[told])?;
-        self.tells(rt, wanted)
+    // What it shows before the tick is taken out, and nothing is left to take there.
+    fn drains(&mut self, rt: &impl Abort, bound: u64, wanted: &[Change]) -> Result<(), Fail> {
+        let mut changes = Vec::new(self.alloc);
+        self.drain_below(rt, bound, &mut changes)?;
+        assert!(rt; changes.as_slice() == wanted);
+        self.drain_below(rt, bound, &mut changes)?;
+        assert!(rt; changes.as_slice() == wanted);
+        Ok(())
+    }
+
+    // The first pin is told a thousand changes over ten million ticks.
+    fn hear_far(&mut self, rt: &impl Abort) -> Result<(), Fail> {
+        for step in 0..500 {
+            self.hear(rt, 0, &[change(10 + step * 20_000, Zero)])?;
+            self.hear(rt, 0, &[change(10_010 + step * 20_000, One)])?;
+        }
+        self.hear(rt, 0, &[Null(10_000_001)])
+    }
+
+    // It tells as much of that.
+    fn tells_far(&mut self, rt: &impl Abort, first: Value) -> Result<(), Fail> {
+        let messages = self.advance(rt)?;
+        are_between(rt, &messages, 1_001, change(11, first), Null(10_000_001));
+        Ok(())
+    }
+
+    fn knows(&self, rt: &impl Abort, safe: u64, frontier: u64) {
+        assert!(rt; self.process(rt).safe() == safe);
+        assert!(rt; self.process(rt).frontier() == frontier);
+    }
+
+    fn keeps(&self, rt: &impl Abort, floor: u64, before: Value, changes: &[Change]) {
+        let process = self.process(rt);
+        assert!(rt; process.floor() == floor);
+        assert!(rt; process.waveform().before() == before);
+        assert!(rt; process.waveform().changes() == changes);
+    }
+
+    fn step(&mut self, rt: &impl Abort, step: Step) -> Result<(), Fail> {
+        match step {
+            Hears(place, messages) => self.hear(rt, place, messages),
+            HearsFar => self.hear_far(rt),
+            Tells(messages) => self.tells(rt, messages),
+            TellsFar(first) => self.tells_far(rt, first),
+            Drains(bound, changes) => self.drains(rt, bound, changes),
+            _ => {
+                self.looks(rt, step);
+                Ok(())
+            }
+        }
+    }
+
+    // A step that changes nothing.
+    fn looks(&self, rt: &impl Abort, step: Step) {
+        match step {
+            Knows(safe, frontier) => self.knows(rt, safe, frontier),
+            PinKnows(place, received, last) => {
+                assert!(rt; self.received(rt, place) == received);
+                assert!(rt; self.last(rt, place) == last);
+            }
+            Shows(tick, value) => {
+                assert!(rt; self.process(rt).waveform().value_at(tick) == value);
+            }
+            Keeps(floor, before, changes) => self.keeps(rt, floor, before, changes),
+            _ => {}
+        }
     }
 }
 
 fn change(tick: u64, value: Value) -> Message {
     Message::Change(Change { tick, value })
-}
-
-const INVERTER: &[u8] = b"INPUT(a)\nOUTPUT(y)\ny = NOT(a)\n";
-
-const AND: &[u8] = b"INPUT(a)\nINPUT(b)\ny = AND(a, b)";
-
-const SAMPLER: &[u8] = b"INPUT(d)\nq = DFF(d)";
-
-// An inverter, whose input shows 0 at first and 1 from tick 3 on.
-fn inverter(alloc: Global) -> Result<Design, Fail> {
-    built(alloc, INVERTER, b"", b"0 a 0\n3 a 1\n", 10)
-}
-
-// What the input of that inverter tells.
-fn told() -> [Message; 3] {
-    [change(0, Zero), change(3, One), Null(6)]
-}
-
-fn input_tells(rt: &impl Abort, input: &mut Probe<'_>) -> Result<(), Fail> {
-    assert!(rt; input.process(rt).safe() == 6);
-    assert!(rt; input.process(rt).frontier() == 0);
-    input.tells(rt, &told())?;
-    input.tells(rt, &[])?;
-    assert!(rt; input.process(rt).frontier() == 6);
-    Ok(())
-}
-
-#[test]
-fn first_messages_of_an_input(rt: HostRuntime) -> Result<(), Fail> {
-    let design = inverter(rt.alloc())?;
-    let mut input = Probe::of(&rt, rt.alloc(), &design, b"a", 5)?;
-    input_tells(&rt, &mut input)
-}
-
-fn output_tells(rt: &impl Abort, output: &mut Probe<'_>) -> Result<(), Fail> {
-    output.tells(rt, &[Null(1)])?;
-    output.hear(rt, 0, &told())?;
-    output.tells(rt, &[change(1, One), change(4, Zero), Null(6)])
-}
-
-#[test]
-fn first_messages_of_a_gate(rt: HostRuntime) -> Result<(), Fail> {
-    let design = inverter(rt.alloc())?;
-    let mut output = Probe::of(&rt, rt.alloc(), &design, b"y", 5)?;
-    output_tells(&rt, &mut output)
-}
-
-// What the first pin of the AND gate is told.
-fn hear_first_pin(rt: &impl Abort, process: &mut Probe<'_>) -> Result<(), Fail> {
-    assert!(rt; process.last(rt, 0) == Unknown);
-    process.hear(rt, 0, &[change(0, One), change(4, Zero), Null(7)])?;
-    assert!(rt; process.process(rt).safe() == 0);
-    assert!(rt; process.received(rt, 0) == 7);
-    assert!(rt; process.last(rt, 0) == Zero);
-    Ok(())
-}
-
-// What its second pin is told then, and what it tells itself.
-fn hear_second_pin(rt: &impl Abort, process: &mut Probe<'_>) -> Result<(), Fail> {
-    process.tells(rt, &[Null(1)])?;
-    process.answers(rt, 1, change(0, Zero), &[change(1, Zero)])?;
-    process.hear(rt, 1, &[change(4, One)])?;
-    assert!(rt; process.process(rt).safe() == 5);
-    process.tells(rt, &[Null(6)])?;
-    process.answers(rt, 1, Null(7), &[Null(7)])?;
-    let waveform = process.process(rt).waveform();
-    assert!(rt; waveform.value_at(6) == Zero);
-    assert!(rt; waveform.changes().len() == 1);
-    Ok(())
-}
-
-#[test]
-fn and_process(rt: HostRuntime) -> Result<(), Fail> {
-    let design = built(rt.alloc(), AND, b"", b"", 10)?;
-    let mut process = Probe::of(&rt, rt.alloc(), &design, b"y", 6)?;
-    hear_first_pin(&rt, &mut process)?;
-    hear_second_pin(&rt, &mut process)
-}
-
-fn flop_tells(rt: &impl Abort, process: &mut Probe<'_>) -> Result<(), Fail> {
-    process.tells(rt, &[Null(5)])?;
-    process.answers(rt, 0, change(4, One), &[change(5, One), Null(9)])?;
-    process.answers(rt, 0, change(5, Zero), &[])?;
-    process.answers(rt, 0, Null(10), &[change(9, Zero)])?;
-    assert!(rt; process.process(rt).waveform().changes().len() == 2);
-    Ok(())
-}
-
-#[test]
-fn flop_process(rt: HostRuntime) -> Result<(), Fail> {
-    let design = built(rt.alloc(), SAMPLER, b"", b"", 4)?;
-    let mut process = Probe::of(&rt, rt.alloc(), &design, b"q", 9)?;
-    flop_tells(&rt, &mut process)
-}
-
-// What it shows before tick 9 is taken out, and nothing is left to take there.
-fn drain_flop(rt: &impl Abort, alloc: Global, process: &mut Probe<'_>) -> Result<(), Fail> {
-    assert!(rt; process.process(rt).floor() == 0);
-    let rise = Change {
-        tick: 5,
-        value: One,
-    };
-    let mut changes = Vec::new(alloc);
-    process.drain_below(rt, 9, &mut changes)?;
-    assert!(rt; changes.as_slice() == [rise].as_slice());
-    process.drain_below(rt, 9, &mut changes)?;
-    assert!(rt; changes.len() == 1);
-    let fall = Change {
-        tick: 9,
-        value: Zero,
-    };
-    assert!(rt; process.process(rt).floor() == 9);
-    assert!(rt; process.process(rt).waveform().before() == One);
-    assert!(rt; process.process(rt).waveform().changes() == [fall].as_slice());
-    Ok(())
-}
-
-#[test]
-fn drained_flop(rt: HostRuntime) -> Result<(), Fail> {
-    let design = built(rt.alloc(), SAMPLER, b"", b"", 4)?;
-    let mut process = Probe::of(&rt, rt.alloc(), &design, b"q", 9)?;
-    flop_tells(&rt, &mut process)?;
-    drain_flop(&rt, rt.alloc(), &mut process)
-}
-
-// The first pin is told a thousand changes over ten million ticks.
-fn hear_far(rt: &impl Abort, process: &mut Probe<'_>) -> Result<(), Fail> {
-    for step in 0..500 {
-        process.hear(rt, 0, &[change(10 + step * 20_000, Zero)])?;
-        process.hear(rt, 0, &[change(10_010 + step * 20_000, One)])?;
-    }
-    process.hear(rt, 0, &[Null(10_000_001)])
 }
 
 // So many messages, of which these are the first and the last.
@@ -284,38 +227,183 @@ fn are_between(rt: &impl Abort, messages: &[Message], count: usize, first: Messa
     assert!(rt; messages.last() == Some(&last));
 }
 
-// It tells as much of that, and at first a bound and a change at tick 11.
-fn tell_far(
+// The process of the net of this name takes these steps.
+fn follows(
     rt: &impl Abort,
-    process: &mut Probe<'_>,
-    known: u64,
-    first: Value,
+    alloc: Global,
+    circuit: Circuit,
+    name: &[u8],
+    horizon: u64,
+    steps: &[Step],
 ) -> Result<(), Fail> {
-    process.tells(rt, &[Null(known)])?;
-    hear_far(rt, process)?;
-    let messages = process.advance(rt)?;
-    let last = Null(10_000_001);
-    are_between(rt, messages.as_slice(), 1_001, change(11, first), last);
+    let design = circuit.build(alloc)?;
+    design_follows(rt, alloc, &design, name, horizon, steps)
+}
+
+fn design_follows(
+    rt: &impl Abort,
+    alloc: Global,
+    design: &Design,
+    name: &[u8],
+    horizon: u64,
+    steps: &[Step],
+) -> Result<(), Fail> {
+    let mut process = Probe::of(rt, alloc, design, name, horizon)?;
+    for step in steps {
+        process.step(rt, *step)?;
+    }
     Ok(())
 }
 
-// At first the net is known up to this tick, and its first change, at tick 11, is to this value.
-fn goes_far(
-    rt: &impl Abort,
-    alloc: Global,
-    bench: &[u8],
-    name: &[u8],
-    known: u64,
-    first: Value,
-) -> Result<(), Fail> {
-    let design = built(alloc, bench, b"", b"", 1)?;
-    let mut process = Probe::of(rt, alloc, &design, name, 10_000_000)?;
-    tell_far(rt, &mut process, known, first)
+const LOW_0: Change = Change {
+    tick: 0,
+    value: Zero,
+};
+
+const HIGH_0: Change = Change {
+    tick: 0,
+    value: One,
+};
+
+const LOW_1: Change = Change {
+    tick: 1,
+    value: Zero,
+};
+
+const HIGH_1: Change = Change {
+    tick: 1,
+    value: One,
+};
+
+const HIGH_3: Change = Change {
+    tick: 3,
+    value: One,
+};
+
+const LOW_4: Change = Change {
+    tick: 4,
+    value: Zero,
+};
+
+const HIGH_4: Change = Change {
+    tick: 4,
+    value: One,
+};
+
+const LOW_5: Change = Change {
+    tick: 5,
+    value: Zero,
+};
+
+const HIGH_5: Change = Change {
+    tick: 5,
+    value: One,
+};
+
+const LOW_9: Change = Change {
+    tick: 9,
+    value: Zero,
+};
+
+// What the input of the inverter tells.
+const TOLD: [Message; 3] = [Message::Change(LOW_0), Message::Change(HIGH_3), Null(6)];
+
+const OF_AN_INPUT: [Step; 4] = [Knows(6, 0), Tells(&TOLD), Tells(&[]), Knows(6, 6)];
+
+#[test]
+fn first_messages_of_an_input(rt: HostRuntime) -> Result<(), Fail> {
+    follows(&rt, rt.alloc(), INVERTER, b"a", 5, &OF_AN_INPUT)
 }
+
+const OF_A_GATE: [Step; 3] = [
+    Tells(&[Null(1)]),
+    Hears(0, &TOLD),
+    Tells(&[Message::Change(HIGH_1), Message::Change(LOW_4), Null(6)]),
+];
+
+#[test]
+fn first_messages_of_a_gate(rt: HostRuntime) -> Result<(), Fail> {
+    follows(&rt, rt.alloc(), INVERTER, b"y", 5, &OF_A_GATE)
+}
+
+const AND: Circuit = Circuit {
+    stimuli: b"",
+    ..CROSSING
+};
+
+// Its first pin is told all, and then its second.
+const OF_AND: [Step; 14] = [
+    PinKnows(0, 0, Unknown),
+    Hears(
+        0,
+        &[Message::Change(HIGH_0), Message::Change(LOW_4), Null(7)],
+    ),
+    Knows(0, 0),
+    PinKnows(0, 7, Zero),
+    Tells(&[Null(1)]),
+    Hears(1, &[Message::Change(LOW_0)]),
+    Tells(&[Message::Change(LOW_1)]),
+    Hears(1, &[Message::Change(HIGH_4)]),
+    Knows(5, 2),
+    Tells(&[Null(6)]),
+    Hears(1, &[Null(7)]),
+    Tells(&[Null(7)]),
+    Shows(6, Zero),
+    Keeps(0, Unknown, &[LOW_1]),
+];
+
+#[test]
+fn and_process(rt: HostRuntime) -> Result<(), Fail> {
+    follows(&rt, rt.alloc(), AND, b"y", 6, &OF_AND)
+}
+
+const FLOP: Circuit = Circuit {
+    stimuli: b"",
+    ..SAMPLER
+};
+
+const OF_A_FLOP: [Step; 10] = [
+    Tells(&[Null(5)]),
+    Hears(0, &[Message::Change(HIGH_4)]),
+    Tells(&[Message::Change(HIGH_5), Null(9)]),
+    Hears(0, &[Message::Change(LOW_5)]),
+    Tells(&[]),
+    Hears(0, &[Null(10)]),
+    Tells(&[Message::Change(LOW_9)]),
+    Keeps(0, Unknown, &[HIGH_5, LOW_9]),
+    Drains(9, &[HIGH_5]),
+    Keeps(9, One, &[LOW_9]),
+];
+
+#[test]
+fn flop_process(rt: HostRuntime) -> Result<(), Fail> {
+    follows(&rt, rt.alloc(), FLOP, b"q", 9, &OF_A_FLOP)
+}
+
+const FAR_INVERTER: Circuit = Circuit {
+    stimuli: b"",
+    period: 1,
+    ..INVERTER
+};
+
+const FAR_FLOP: Circuit = Circuit { period: 1, ..FLOP };
 
 // A gate, and a flip-flop that samples at each tick.
 #[test]
 fn far_horizon(rt: HostRuntime) -> Result<(), Fail> {
-    goes_far(&rt, rt.alloc(), INVERTER, b"y", 1, One)?;
-    goes_far(&rt, rt.alloc(), SAMPLER, b"q", 2, Zero)
+    for (circuit, net, steps) in [
+        (
+            FAR_INVERTER,
+            b"y",
+            [Tells(&[Null(1)]), HearsFar, TellsFar(One)],
+        ),
+        (
+            FAR_FLOP,
+            b"q",
+            [Tells(&[Null(2)]), HearsFar, TellsFar(Zero)],
+        ),
+    ] {
+        follows(&rt, rt.alloc(), circuit, net, 10_000_000, &steps)?;
+    }
+    Ok(())
 }

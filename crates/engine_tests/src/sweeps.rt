@@ -9,7 +9,7 @@ use crate::circuits::{
 use cmb_channels::{Fabric, Logs, Queues};
 use cmb_kernel::{Counts, Kernel};
 use design::{Design, flow_order, plain_waves};
-use std::alloc::Global;
+use std::alloc::{AllocError, Global};
 use std::process::Abort;
 use std::test::Fail;
 use timing_text::Horizon;
@@ -65,21 +65,65 @@ fn shows_all<F: Fabric>(
     Ok(())
 }
 
-fn run<F: Fabric>(rt: &impl Abort, alloc: Global, sweeps: Sweeps) -> Result<(), Fail> {
-    let horizon = Horizon::new(sweeps.horizon)?;
-    let design = sweeps.circuit.build(alloc)?;
-    let mut kernel: Kernel<F> = Kernel::new(alloc, &design, horizon)?;
-    sweep(rt, &design, &mut kernel, sweeps.order, sweeps.ticks)?;
-    shows_all(rt, alloc, &design, horizon, &kernel)?;
+// What a new kernel has counted after these sweeps.
+fn swept<F: Fabric>(
+    rt: &impl Abort,
+    alloc: Global,
+    design: &Design,
+    horizon: u64,
+    order: &[u32],
+    ticks: &[u64],
+) -> Result<Counts, Fail> {
+    let horizon = Horizon::new(horizon)?;
+    let mut kernel: Kernel<F> = Kernel::new(alloc, design, horizon)?;
+    sweep_to_end(rt, alloc, design, horizon, &mut kernel, order, ticks)
+}
+
+fn sweep_to_end<F: Fabric>(
+    rt: &impl Abort,
+    alloc: Global,
+    design: &Design,
+    horizon: Horizon,
+    kernel: &mut Kernel<F>,
+    order: &[u32],
+    ticks: &[u64],
+) -> Result<Counts, Fail>
+    requires { kernel.old.circuit ≡ design.now.circuit }
+{
+    sweep(rt, design, kernel, order, ticks)?;
+    shows_all(rt, alloc, design, horizon, kernel)?;
     assert!(rt; !kernel.is_failed());
+    Ok(kernel.counts())
+}
+
+fn run<F: Fabric>(
+    rt: &impl Abort,
+    alloc: Global,
+    design: &Design,
+    sweeps: Sweeps,
+) -> Result<(), Fail> {
+    let counts = swept::<F>(
+        rt,
+        alloc,
+        design,
+        sweeps.horizon,
+        sweeps.order,
+        sweeps.ticks,
+    )?;
     let wanted = Counts {
         events: sweeps.events,
         changes: sweeps.changes,
         nulls: sweeps.nulls,
         rounds: 0,
     };
-    assert_eq!(rt; kernel.counts(), wanted);
+    assert!(rt; counts == wanted);
     Ok(())
+}
+
+fn run_both(rt: &impl Abort, alloc: Global, sweeps: Sweeps) -> Result<(), Fail> {
+    let design = sweeps.circuit.build(alloc)?;
+    run::<Queues>(rt, alloc, &design, sweeps)?;
+    run::<Logs>(rt, alloc, &design, sweeps)
 }
 
 #[test]
@@ -121,14 +165,36 @@ fn by_sweeps(rt: HostRuntime) -> Result<(), Fail> {
             nulls: 5,
         },
     ] {
-        run::<Queues>(&rt, rt.alloc(), sweeps)?;
-        run::<Logs>(&rt, rt.alloc(), sweeps)?;
+        run_both(&rt, rt.alloc(), sweeps)?;
     }
     Ok(())
 }
 
+// The ticks at which windows of so many ticks end, one more of them than the horizon has ticks.
+fn ends_of_windows(alloc: Global, horizon: u64, width: u64) -> Result<Vec<u64>, AllocError> {
+    let mut ticks = Vec::new(alloc);
+    for window in 0..horizon.saturating_add(1) {
+        let next = window.saturating_add(1);
+        ticks.push(next.saturating_mul(width))?;
+    }
+    Ok(ticks)
+}
+
 // Sweeps in the order of flow, over windows of so many ticks.
-fn run_over_windows<F: Fabric>(
+fn run_over_windows(
+    rt: &impl Abort,
+    alloc: Global,
+    design: &Design,
+    horizon: u64,
+    width: u64,
+) -> Result<(), Fail> {
+    let order = flow_order(alloc, design)?;
+    let ticks = ends_of_windows(alloc, horizon, width)?;
+    swept::<Logs>(rt, alloc, design, horizon, &order, &ticks)?;
+    Ok(())
+}
+
+fn circuit_over_windows(
     rt: &impl Abort,
     alloc: Global,
     circuit: Circuit,
@@ -136,33 +202,26 @@ fn run_over_windows<F: Fabric>(
     width: u64,
 ) -> Result<(), Fail> {
     let design = circuit.build(alloc)?;
-    let order = flow_order(alloc, &design)?;
-    let mut ticks = Vec::new(alloc);
-    for window in 0..horizon.saturating_add(1) {
-        let next = window.saturating_add(1);
-        ticks.push(next.saturating_mul(width))?;
-    }
-    let horizon = Horizon::new(horizon)?;
-    let mut kernel: Kernel<F> = Kernel::new(alloc, &design, horizon)?;
-    sweep(rt, &design, &mut kernel, order.as_slice(), ticks.as_slice())?;
-    shows_all(rt, alloc, &design, horizon, &kernel)
+    run_over_windows(rt, alloc, &design, horizon, width)
 }
+
+static CIRCUITS: [Circuit; 8] = [
+    INVERTER,
+    SELF_INVERTER,
+    GATED_OSCILLATOR,
+    LATE_PIN,
+    SAMPLER,
+    RING_COUNTER,
+    CROSSING,
+    S27,
+];
 
 #[test]
 fn over_windows(rt: HostRuntime) -> Result<(), Fail> {
-    for circuit in [
-        INVERTER,
-        SELF_INVERTER,
-        GATED_OSCILLATOR,
-        LATE_PIN,
-        SAMPLER,
-        RING_COUNTER,
-        CROSSING,
-        S27,
-    ] {
+    for circuit in &CIRCUITS {
         for horizon in [0, 40] {
             for width in [1, 7, 41] {
-                run_over_windows::<Logs>(&rt, rt.alloc(), circuit, horizon, width)?;
+                circuit_over_windows(&rt, rt.alloc(), *circuit, horizon, width)?;
             }
         }
     }
