@@ -18,7 +18,7 @@ fn shows(
     circuit: Circuit,
     horizon: u64,
     net: &[u8],
-    changes: &[(u64, Value)],
+    changes: &[(u32, Value)],
 ) -> Result<(), Fail> {
     let design = circuit.build(alloc)?;
     design_shows(rt, alloc, &design, horizon, net, changes)
@@ -30,7 +30,7 @@ fn design_shows(
     design: &Design,
     horizon: u64,
     net: &[u8],
-    changes: &[(u64, Value)],
+    changes: &[(u32, Value)],
 ) -> Result<(), Fail> {
     let waves = plain_waves(alloc, design, Horizon::new(horizon)?)?;
     let net = design.find(net).expect(rt, "a net of this name");
@@ -39,7 +39,7 @@ fn design_shows(
     Ok(())
 }
 
-fn has_changes(rt: &impl Abort, wave: &Waveform, changes: &[(u64, Value)]) {
+fn has_changes(rt: &impl Abort, wave: &Waveform, changes: &[(u32, Value)]) {
     assert!(rt; wave.before() == Unknown);
     assert!(rt; wave.changes().len() == changes.len());
     for (change, (tick, value)) in wave.changes().iter().zip(changes) {
@@ -94,7 +94,7 @@ fn circuits_with_memory(rt: HostRuntime) -> Result<(), Fail> {
 }
 
 // The nets of S27, and the changes of each.
-static OF_S27: [(&[u8], [(u64, Value); 2]); 17] = [
+static OF_S27: [(&[u8], [(u32, Value); 2]); 17] = [
     (b"G0", [(0, One), (12, Zero)]),
     (b"G1", [(0, One), (22, Zero)]),
     (b"G2", [(0, Zero), (12, One)]),

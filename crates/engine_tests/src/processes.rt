@@ -106,8 +106,9 @@ impl<'d> Probe<'d> {
         let known = self.received(rt, place);
         let last = self.last(rt, place);
         assert!(rt; !self.process.is_failed());
-        assert!(rt; known <= change.tick);
-        assert!(rt; change.tick < self.end);
+        let tick = u64::from(change.tick);
+        assert!(rt; known <= tick);
+        assert!(rt; tick < self.end);
         assert!(rt; change.value != last);
         self.process.receive(place, Message::Change(change))?;
         Ok(())
@@ -216,7 +217,7 @@ impl<'d> Probe<'d> {
     }
 }
 
-fn change(tick: u64, value: Value) -> Message {
+fn change(tick: u32, value: Value) -> Message {
     Message::Change(Change { tick, value })
 }
 

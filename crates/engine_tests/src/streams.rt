@@ -29,10 +29,11 @@ fn part(
     let mut part = Vec::new(alloc);
     let mut next = from;
     for change in changes {
-        assert!(rt; next <= change.tick);
-        assert!(rt; change.tick < upto);
+        let tick = u64::from(change.tick);
+        assert!(rt; next <= tick);
+        assert!(rt; tick < upto);
         part.push(*change)?;
-        next = change.tick + 1;
+        next = tick + 1;
     }
     assert!(rt; next <= upto);
     Ok(part)
