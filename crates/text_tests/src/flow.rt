@@ -1,6 +1,7 @@
 //! The order in which values flow through small designs.
 use bench_text::read;
 use design::{Design, flow_order};
+use std::alloc::Global;
 use std::process::Abort;
 use std::test::Fail;
 
@@ -29,13 +30,22 @@ static ORDERS: [(&[u8], &[u32]); 12] = [
     (b"y = AND(y, b)\nb = NOT(q)\nq = DFF(y)", &[1, 0, 2]),
 ];
 
+fn built(alloc: Global, bench: &[u8]) -> Result<Design, Fail> {
+    let netlist = read(alloc, bench)?;
+    Ok(Design::build(alloc, netlist, b"", b"", 1, 10)?)
+}
+
+fn flows(rt: &impl Abort, alloc: Global, design: &Design, order: &[u32]) -> Result<(), Fail> {
+    let found = flow_order(alloc, design)?;
+    assert!(rt; found.as_slice() == order);
+    Ok(())
+}
+
 #[test]
 fn small_designs(rt: HostRuntime) -> Result<(), Fail> {
     for &(bench, order) in &ORDERS {
-        let netlist = read(rt.alloc(), bench)?;
-        let design = Design::build(rt.alloc(), netlist, b"", b"", 1, 10)?;
-        let found = flow_order(rt.alloc(), &design)?;
-        assert!(rt; found.as_slice() == order);
+        let design = built(rt.alloc(), bench)?;
+        flows(&rt, rt.alloc(), &design, order)?;
     }
     Ok(())
 }

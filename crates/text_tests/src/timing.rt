@@ -18,9 +18,21 @@ fn build(
     Ok(Design::build(alloc, netlist, delays, stimuli, default_delay, period))
 }
 
-fn is_refused(rt: &impl Abort, answer: Result<Design, BuildFault>, fault: BuildFault) {
-    assert!(rt; answer.err() == Some(fault));
+// With these texts, default delay and period the inverter is refused with this fault, or built.
+fn answers(
+    rt: &impl Abort,
+    alloc: Global,
+    texts: (&[u8], &[u8]),
+    settings: (u64, u64),
+    fault: Option<BuildFault>,
+) -> Result<(), Fail> {
+    let answer = build(alloc, texts.0, texts.1, settings.0, settings.1)?;
+    assert!(rt; answer.err() == fault);
+    Ok(())
 }
+
+// Settings that are fine.
+const FINE: (u64, u64) = (1, 10);
 
 // Stimulus texts, and what they are refused with.
 static FAULTY_STIMULI: [(&[u8], StimulusFault); 8] = [
@@ -37,12 +49,11 @@ static FAULTY_STIMULI: [(&[u8], StimulusFault); 8] = [
 #[test]
 fn faulty_stimuli(rt: HostRuntime) -> Result<(), Fail> {
     for &(text, fault) in &FAULTY_STIMULI {
-        let answer = build(rt.alloc(), b"", text, 1, 10)?;
-        is_refused(&rt, answer, BuildFault::Stimulus(fault));
+        let fault = BuildFault::Stimulus(fault);
+        answers(&rt, rt.alloc(), (b"", text), FINE, Some(fault))?;
     }
-    let built = build(rt.alloc(), b"", b"10000000 a 1 # the last tick", 1, 10)?;
-    assert!(rt; built.is_ok());
-    Ok(())
+    let last_tick = b"10000000 a 1 # the last tick";
+    answers(&rt, rt.alloc(), (b"", last_tick), FINE, None)
 }
 
 // With this delay text the inverter's gate has this delay.
@@ -77,8 +88,8 @@ static FAULTY_DELAYS: [(&[u8], DelayFault); 8] = [
 #[test]
 fn faulty_delays(rt: HostRuntime) -> Result<(), Fail> {
     for &(text, fault) in &FAULTY_DELAYS {
-        let answer = build(rt.alloc(), text, b"", 1, 10)?;
-        is_refused(&rt, answer, BuildFault::Timing(fault));
+        let fault = BuildFault::Timing(fault);
+        answers(&rt, rt.alloc(), (text, b""), FINE, Some(fault))?;
     }
     for (text, delay) in [
         (b"y 1000000".as_slice(), 1_000_000),
@@ -90,18 +101,20 @@ fn faulty_delays(rt: HostRuntime) -> Result<(), Fail> {
     Ok(())
 }
 
+fn is_too_long(rt: &impl Abort, alloc: Global, text: &[u8]) -> Result<(), Fail> {
+    let of_delays = BuildFault::Timing(DelayFault::TooLong);
+    answers(rt, alloc, (text, b"x"), FINE, Some(of_delays))?;
+    let of_stimuli = BuildFault::Stimulus(StimulusFault::TooLong);
+    answers(rt, alloc, (b"", text), FINE, Some(of_stimuli))
+}
+
 // A byte too many is refused before anything else in the text.
 #[test]
 fn too_long_texts(rt: HostRuntime) -> Result<(), Fail> {
     let mut text = longest(rt.alloc(), b"#")?;
-    let built = build(rt.alloc(), text.as_slice(), text.as_slice(), 1, 10)?;
-    assert!(rt; built.is_ok());
+    answers(&rt, rt.alloc(), (&text, &text), FINE, None)?;
     text.push(b'x')?;
-    let answer = build(rt.alloc(), text.as_slice(), b"x", 1, 10)?;
-    is_refused(&rt, answer, BuildFault::Timing(DelayFault::TooLong));
-    let answer = build(rt.alloc(), b"", text.as_slice(), 1, 10)?;
-    is_refused(&rt, answer, BuildFault::Stimulus(StimulusFault::TooLong));
-    Ok(())
+    is_too_long(&rt, rt.alloc(), &text)
 }
 
 fn options_are(rt: &impl Abort, delay: u64, period: u64, answer: Result<(), OptionFault>) {
@@ -117,14 +130,18 @@ fn settings_first(rt: HostRuntime) -> Result<(), Fail> {
         (1, 10_000_001, OptionFault::BadPeriod),
     ] {
         options_are(&rt, delay, period, Err(fault));
-        let answer = build(rt.alloc(), b"y", b"0 a", delay, period)?;
-        is_refused(&rt, answer, BuildFault::Setting(fault));
+        let fault = BuildFault::Setting(fault);
+        answers(
+            &rt,
+            rt.alloc(),
+            (b"y", b"0 a"),
+            (delay, period),
+            Some(fault),
+        )?;
     }
     options_are(&rt, 1_000_000, 10_000_000, Ok(()));
-    let answer = build(rt.alloc(), b"y", b"0 a", 1, 10)?;
-    let fault = DelayFault::BadLine { line: 1 };
-    is_refused(&rt, answer, BuildFault::Timing(fault));
-    Ok(())
+    let fault = BuildFault::Timing(DelayFault::BadLine { line: 1 });
+    answers(&rt, rt.alloc(), (b"y", b"0 a"), FINE, Some(fault))
 }
 
 #[test]
