@@ -72,7 +72,12 @@ impl Sweeps {
     {
         let before = kernel.counts().changes;
         let tick = reach(known, self.width, self.end);
-        pass(kernel, self.order.as_slice(), self.segments.as_slice(), tick)?;
+        pass(
+            kernel,
+            self.order.as_slice(),
+            self.segments.as_slice(),
+            tick,
+        )?;
         let told = kernel.counts().changes.saturating_sub(before);
         self.width = next_width(self.width, told, self.most);
         Ok(())

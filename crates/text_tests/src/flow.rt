@@ -10,71 +10,138 @@ static ORDERS: [(&[u8], &[u32], &[Segment]); 13] = [
     (
         b"INPUT(a)\nb = NOT(a)\nc = NOT(b)\nd = NOT(c)",
         &[0, 1, 2, 3],
-        &[Segment { end: 4, loops: false }],
+        &[Segment {
+            end: 4,
+            loops: false,
+        }],
     ),
     (
         b"INPUT(a)\ny = NOT(b)\nb = NOT(a)",
         &[0, 2, 1],
-        &[Segment { end: 3, loops: false }],
+        &[Segment {
+            end: 3,
+            loops: false,
+        }],
     ),
     (
         b"q = DFF(n)\nn = NOT(q)\nINPUT(a)",
         &[2, 1, 0],
-        &[Segment { end: 3, loops: false }],
+        &[Segment {
+            end: 3,
+            loops: false,
+        }],
     ),
     (
         b"INPUT(a)\nINPUT(b)",
         &[0, 1],
-        &[Segment { end: 2, loops: false }],
+        &[Segment {
+            end: 2,
+            loops: false,
+        }],
     ),
     // Two ways from a gate to another.
     (
         b"INPUT(a)\ny = AND(b, c)\nc = NOT(b)\nb = NOT(a)",
         &[0, 3, 2, 1],
-        &[Segment { end: 4, loops: false }],
+        &[Segment {
+            end: 4,
+            loops: false,
+        }],
     ),
     // Loops, and gates behind them.
     (
         b"y = NOT(y)",
         &[0],
-        &[Segment { end: 1, loops: true }],
+        &[Segment {
+            end: 1,
+            loops: true,
+        }],
     ),
     (
         b"x = NOT(y)\ny = NOT(z)\nz = NOT(x)",
         &[2, 1, 0],
-        &[Segment { end: 3, loops: true }],
+        &[Segment {
+            end: 3,
+            loops: true,
+        }],
     ),
     (
         b"y = NOT(p)\np = NOT(q)\nq = NOT(p)",
         &[2, 1, 0],
-        &[Segment { end: 2, loops: true }, Segment { end: 3, loops: false }],
+        &[
+            Segment {
+                end: 2,
+                loops: true,
+            },
+            Segment {
+                end: 3,
+                loops: false,
+            },
+        ],
     ),
     (
         b"p = NOT(q)\nq = NOT(p)\ny = NOT(q)",
         &[1, 0, 2],
-        &[Segment { end: 2, loops: true }, Segment { end: 3, loops: false }],
+        &[
+            Segment {
+                end: 2,
+                loops: true,
+            },
+            Segment {
+                end: 3,
+                loops: false,
+            },
+        ],
     ),
     (
         b"y = AND(b, b)\nb = OR(y, c)\nc = NOT(b)",
         &[2, 1, 0],
-        &[Segment { end: 3, loops: true }],
+        &[Segment {
+            end: 3,
+            loops: true,
+        }],
     ),
     // A loop that feeds another.
     (
         b"p = NOT(q)\nq = NOT(p)\nr = AND(s, p)\ns = NOT(r)",
         &[1, 0, 3, 2],
-        &[Segment { end: 2, loops: true }, Segment { end: 4, loops: true }],
+        &[
+            Segment {
+                end: 2,
+                loops: true,
+            },
+            Segment {
+                end: 4,
+                loops: true,
+            },
+        ],
     ),
     // Flip-flops stand last, whatever feeds them, and make no loops.
     (
         b"p = DFF(q)\nq = DFF(p)",
         &[0, 1],
-        &[Segment { end: 2, loops: false }],
+        &[Segment {
+            end: 2,
+            loops: false,
+        }],
     ),
     (
         b"y = AND(y, b)\nb = NOT(q)\nq = DFF(y)",
         &[1, 0, 2],
-        &[Segment { end: 1, loops: false }, Segment { end: 2, loops: true }, Segment { end: 3, loops: false }],
+        &[
+            Segment {
+                end: 1,
+                loops: false,
+            },
+            Segment {
+                end: 2,
+                loops: true,
+            },
+            Segment {
+                end: 3,
+                loops: false,
+            },
+        ],
     ),
 ];
 

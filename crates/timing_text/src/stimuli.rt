@@ -96,7 +96,10 @@ fn net_change(netlist: &Netlist, line: u64, code: &[u8]) -> Result<NetChange, St
     };
     Ok(NetChange {
         net,
-        change: Change { tick: tick as u32, value },
+        change: Change {
+            tick: tick as u32,
+            value,
+        },
     })
 }
 
