@@ -9,6 +9,7 @@ mod Heard
 mod Kept
 mod Nets
 mod Passed
+mod ReadBy
 mod ReadOnce
 mod Reckoned
 mod Starts

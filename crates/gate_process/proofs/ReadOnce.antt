@@ -30,21 +30,18 @@ seen_after (first ∷ read) zero tick old new is same =
 seen_after (first ∷ read) (suc place) tick old new is same =
     ap (λ vs. value_at first tick ∷ vs) (seen_after read place tick old new is same)
 
--- how far a pass has come: what is left, the values so far, and up to where they stay
-pub record ReadSoFar (start : List Wave) (tick limit place : ℕ) (read : List Wave) (values : List Value) (next : ℕ) : Type 0 where
+-- how far a pass has come: what is left, and up to where the values so far stay
+pub record ReadSoFar (start : List Wave) (tick limit place : ℕ) (read : List Wave) (next : ℕ) : Type 0 where
   pub left : (t : ℕ) → tick ≤ t → seen_at t read ≡ seen_at t start
   pub count : length read ≡ length start
-  pub values_are : values ≡ take place (seen_at tick start)
   pub later : tick < next
   pub within : next ≤ limit
   pub steady : (t : ℕ) → tick ≤ t → t < next → take place (seen_at t start) ≡ take place (seen_at tick start)
 
-module _ (start : List Wave) (tick limit place : ℕ) (read : List Wave) (values : List Value) (next : ℕ)
-    (so_far : ReadSoFar start tick limit place read values next) where
+module _ (start : List Wave) (tick limit place : ℕ) (read : List Wave) (next : ℕ)
+    (so_far : ReadSoFar start tick limit place read next) where
   -- with one waveform more
-  module _ (old new : Wave) (value : Value) (more : ℕ) (inside : place < length read) (is : old ≡ get_or read place old)
-      (value_is : value ≡ value_at old tick) (same : (t : ℕ) → tick ≤ t → value_at new t ≡ value_at old t)
-      (stays : (t : ℕ) → t < more → value_at new t ≡ new.before) (after : tick < more) (below : more ≤ next) where
+  module _ (old : Wave) (inside : place < length read) (is : old ≡ get_or read place old) where
     one_more : (t : ℕ) → tick ≤ t → take (place + 1) (seen_at t start) ≡ take place (seen_at t start) ++ value_at old t ∷ []
     one_more t h =
         let count = so_far.count in
@@ -52,32 +49,35 @@ module _ (start : List Wave) (tick limit place : ℕ) (read : List Wave) (values
         ∙ ap (λ v. take place (seen_at t start) ++ v ∷ [])
         (ap (λ vs. get_or vs place Unknown) (sym (so_far.left t h)) ∙ seen_there read place t old inside is)
 
-    pub read_more : ReadSoFar start tick limit (place + 1) (slice_set read place new) (values ++ value ∷ []) more
+    -- its value comes behind those so far
+    pub value_more : (value : Value) → value ≡ value_at old tick →
+        take place (seen_at tick start) ++ value ∷ [] ≡ take (place + 1) (seen_at tick start)
+    value_more value value_is = ap (λ v. take place (seen_at tick start) ++ v ∷ []) value_is ∙ sym (one_more tick (omega arith))
+
+  module _ (old new : Wave) (more : ℕ) (inside : place < length read) (is : old ≡ get_or read place old)
+      (same : (t : ℕ) → tick ≤ t → value_at new t ≡ value_at old t)
+      (stays : (t : ℕ) → t < more → value_at new t ≡ new.before) (after : tick < more) (below : more ≤ next) where
+    pub read_more : ReadSoFar start tick limit (place + 1) (slice_set read place new) more
     read_more =
         let within = so_far.within in
         record {
           left = λ t h. seen_after read place t old new is (same t h) ∙ so_far.left t h;
           count = length-set read place new ∙ so_far.count;
-          values_are = ap (λ vs. vs ++ value ∷ []) so_far.values_are
-              ∙ ap (λ v. take place (seen_at tick start) ++ v ∷ []) value_is ∙ sym (one_more tick (omega arith));
           later = after;
           within = omega (arith, below, within);
           steady = λ t a b.
               let stay : value_at old t ≡ value_at old tick =
               sym (same t a) ∙ stays t b ∙ sym (stays tick after) ∙ same tick (omega arith) in
-              one_more t a
+              one_more old inside is t a
               ∙ ap (λ vs. vs ++ value_at old t ∷ []) (so_far.steady t a (omega (arith, b, below)))
               ∙ ap (λ v. take place (seen_at tick start) ++ v ∷ []) stay
-              ∙ sym (one_more tick (omega arith));
+              ∙ sym (one_more old inside is tick (omega arith));
         }
 
   -- with all of them
   module _ (done : length read ≤ place) where
-    all_seen : (t : ℕ) → take place (seen_at t start) ≡ seen_at t start
+    pub all_seen : (t : ℕ) → take place (seen_at t start) ≡ seen_at t start
     all_seen t = let count = so_far.count in take_all place (seen_at t start) (omega (arith, done, count, length-seen t start))
-
-    pub read_values : values ≡ seen_at tick start
-    read_values = so_far.values_are ∙ all_seen tick
 
     pub read_steady : (t : ℕ) → tick ≤ t → t < next → seen_at t start ≡ seen_at tick start
     read_steady t a b = sym (all_seen t) ∙ so_far.steady t a b ∙ all_seen tick

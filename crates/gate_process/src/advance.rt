@@ -11,10 +11,9 @@ ghost use Rattle.gate_process.specs.Step.{signals_of, continued};
 
 use crate::cursor::Cursor;
 use crate::own_net::OwnNet;
-use crate::received::Received;
+use crate::received::{Received, cursors_of};
 use cmb_channels::Message;
 use logic3::{Change, Waveform};
-use smallvec::SmallVec;
 use std::alloc::AllocError;
 
 /// Carries a net's waveform on by its equation, and puts the messages that tell of it into the list.
@@ -44,8 +43,22 @@ pub fn extend(
     if from == to {
         return Ok(());
     }
-    let mut cursors = net.cursors(*messages.allocator(), received)?;
-    walk(net, cursors.as_mut_slice(), from, to, wave, messages)?;
+    // Asked for what it ensures: that an input, and it alone, has no pins.
+    let pins = net.pins();
+    prove!(received.len() == pins);
+    // Most gates have one pin or two, and these want no list of cursors.
+    match received {
+        [] => walk(net, &mut [net.stimuli()], from, to, wave, messages)?,
+        [pin] => walk(net, &mut [pin.cursor()], from, to, wave, messages)?,
+        [first, second] => {
+            let mut cursors = [first.cursor(), second.cursor()];
+            walk(net, &mut cursors, from, to, wave, messages)?;
+        }
+        _ => {
+            let mut cursors = cursors_of(*messages.allocator(), received)?;
+            walk(net, cursors.as_mut_slice(), from, to, wave, messages)?;
+        }
+    }
     Ok(())
 }
 
@@ -70,12 +83,11 @@ fn walk(
     ensures news { OnOk result (messages.new.items ≡ (if to == from then [] else
         news_of (changes_between (continued wave.old from (shown net.now read.old)) from to) to)) }
 {
-    let mut values = SmallVec::new(*messages.allocator());
     // The messages so far tell of the net up to here.
     let mut told = from;
     let mut tick = from;
     while tick < to {
-        let look = net.look(read, tick, to, &mut values)?;
+        let look = net.look(read, tick, to);
         if look.value != wave.last_value() {
             let change = Change {
                 tick: tick as u32,

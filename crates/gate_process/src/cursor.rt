@@ -1,14 +1,13 @@
 //! Walks along changes.
-ghost use Rattle.std.specs.Prelude.{◌≡◌, ℕ, ◌<◌, ◌≤◌, All, length, map, IfOk, OnOk};
+ghost use Rattle.std.specs.Prelude.{◌≡◌, ℕ, ◌<◌, ◌≤◌, All, length, map};
 ghost use Rattle.logic3.specs.declared.change.Change.{Change};
 ghost use Rattle.logic3.specs.Rising.{TicksRise};
+ghost use Rattle.logic3.specs.Summary.{summary_of};
 ghost use Rattle.logic3.specs.Wave.{value_at};
 ghost use Rattle.design.specs.Equations.{values_at};
 
 use crate::changes::{due_changes, last_value};
-use logic3::{Change, Value};
-use smallvec::SmallVec;
-use std::alloc::AllocError;
+use logic3::{Change, Summary, Value};
 use std::marker::Model;
 
 /// Of so many pins, the most that gates have as a rule, what is read is kept without a list in memory.
@@ -84,31 +83,31 @@ impl<'c> Cursor<'c> {
     }
 }
 
-/// Moves the cursors to a tick and fills the buffer with the values there. Answers the tick of the
-/// first change after it, at most the limit.
-///
-/// After an `AllocError` some cursors have moved.
-pub fn read_at(
-    cursors: &mut [Cursor<'_>],
-    tick: u64,
-    limit: u64,
-    values: &mut SmallVec<Value, FEW>,
-) -> Result<u64, AllocError>
+/// What cursors show at a tick, and the tick of the first change after it.
+#[derive(Clone, Copy, Debug)]
+pub struct Reading {
+    pub pins: Summary,
+    pub next: u64,
+}
+
+/// Moves the cursors to a tick, and answers what they show there and the tick of the first change after
+/// it, at most the limit.
+pub fn read_at(cursors: &mut [Cursor<'_>], tick: u64, limit: u64) -> Reading
     requires { tick < limit }
-    ensures values { OnOk result (values.new.items ≡ values_at tick (map value_at cursors.old)) }
-    ensures later { IfOk result (λ next. tick < next) }
-    ensures within { IfOk result (λ next. next ≤ limit) }
-    ensures steady { IfOk result (λ next. (t : ℕ) → tick ≤ t → t < next →
-        values_at t (map value_at cursors.old) ≡ values_at tick (map value_at cursors.old)) }
-    ensures left { OnOk result ((t : ℕ) → tick ≤ t →
-        values_at t (map value_at cursors.new) ≡ values_at t (map value_at cursors.old)) }
-    ensures length { OnOk result (length cursors.new ≡ length cursors.old) }
+    ensures pins { result.pins ≡ summary_of (values_at tick (map value_at cursors.old)) }
+    ensures later { tick < result.next }
+    ensures within { result.next ≤ limit }
+    ensures steady { (t : ℕ) → tick ≤ t → t < result.next →
+        values_at t (map value_at cursors.old) ≡ values_at tick (map value_at cursors.old) }
+    ensures left { (t : ℕ) → tick ≤ t →
+        values_at t (map value_at cursors.new) ≡ values_at t (map value_at cursors.old) }
+    ensures length { length cursors.new ≡ length cursors.old }
 {
+    let mut pins = Summary::new();
     let mut next = limit;
-    values.clear();
     for cursor in cursors.iter_mut() {
-        values.push(cursor.go_to(tick))?;
+        pins.add(cursor.go_to(tick));
         next = cursor.next_change(next);
     }
-    Ok(next)
+    Reading { pins, next }
 }

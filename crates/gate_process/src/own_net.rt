@@ -1,19 +1,18 @@
-ghost use Rattle.std.specs.Prelude.{◌≡◌, ℕ, ◌+◌, ◌<◌, ◌≤◌, min, length, slice_get, Some, IfOk, OnOk};
+ghost use Rattle.std.specs.Prelude.{◌≡◌, ℕ, ◌+◌, ◌<◌, ◌≤◌, min, List, length, slice_get, Some};
 ghost use Rattle.std.specs.Option.{option_map_or};
+ghost use Rattle.logic3.specs.declared.value.Value.{Value};
+ghost use Rattle.logic3.specs.declared.value.Value.TheVariants.{Unknown};
+ghost use Rattle.logic3.specs.Summary.{summary_of};
 ghost use Rattle.timing_text.specs.Ranges.{most_ticks};
 ghost use Rattle.design.specs.Samples.{timing_of, first_asker};
-ghost use Rattle.gate_process.specs.declared.own_net.Look.{Look};
-ghost use Rattle.gate_process.specs.Reading.{read_by, reads, read_tick, made_of, shown};
+ghost use Rattle.gate_process.specs.Reading.{reads, read_tick, made_of, shown};
 ghost use Rattle.gate_process.specs.Step.{frontier_of, oldest_asked};
 ghost use Rattle.gate_process.specs.Truth.{IsNet};
 
-use crate::cursor::{Cursor, FEW, read_at};
-use crate::received::Received;
+use crate::cursor::{Cursor, read_at};
 use design::{Design, Timing};
-use logic3::{Change, Value, gate};
+use logic3::{Change, Summary, Value};
 use netlist::Part;
-use smallvec::SmallVec;
-use std::alloc::{AllocError, Global};
 use std::marker::Model;
 
 /// What a net shows at a tick, and the tick up to which it stays.
@@ -103,60 +102,40 @@ impl<'d> OwnNet<'d> {
         }
     }
 
-    /// What the net reads, before any tick: an input its stimuli, else what its pins were told. Few pins
-    /// take no memory.
-    pub fn cursors<'c>(
-        &'c self,
-        alloc: Global,
-        received: &'c [Received],
-    ) -> Result<SmallVec<Cursor<'c>, FEW>, AllocError>
-        ensures { IfOk result (λ cursors. cursors.items ≡ read_by self.now received.now) }
+    /// What an input shows, before any tick.
+    pub fn stimuli(&self) -> Cursor<'_>
+        ensures { result ≡ record { before = Unknown; changes = self.now.stimuli } }
     {
-        let mut cursors = SmallVec::new(alloc);
-        if let Part::Input = self.part {
-            cursors.push(Cursor::new(Value::Unknown, self.stimuli))?;
-            return Ok(cursors);
-        }
-        for pin in received {
-            cursors.push(pin.cursor())?;
-        }
-        Ok(cursors)
+        Cursor::new(Value::Unknown, self.stimuli)
     }
 
     /// What the net shows at a tick of what it reads, and up to where it stays, at most up to the limit.
     ///
-    /// The cursors move to the tick that decides it, and serve ticks from this one on. The buffer is for
-    /// the values there. After an `AllocError` the cursors serve no more.
-    pub fn look(
-        &self,
-        read: &mut [Cursor<'_>],
-        tick: u64,
-        limit: u64,
-        values: &mut SmallVec<Value, FEW>,
-    ) -> Result<Look, AllocError>
+    /// The cursors move to the tick that decides it, and serve ticks from this one on.
+    pub fn look(&self, read: &mut [Cursor<'_>], tick: u64, limit: u64) -> Look
         requires read { length read.old ≡ reads self.now }
         requires before { tick < limit }
         requires end { limit ≤ most_ticks + 1 }
-        ensures value { IfOk result (λ (look : Look). look.value ≡ shown self.now read.old tick) }
-        ensures later { IfOk result (λ (look : Look). tick < look.until) }
-        ensures within { IfOk result (λ (look : Look). look.until ≤ limit) }
-        ensures steady { IfOk result (λ (look : Look). (t : ℕ) → tick ≤ t → t < look.until →
-            shown self.now read.old t ≡ shown self.now read.old tick) }
-        ensures left { OnOk result ((t : ℕ) → tick ≤ t → shown self.now read.new t ≡ shown self.now read.old t) }
-        ensures length { OnOk result (length read.new ≡ length read.old) }
+        ensures value { result.value ≡ shown self.now read.old tick }
+        ensures later { tick < result.until }
+        ensures within { result.until ≤ limit }
+        ensures steady { (t : ℕ) → tick ≤ t → t < result.until →
+            shown self.now read.old t ≡ shown self.now read.old tick }
+        ensures left { (t : ℕ) → tick ≤ t → shown self.now read.new t ≡ shown self.now read.old t }
+        ensures length { length read.new ≡ length read.old }
     {
         let Some(at) = self.read_tick(tick) else {
             // Until it reads anything, it waits for tick 0.
-            return Ok(Look {
+            return Look {
                 value: Value::Unknown,
                 until: self.until(0, limit),
-            });
+            };
         };
-        let change = read_at(read, at, limit, values)?;
-        Ok(Look {
-            value: self.made_of(values.as_slice()),
-            until: self.until(change, limit),
-        })
+        let reading = read_at(read, at, limit);
+        Look {
+            value: self.made_of(&reading.pins),
+            until: self.until(reading.next, limit),
+        }
     }
 
     /// The tick of what it reads that decides what it shows at a tick.
@@ -171,13 +150,13 @@ impl<'d> OwnNet<'d> {
     }
 
     /// What the net makes of the values that it reads.
-    fn made_of(&self, values: &[Value]) -> Value
-        requires { length values.now ≡ reads self.now }
-        ensures { result ≡ made_of self.now.part values.now }
+    fn made_of(&self, pins: &Summary) -> Value
+        ensures { (values : List Value) → pins.now ≡ summary_of values → length values ≡ reads self.now →
+            result ≡ made_of self.now.part values }
     {
         match self.part {
-            Part::Gate(kind) => gate(kind, values),
-            _ => values[0],
+            Part::Gate(kind) => pins.gate(kind),
+            _ => pins.only(),
         }
     }
 

@@ -7,9 +7,10 @@ ghost use Rattle.gate_process.specs.Knowledge.{Knowledge, nothing_known, told, k
 ghost use Rattle.gate_process.specs.Step.{least};
 
 use crate::changes::{early_changes, last_value};
-use crate::cursor::Cursor;
+use crate::cursor::{Cursor, FEW};
 use cmb_channels::Message;
 use logic3::{ChangeQueue, Value};
+use smallvec::SmallVec;
 use std::alloc::{AllocError, Global};
 use std::marker::Model;
 
@@ -86,6 +87,9 @@ impl Received {
     {
         let changes = self.changes.as_slice();
         let early = early_changes(changes, tick);
+        if early == 0 {
+            return;
+        }
         self.before = last_value(self.before, &changes[..early]);
         self.changes.drop_front(early);
     }
@@ -114,6 +118,20 @@ pub fn nothing_received(alloc: Global, pins: usize) -> Result<Vec<Received>, All
         received.push(Received::nothing(alloc))?;
     }
     Ok(received)
+}
+
+/// What these pins were told, before any tick. Few pins take no memory.
+pub fn cursors_of(
+    alloc: Global,
+    received: &[Received],
+) -> Result<SmallVec<Cursor<'_>, FEW>, AllocError>
+    ensures { IfOk result (λ cursors. cursors.items ≡ map (λ (known : Knowledge). known.wave) received.now) }
+{
+    let mut cursors = SmallVec::new(alloc);
+    for pin in received {
+        cursors.push(pin.cursor())?;
+    }
+    Ok(cursors)
 }
 
 /// The least of the pins' frontiers and a bound.

@@ -72,7 +72,7 @@ same_from_Refines (One ∷ pins) (new ∷ others) (inr e, rest) none = let more 
 same_from_Refines _ _ r none = absurd r
 
 -- pins that are all 0 or all 1 are none of them X
-no_unknown : (w : Value) → is_same w Unknown ≡ false → (pins : List Value) →
+pub no_unknown : (w : Value) → is_same w Unknown ≡ false → (pins : List Value) →
     list_all (is_same w) pins ≡ true → list_any (is_same Unknown) pins ≡ false
 no_unknown w known [] all = refl
 no_unknown Zero known (Zero ∷ pins) all = no_unknown Zero known pins all

@@ -5,4 +5,5 @@ mod GateLemmas
 mod Results
 mod Rising
 mod Shown
+mod Summaries
 mod Waves

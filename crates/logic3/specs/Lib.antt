@@ -1,4 +1,5 @@
 pub mod Value
 pub mod Gate
+pub mod Summary
 pub mod Wave
 pub mod Rising

@@ -5,11 +5,13 @@ mod change;
 mod change_queue;
 mod gates;
 pub mod laws;
+mod summary;
 mod value;
 mod waveform;
 
 pub use change::{Change, value_after};
 pub use change_queue::ChangeQueue;
 pub use gates::{GateKind, gate};
+pub use summary::Summary;
 pub use value::Value;
 pub use waveform::Waveform;

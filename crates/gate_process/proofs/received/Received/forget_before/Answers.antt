@@ -1,4 +1,4 @@
-use Rattle.std.proofs.Common.{◌≡◌, ◌≤◌, ◌∙◌, length, take, ap, sym, subst}
+use Rattle.std.proofs.Common.{◌≡◌, ◌≤◌, ◌∙◌, length, take, ap, sym, subst, arith}
 use Rattle.logic3.specs.Wave.{value_in_the_end}
 use Rattle.logic3.proofs.CallerLemmas.{IsCut, AllPairs-Alternates}
 use Rattle.gate_process.specs.Knowledge.{Knowledge, IsKnowledge, forgetting}
@@ -36,3 +36,17 @@ invariant_of-self c = subst IsKnowledge (sym (forgot c)) (forgotten_is_known c.a
 pub returns : goal.returns
 unfolding known left
 returns c = forgot c ∙ ap (forgetting c.args.tick) c.self.view_is
+
+-- where no change is before the tick, nothing is forgotten
+pub returns-then-early-eq0 : goal.returns-then-early-eq0
+returns-then-early-eq0 c =
+    let rise = AllPairs-Alternates c.self.inside.before 0 c.self.inside.changes c.self.invariant.wave in
+    let none = c.if-early-eq0.true in
+    let count : 0 ≡ early_by c.args.tick c.self.inside.changes =
+    sym none ∙ c.early_changes-early.ensures.count ∙ ap (early_by c.args.tick) c.as_slice-changes.ensures in
+    let cut : IsCut c.args.tick c.self.inside.changes 0 =
+    subst (IsCut c.args.tick c.self.inside.changes) (sym count) (early_cut c.self.inside.changes c.args.tick rise) in
+    sym c.self.view_is
+    ∙ forgets (record { wave = record { before = c.self.inside.before; changes = c.self.inside.changes }; frontier = c.self.inside.frontier }) c.args.tick 0
+    c.self.invariant (omega arith) cut (λ start. ap (λ (k : Knowledge). k.wave.before) c.self.view_is ∙ c.requires start)
+    ∙ ap (forgetting c.args.tick) c.self.view_is
