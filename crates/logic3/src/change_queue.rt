@@ -4,9 +4,12 @@ use crate::change::Change;
 use std::alloc::{AllocError, Global};
 use std::marker::Model;
 
+/// So many changes may have room where none is kept.
+const FEW: usize = 16;
+
 /// A list of changes that grows at the end and is dropped from the front.
 ///
-/// Each takes constant time, on the whole.
+/// Each takes constant time, on the whole, and the memory follows what is kept.
 #[derive(Debug, Drop)]
 pub struct ChangeQueue {
     changes: Vec<Change>,
@@ -52,7 +55,7 @@ impl ChangeQueue {
         Ok(())
     }
 
-    /// Drops the first changes, so many.
+    /// Drops the first changes, so many. Where few of many are left, it gives memory back.
     pub fn drop_front(&mut self, count: usize)
         requires { count ≤ length self.old }
         ensures { self.new ≡ drop count self.old }
@@ -61,10 +64,22 @@ impl ChangeQueue {
         if self.start == self.changes.len() {
             self.changes.clear();
             self.start = 0;
+            self.give_back();
         } else if self.start > self.changes.len() / 2 {
             self.changes.rotate_left(self.start);
             self.changes.truncate(self.changes.len() - self.start);
             self.start = 0;
+            self.give_back();
+        }
+    }
+
+    /// Gives memory back where it is for more than a few changes and less than a quarter is used.
+    fn give_back(&mut self)
+        ensures { self.new ≡ self.old }
+    {
+        let used = self.changes.len();
+        if used < self.changes.capacity() / 4 {
+            self.changes.shrink_to(FEW.max(2 * used));
         }
     }
 
