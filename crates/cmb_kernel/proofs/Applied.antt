@@ -25,7 +25,7 @@ use Rattle.cmb_channels.proofs.CallerLemmas.{update-set, taken_at}
 use Rattle.gate_process.specs.Knowledge.{news_of, Tells}
 use Rattle.gate_process.specs.Step.{ProcessState, ProcessView, running, safe_of, next_frontier, reckoned, advanced, news, heard}
 use Rattle.gate_process.specs.Truth.{CanHear}
-use Rattle.gate_process.proofs.CallerLemmas.{frontier-end, news_true, Tells-le}
+use Rattle.gate_process.proofs.CallerLemmas.{frontier-end, news_true, no_news, Tells-le}
 use Rattle.cmb_kernel.specs.declared.counts.Counts.{Counts}
 use Rattle.cmb_events.specs.declared.event.Event.{Event}
 use Rattle.cmb_events.specs.declared.event.Event.TheVariants.{Deliver, Advance}
@@ -81,11 +81,7 @@ all_counted (Null bound ∷ messages) =
     let rest = all_counted messages in
     omega arith
 
--- a process has something to tell just where its frontier rises
-no_news : (process : ProcessState) → (next_frontier process == process.known.frontier) ≡ true → news process ≡ []
-no_news process e =
-    ap (λ same. cond same [] (news_of (changes_between (reckoned process) process.known.frontier (next_frontier process)) (next_frontier process))) e
-
+-- a process has something to tell where its frontier rises
 some_message : (changes : List Change) (to : ℕ) → (length (news_of changes to) == 0) ≡ false
 some_message [] to = refl
 some_message (change ∷ []) to = eqb-suc-zero _
@@ -108,7 +104,7 @@ pub record IsApplied (design : DesignView) (end : ℕ) (processes : List Process
 module _ {design : DesignView} {end : ℕ} {processes : List ProcessView} {sources : List ℕ} {nets : ℕ} {lists : List (List Message)}
     {counts : Counts} (all : IsRunning design end processes sources nets (state_of processes lists counts)) where
   -- what a net tells is true
-  news_tell : (net : ℕ) (process : ProcessView) → net < length design.circuit → process ≡ slice_index_or processes net process →
+  news_tell : (net : ℕ) (process : ProcessView) → net < length design.circuit → slice_get processes net ≡ Some process →
       Tells (value_of design.circuit net) process.state.known.frontier (next_frontier process.state) (news process.state)
   news_tell net process below is =
       let at = (runs_at all net process below is).at in
@@ -118,21 +114,21 @@ module _ {design : DesignView} {end : ℕ} {processes : List ProcessView} {sourc
       (all.sound.processes net process.state at)
 
   -- each message that a net tells raises its frontier
-  news_raise : (net : ℕ) (process : ProcessView) → net < length design.circuit → process ≡ slice_index_or processes net process →
+  news_raise : (net : ℕ) (process : ProcessView) → net < length design.circuit → slice_get processes net ≡ Some process →
       process.state.known.frontier + length (news process.state) ≤ next_frontier process.state
   news_raise net process below is =
       length-Tells (value_of design.circuit net) process.state.known.frontier (next_frontier process.state) (news process.state)
       (news_tell net process below is)
 
   -- no net tells of a tick past the end
-  next_within : (net : ℕ) (process : ProcessView) → net < length design.circuit → process ≡ slice_index_or processes net process →
+  next_within : (net : ℕ) (process : ProcessView) → net < length design.circuit → slice_get processes net ≡ Some process →
       next_frontier process.state ≤ end
   next_within net process below is =
       let at = (runs_at all net process below is).at in
       omega (arith, frontier-end process.state.net process.state.end (safe_of process.state), all.sound.ends net process.state at)
 
   -- so channels carry what a net tells
-  pub news_fit : (net : ℕ) (process : ProcessView) → net < length design.circuit → process ≡ slice_index_or processes net process →
+  pub news_fit : (net : ℕ) (process : ProcessView) → net < length design.circuit → slice_get processes net ≡ Some process →
       All Fits (news process.state)
   news_fit net process below is = λ k d h.
       let told = Tells-within _ _ _ (news process.state) (news_tell net process below is) k d h in
@@ -155,12 +151,12 @@ module _ {design : DesignView} {end : ℕ} {processes : List ProcessView} {sourc
   pub few_before : counts.changes + counts.nulls + 0 < 18_446_744_073_709_551_616
   few_before = let bound = message_bound in let last = all.within in omega (arith, bound, last)
 
-  pub few_messages : (net : ℕ) (process : ProcessView) → net < length design.circuit → process ≡ slice_index_or processes net process →
+  pub few_messages : (net : ℕ) (process : ProcessView) → net < length design.circuit → slice_get processes net ≡ Some process →
       counts.changes + counts.nulls + length (news process.state) < 18_446_744_073_709_551_616
   few_messages net process below is =
       omega (arith, news_raise net process below is, next_within net process below is, message_bound, all.within)
 
-  module _ (net : ℕ) (process : ProcessView) (below : net < length design.circuit) (is : process ≡ slice_index_or processes net process)
+  module _ (net : ℕ) (process : ProcessView) (below : net < length design.circuit) (is : slice_get processes net ≡ Some process)
       (change : ProcessState → ProcessState) where
     -- the process of a net changed
     pub changed : map (λ (p : ProcessView). p.state) (slice_set processes net (running (change process.state)))
@@ -220,7 +216,7 @@ module _ {design : DesignView} {end : ℕ} {processes : List ProcessView} {sourc
   module _ (pin net place : ℕ) (message : Message) (messages : List Message) (process : ProcessView)
       (exists : pin < pin_count design.circuit) (waiting : slice_index_or lists pin [] ≡ message ∷ messages)
       (net_is : net ≡ net_of_pin design.circuit pin) (place_is : place ≡ place_of_pin design.circuit pin)
-      (is : process ≡ slice_index_or processes net process) where
+      (is : slice_get processes net ≡ Some process) where
     net_below : net < length design.circuit
     net_below = let below = net_of_pin_below design.circuit pin exists in omega arith
 
@@ -267,13 +263,13 @@ module _ {design : DesignView} {end : ℕ} {processes : List ProcessView} {sourc
             ∙ ap (after_deliver (state_of processes lists counts) pin) (sym waiting)
 
   -- an Advance that raises the net's frontier is useful
-  pub farther_useful : (net : ℕ) (process : ProcessView) → net < length design.circuit → process ≡ slice_index_or processes net process →
+  pub farther_useful : (net : ℕ) (process : ProcessView) → net < length design.circuit → slice_get processes net ≡ Some process →
       process.state.known.frontier < next_frontier process.state → is_useful (state_of processes lists counts) (Advance net) ≡ true
   farther_useful net process below is farther =
       advance_useful (state_of processes lists counts) net process.state (runs_at all net process below is).at farther
 
   -- a net advanced
-  pub net_advanced : (net : ℕ) (process : ProcessView) → net < length design.circuit → process ≡ slice_index_or processes net process →
+  pub net_advanced : (net : ℕ) (process : ProcessView) → net < length design.circuit → slice_get processes net ≡ Some process →
       IsApplied design end (slice_set processes net (running (advanced process.state))) sources nets
       (sent net (news process.state) sources lists) (counted counts (news process.state)) (state_of processes lists counts) (Advance net)
       (not (length (news process.state) == 0))
@@ -327,7 +323,7 @@ module _ {design : DesignView} {end : ℕ} {processes : List ProcessView} {sourc
           not (length (news process.state) == 0) ≡ is_useful (state_of processes lists counts) (Advance net)
       useful true e =
           let is_same : next_frontier process.state ≡ process.state.known.frontier = eqb-true _ _ e in
-          ap (λ ms. not (length ms == 0)) (no_news process.state e)
+          ap (λ ms. not (length ms == 0)) (no_news process.state is_same)
           ∙ sym (advance_useless (state_of processes lists counts) net process.state at is_same)
       useful false e =
           let apart : next_frontier process.state ≡ process.state.known.frontier → ⊥ = eqb-false _ _ e in
@@ -336,7 +332,7 @@ module _ {design : DesignView} {end : ℕ} {processes : List ProcessView} {sourc
           ∙ sym (farther_useful net process below is (omega (arith, apart, ahead)))
 
   -- an Advance that has a message to tell is useful
-  pub telling_useful : (net : ℕ) (process : ProcessView) → net < length design.circuit → process ≡ slice_index_or processes net process →
+  pub telling_useful : (net : ℕ) (process : ProcessView) → net < length design.circuit → slice_get processes net ≡ Some process →
       0 < length (news process.state) → is_useful (state_of processes lists counts) (Advance net) ≡ true
   telling_useful net process below is some = sym (net_advanced net process below is).useful ∙ ap not (some-eqb (length (news process.state)) some)
     where

@@ -63,7 +63,7 @@ module _ (circuit : Circuit) (last : ℕ) (state : State) (sound : IsSound circu
 -- the parts of a running kernel after a net is drained
 module _ {design : DesignView} {end : ℕ} {processes : List ProcessView} {sources : List ℕ} {nets : ℕ} {lists : List (List Message)}
     {counts : Counts} (all : IsRunning design end processes sources nets (state_of processes lists counts))
-    (net bound : ℕ) (process : ProcessView) (below : net < length design.circuit) (is : process ≡ slice_index_or processes net process)
+    (net bound : ℕ) (process : ProcessView) (below : net < length design.circuit) (is : slice_get processes net ≡ Some process)
     (above : floor_at (state_of processes lists counts) net ≤ bound)
     (known : bound ≤ least_frontier end (state_of processes lists counts)) where
   -- the bound is between the net's floor and its frontier

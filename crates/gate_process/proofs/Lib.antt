@@ -9,6 +9,7 @@ mod Heard
 mod Kept
 mod Nets
 mod Passed
+mod Quiet
 mod ReadOnce
 mod Reckoned
 mod Starts
