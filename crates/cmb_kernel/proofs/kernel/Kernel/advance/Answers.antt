@@ -32,7 +32,7 @@ advance-requires-clause-net g c =
 pub advance-requires-clause-running : goal.advance-requires-clause-running
 advance-requires-clause-running g c = λ process at.
     let all = c.self.invariant (rw (← c.self.view_is) at c.requires.running) in
-    (runs_at all c.args.net process (rw (← c.self.view_is) at c.requires.exists) at).runs
+    (runs_at all c.args.net process at).runs
 
 pub add_event-requires : goal.add_event-requires
 add_event-requires g c =
@@ -40,14 +40,14 @@ add_event-requires g c =
     let mover = process g at in
     subst (λ (ms : _). c.self.inside.counts.changes + c.self.inside.counts.nulls + length ms < 18_446_744_073_709_551_616)
     (sym (c.as_slice-2.ensures.value ∙ c.in_ok-advance.ensures.news mover.0 mover.1))
-    (few_messages (all g at) c.args.net mover.0 (below g at) mover.1)
+    (few_messages (all g at) c.args.net mover.0 mover.1)
 
 pub send_all-requires-clause-fit : goal.send_all-requires-clause-fit
 send_all-requires-clause-fit g c =
     let at = (goal.at.send_all-requires-clause-fit g c).After-advance in
     let mover = process g at in
     subst (All Fits) (sym (c.as_slice.ensures.value ∙ c.in_ok-advance.ensures.news mover.0 mover.1))
-    (news_fit (all g at) c.args.net mover.0 (below g at) mover.1)
+    (news_fit (all g at) c.args.net mover.0 mover.1)
 
 -- what the event makes of the parts
 applied : (g : Over) (c : After-add_event g) →
@@ -80,7 +80,7 @@ returns-in_err-advance-clause-memory g c =
     let at = (goal.at.returns-in_err-advance-clause-memory g c).After-advance in
     let mover = process g at in
     let useful : is_useful c.args.self.now.state (Advance c.args.net) ≡ true = rw (← c.self.view_is)
-    (farther_useful (all g at) c.args.net mover.0 (below g at) mover.1 (c.in_err-advance.ensures.memory mover.0 mover.1)) in
+    (farther_useful (all g at) c.args.net mover.0 mover.1 (c.in_err-advance.ensures.memory mover.0 mover.1)) in
     OnErr_always _ useful
 
 pub returns-in_err-send_all-clause-memory : goal.returns-in_err-send_all-clause-memory

@@ -19,7 +19,7 @@ receive-requires-clause-net g c =
 pub receive-requires-clause-running : goal.receive-requires-clause-running
 receive-requires-clause-running g c = λ process at.
     let all = c.self.invariant (rw (← c.self.view_is) at c.requires.running) in
-    (runs_at all c.args.net process (rw (← c.self.view_is) at c.requires.within) at).runs
+    (runs_at all c.args.net process at).runs
 
 pub receive-requires-clause-place : goal.receive-requires-clause-place
 receive-requires-clause-place g c = λ process at.
@@ -28,7 +28,7 @@ receive-requires-clause-place g c = λ process at.
     let place = rw (← c.self.view_is) at c.requires.place in
     subst (λ n. n < length process.state.received) (sym place)
     (place_within all c.args.pin c.args.net process exists
-    (rw (← c.self.view_is) at c.requires.net) (rw (← c.self.view_is) at c.requires.within) at)
+    (rw (← c.self.view_is) at c.requires.net) at)
 
 pub receive-requires-clause-can_hear : goal.receive-requires-clause-can_hear
 receive-requires-clause-can_hear g c = λ process at.

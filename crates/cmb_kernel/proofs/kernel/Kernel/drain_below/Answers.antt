@@ -42,7 +42,7 @@ drain_below-requires-clause-net g c =
 pub drain_below-requires-clause-running : goal.drain_below-requires-clause-running
 drain_below-requires-clause-running g c = λ process found.
     let at = (goal.at.drain_below-requires-clause-running g c).In_ok-check_running in
-    (runs_at (all g at) c.args.net process (below g at) found).runs
+    (runs_at (all g at) c.args.net process found).runs
 
 pub drain_below-requires-clause-known : goal.drain_below-requires-clause-known
 drain_below-requires-clause-known g c = λ process found.

@@ -19,7 +19,7 @@ of_net-requires g c =
 pub received-requires-clause-running : goal.received-requires-clause-running
 received-requires-clause-running g c =
     let all = c.self.invariant (rw (← c.self.view_is) at c.requires.running) in
-    (runs_at all c.pin_net-net.result c.of_net.result.now c.pin_net-net.ensures.within c.of_net.ensures).runs
+    (runs_at all c.pin_net-net.result c.of_net.result.now c.of_net.ensures).runs
 
 pub received-requires-clause-place : goal.received-requires-clause-place
 received-requires-clause-place g c =
@@ -28,7 +28,7 @@ received-requires-clause-place g c =
     c.pin_net-net.ensures.net c.pin.ensures.pin).1 in
     subst (λ at. at < length c.of_net.result.now.state.received) (sym place)
     (place_within all c.args.pin c.pin_net-net.result c.of_net.result.now (rw (← c.self.view_is) at c.requires.pin)
-    c.pin_net-net.ensures.net c.pin_net-net.ensures.within c.of_net.ensures)
+    c.pin_net-net.ensures.net c.of_net.ensures)
 
 pub returns-clause-received : goal.returns-clause-received
 returns-clause-received g c =
@@ -37,10 +37,10 @@ returns-clause-received g c =
     c.pin_net-net.ensures.net c.pin.ensures.pin).1 in
     rw (← c.self.view_is)
     (received_is all c.args.pin c.pin_net-net.result _ c.received.result c.of_net.result.now c.pin_net-net.ensures.net place
-    c.pin_net-net.ensures.within c.of_net.ensures c.received.ensures)
+    c.of_net.ensures c.received.ensures)
 
 pub returns-clause-within : goal.returns-clause-within
 returns-clause-within g c =
     let all = c.self.invariant (rw (← c.self.view_is) at c.requires.running) in
     rw (← c.self.view_is)
-    (received_in_time all c.pin_net-net.result _ c.received.result c.of_net.result.now c.pin_net-net.ensures.within c.of_net.ensures c.received.ensures)
+    (received_in_time all c.pin_net-net.result _ c.received.result c.of_net.result.now c.of_net.ensures c.received.ensures)

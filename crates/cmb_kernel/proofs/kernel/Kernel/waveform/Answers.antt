@@ -15,14 +15,14 @@ of_net-requires g c =
 pub waveform-requires : goal.waveform-requires
 waveform-requires g c =
     let all = c.self.invariant (rw (← c.self.view_is) at c.requires.running) in
-    record { running = (runs_at all c.args.net c.of_net.result.now (rw (← c.self.view_is) at c.requires.net) c.of_net.ensures).runs }
+    record { running = (runs_at all c.args.net c.of_net.result.now c.of_net.ensures).runs }
 
 known : (g : Over) (c : After-waveform g) → c.waveform.result.now
     ≡ wave_of (value_of c.args.self.now.circuit c.args.net) (floor_at c.args.self.now.state c.args.net) (frontier_at c.args.self.now.state c.args.net)
 known g c =
     let all = c.self.invariant (rw (← c.self.view_is) at c.requires.running) in
     rw (← c.self.view_is)
-    (c.waveform.ensures ∙ wave_is all c.args.net c.of_net.result.now (rw (← c.self.view_is) at c.requires.net) c.of_net.ensures)
+    (c.waveform.ensures ∙ wave_is all c.args.net c.of_net.result.now c.of_net.ensures)
 
 pub returns-clause-waveform : goal.returns-clause-waveform
 returns-clause-waveform g c = known g c
