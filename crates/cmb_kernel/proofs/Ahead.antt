@@ -12,12 +12,12 @@ use Rattle.design.specs.Pins.{first_pin, net_of_pin, place_of_pin}
 use Rattle.cmb_channels.proofs.CallerLemmas.{map-update, view_at, get_update_same, get_update_other}
 use Rattle.gate_process.specs.Knowledge.{Knowledge, Tells}
 use Rattle.gate_process.specs.Step.{ProcessState, least, frontier_of, advanced, heard}
-use Rattle.gate_process.proofs.CallerLemmas.{frontier-mono}
+use Rattle.gate_process.proofs.CallerLemmas.{frontier-mono, get_below}
 use Rattle.cmb_events.specs.declared.event.Event.TheVariants.{Deliver, Advance}
 use Rattle.cmb_kernel.specs.State.{State, started, nets_of, frontier_at, IsComplete}
 use Rattle.cmb_kernel.specs.Step.{step, steps, after_deliver, deliveries_from, round_of, rounds}
 use Rattle.cmb_kernel.specs.Sound.{IsSound}
-use Rattle.cmb_kernel.proofs.Soundness.{get_below, net_at, started_frontier, started_sound, steps_sound}
+use Rattle.cmb_kernel.proofs.Soundness.{net_at, started_frontier, started_sound, steps_sound}
 use Rattle.cmb_kernel.proofs.LeastFrontier.{at_pin, steps-append, net_count, all_emptied, deliveries_exist, round_sound}
 use Rattle.cmb_kernel.proofs.Completion.{frontier_within, rounds_sound}
 

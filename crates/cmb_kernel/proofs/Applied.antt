@@ -15,7 +15,7 @@ use Rattle.design.specs.Circuit.{pin_count}
 use Rattle.design.specs.Design.{DesignView}
 use Rattle.design.specs.Equations.{value_of}
 use Rattle.design.specs.Pins.{sources_of, net_of_pin, place_of_pin}
-use Rattle.design.proofs.CallerLemmas.{net_of_pin_below, net_limit}
+use Rattle.design.proofs.CallerLemmas.{net_limit}
 use Rattle.cmb_channels.specs.declared.message.Message.{Message}
 use Rattle.cmb_channels.specs.declared.message.Message.TheVariants.{Change as Changes, Null}
 use Rattle.cmb_channels.specs.Kinds.{is_change, is_null}
@@ -25,7 +25,7 @@ use Rattle.cmb_channels.proofs.CallerLemmas.{update-set, taken_at}
 use Rattle.gate_process.specs.Knowledge.{news_of, Tells}
 use Rattle.gate_process.specs.Step.{ProcessState, ProcessView, running, safe_of, next_frontier, reckoned, advanced, news, heard}
 use Rattle.gate_process.specs.Truth.{CanHear}
-use Rattle.gate_process.proofs.CallerLemmas.{frontier-end, news_true, Tells-le}
+use Rattle.gate_process.proofs.CallerLemmas.{frontier-end, news_true, no_news, Tells-le}
 use Rattle.cmb_kernel.specs.declared.counts.Counts.{Counts}
 use Rattle.cmb_events.specs.declared.event.Event.{Event}
 use Rattle.cmb_events.specs.declared.event.Event.TheVariants.{Deliver, Advance}
@@ -81,11 +81,7 @@ all_counted (Null bound ∷ messages) =
     let rest = all_counted messages in
     omega arith
 
--- a process has something to tell just where its frontier rises
-no_news : (process : ProcessState) → (next_frontier process == process.known.frontier) ≡ true → news process ≡ []
-no_news process e =
-    ap (λ same. cond same [] (news_of (changes_between (reckoned process) process.known.frontier (next_frontier process)) (next_frontier process))) e
-
+-- a process has something to tell where its frontier changes
 some_message : (changes : List Change) (to : ℕ) → (length (news_of changes to) == 0) ≡ false
 some_message [] to = refl
 some_message (change ∷ []) to = eqb-suc-zero _
@@ -108,35 +104,35 @@ pub record IsApplied (design : DesignView) (end : ℕ) (processes : List Process
 module _ {design : DesignView} {end : ℕ} {processes : List ProcessView} {sources : List ℕ} {nets : ℕ} {lists : List (List Message)}
     {counts : Counts} (all : IsRunning design end processes sources nets (state_of processes lists counts)) where
   -- what a net tells is true
-  news_tell : (net : ℕ) (process : ProcessView) → net < length design.circuit → process ≡ slice_index_or processes net process →
+  news_tell : (net : ℕ) (process : ProcessView) → slice_get processes net ≡ Some process →
       Tells (value_of design.circuit net) process.state.known.frontier (next_frontier process.state) (news process.state)
-  news_tell net process below is =
-      let at = (runs_at all net process below is).at in
+  news_tell net process is =
+      let at = (runs_at all net process is).at in
       let ok = circuit_ok all in
       news_true (value_of design.circuit) net process.state
       (meets_at design.circuit ok net process.state.net (net_at design.circuit ok end (state_of processes lists counts) all.sound net process.state at))
       (all.sound.processes net process.state at)
 
   -- each message that a net tells raises its frontier
-  news_raise : (net : ℕ) (process : ProcessView) → net < length design.circuit → process ≡ slice_index_or processes net process →
+  news_raise : (net : ℕ) (process : ProcessView) → slice_get processes net ≡ Some process →
       process.state.known.frontier + length (news process.state) ≤ next_frontier process.state
-  news_raise net process below is =
+  news_raise net process is =
       length-Tells (value_of design.circuit net) process.state.known.frontier (next_frontier process.state) (news process.state)
-      (news_tell net process below is)
+      (news_tell net process is)
 
   -- no net tells of a tick past the end
-  next_within : (net : ℕ) (process : ProcessView) → net < length design.circuit → process ≡ slice_index_or processes net process →
+  next_within : (net : ℕ) (process : ProcessView) → slice_get processes net ≡ Some process →
       next_frontier process.state ≤ end
-  next_within net process below is =
-      let at = (runs_at all net process below is).at in
+  next_within net process is =
+      let at = (runs_at all net process is).at in
       omega (arith, frontier-end process.state.net process.state.end (safe_of process.state), all.sound.ends net process.state at)
 
   -- so channels carry what a net tells
-  pub news_fit : (net : ℕ) (process : ProcessView) → net < length design.circuit → process ≡ slice_index_or processes net process →
+  pub news_fit : (net : ℕ) (process : ProcessView) → slice_get processes net ≡ Some process →
       All Fits (news process.state)
-  news_fit net process below is = λ k d h.
-      let told = Tells-within _ _ _ (news process.state) (news_tell net process below is) k d h in
-      omega (arith, told, next_within net process below is, all.within)
+  news_fit net process is = λ k d h.
+      let told = Tells-within _ _ _ (news process.state) (news_tell net process is) k d h in
+      omega (arith, told, next_within net process is, all.within)
 
   -- all messages are no more than the ticks of all nets
   message_bound : counts.changes + counts.nulls ≤ 100_000 * end
@@ -155,19 +151,19 @@ module _ {design : DesignView} {end : ℕ} {processes : List ProcessView} {sourc
   pub few_before : counts.changes + counts.nulls + 0 < 18_446_744_073_709_551_616
   few_before = let bound = message_bound in let last = all.within in omega (arith, bound, last)
 
-  pub few_messages : (net : ℕ) (process : ProcessView) → net < length design.circuit → process ≡ slice_index_or processes net process →
+  pub few_messages : (net : ℕ) (process : ProcessView) → slice_get processes net ≡ Some process →
       counts.changes + counts.nulls + length (news process.state) < 18_446_744_073_709_551_616
-  few_messages net process below is =
-      omega (arith, news_raise net process below is, next_within net process below is, message_bound, all.within)
+  few_messages net process is =
+      omega (arith, news_raise net process is, next_within net process is, message_bound, all.within)
 
-  module _ (net : ℕ) (process : ProcessView) (below : net < length design.circuit) (is : process ≡ slice_index_or processes net process)
+  module _ (net : ℕ) (process : ProcessView) (is : slice_get processes net ≡ Some process)
       (change : ProcessState → ProcessState) where
     -- the process of a net changed
     pub changed : map (λ (p : ProcessView). p.state) (slice_set processes net (running (change process.state)))
         ≡ update change net (map (λ (p : ProcessView). p.state) processes)
     changed =
         map-set (λ (p : ProcessView). p.state) processes net (running (change process.state))
-        ∙ sym (update-set change net (map (λ (p : ProcessView). p.state) processes) process.state (runs_at all net process below is).at)
+        ∙ sym (update-set change net (map (λ (p : ProcessView). p.state) processes) process.state (runs_at all net process is).at)
 
     pub changed_runs : slice_set processes net (running (change process.state))
         ≡ map running (map (λ (p : ProcessView). p.state) (slice_set processes net (running (change process.state))))
@@ -182,7 +178,7 @@ module _ {design : DesignView} {end : ℕ} {processes : List ProcessView} {sourc
     changed_frontiers =
         ap (λ ps. sum_by (λ (p : ProcessState). p.known.frontier) ps + process.state.known.frontier) changed
         ∙ sum_by-update (λ (p : ProcessState). p.known.frontier) change net (map (λ (p : ProcessView). p.state) processes) process.state
-        (runs_at all net process below is).at
+        (runs_at all net process is).at
 
   -- nothing waited at the pin, where what waits is what is left behind its front
   pub none_waits : (pin : ℕ) → pin < pin_count design.circuit → slice_index_or lists pin [] ≡ slice_index_or (taken pin lists) pin [] →
@@ -220,10 +216,7 @@ module _ {design : DesignView} {end : ℕ} {processes : List ProcessView} {sourc
   module _ (pin net place : ℕ) (message : Message) (messages : List Message) (process : ProcessView)
       (exists : pin < pin_count design.circuit) (waiting : slice_index_or lists pin [] ≡ message ∷ messages)
       (net_is : net ≡ net_of_pin design.circuit pin) (place_is : place ≡ place_of_pin design.circuit pin)
-      (is : process ≡ slice_index_or processes net process) where
-    net_below : net < length design.circuit
-    net_below = let below = net_of_pin_below design.circuit pin exists in omega arith
-
+      (is : slice_get processes net ≡ Some process) where
     below : pin < length lists
     below = let count = all.sound.lists in omega arith
 
@@ -237,7 +230,7 @@ module _ {design : DesignView} {end : ℕ} {processes : List ProcessView} {sourc
     can_be_told =
         subst (λ at. CanHear process.state at message) (sym place_there)
         (can_hear design.circuit (circuit_ok all) end (state_of processes lists counts) all.sound pin message messages waiting below process.state
-        (subst (λ n. slice_get (map (λ (p : ProcessView). p.state) processes) n ≡ Some process.state) net_there (runs_at all net process net_below is).at))
+        (subst (λ n. slice_get (map (λ (p : ProcessView). p.state) processes) n ≡ Some process.state) net_there (runs_at all net process is).at))
 
     -- its process was told the first message
     pub message_came : IsApplied design end (slice_set processes net (running (heard place message process.state))) sources nets
@@ -247,10 +240,10 @@ module _ {design : DesignView} {end : ℕ} {processes : List ProcessView} {sourc
       all = record {
         well_formed = all.well_formed;
         within = all.within;
-        all_run = changed_runs net process net_below is (heard place message);
+        all_run = changed_runs net process is (heard place message);
         feeds = all.feeds;
         all_nets = all.all_nets;
-        messages = let sum = all.messages in let same = changed_frontiers net process net_below is (heard place message) in omega (arith, sum, same);
+        messages = let sum = all.messages in let same = changed_frontiers net process is (heard place message) in omega (arith, sum, same);
         sound = subst (IsSound design.circuit end) (sym after)
             (step_sound design.circuit (circuit_ok all) end (state_of processes lists counts) (Deliver pin) all.sound exists);
       };
@@ -261,19 +254,19 @@ module _ {design : DesignView} {end : ℕ} {processes : List ProcessView} {sourc
             ≡ step (state_of processes lists counts) (Deliver pin)
         after =
             ap (λ ps. record { processes = ps; lists = taken pin lists; counts = counted counts [] })
-            (changed net process net_below is (heard place message)
+            (changed net process is (heard place message)
             ∙ ap (λ at. update (heard at message) net (map (λ (p : ProcessView). p.state) processes)) place_there
             ∙ ap (λ n. update (heard (place_of_pin (nets_of (state_of processes lists counts)) pin) message) n (map (λ (p : ProcessView). p.state) processes)) net_there)
             ∙ ap (after_deliver (state_of processes lists counts) pin) (sym waiting)
 
   -- an Advance that raises the net's frontier is useful
-  pub farther_useful : (net : ℕ) (process : ProcessView) → net < length design.circuit → process ≡ slice_index_or processes net process →
+  pub farther_useful : (net : ℕ) (process : ProcessView) → slice_get processes net ≡ Some process →
       process.state.known.frontier < next_frontier process.state → is_useful (state_of processes lists counts) (Advance net) ≡ true
-  farther_useful net process below is farther =
-      advance_useful (state_of processes lists counts) net process.state (runs_at all net process below is).at farther
+  farther_useful net process is farther =
+      advance_useful (state_of processes lists counts) net process.state (runs_at all net process is).at farther
 
   -- a net advanced
-  pub net_advanced : (net : ℕ) (process : ProcessView) → net < length design.circuit → process ≡ slice_index_or processes net process →
+  pub net_advanced : (net : ℕ) (process : ProcessView) → net < length design.circuit → slice_get processes net ≡ Some process →
       IsApplied design end (slice_set processes net (running (advanced process.state))) sources nets
       (sent net (news process.state) sources lists) (counted counts (news process.state)) (state_of processes lists counts) (Advance net)
       (not (length (news process.state) == 0))
@@ -282,13 +275,13 @@ module _ {design : DesignView} {end : ℕ} {processes : List ProcessView} {sourc
     all = record {
       well_formed = all.well_formed;
       within = all.within;
-      all_run = changed_runs net process below is advanced;
+      all_run = changed_runs net process is advanced;
       feeds = all.feeds;
       all_nets = all.all_nets;
       messages =
           let sum = all.messages in
-          let frontiers = changed_frontiers net process below is advanced in
-          let raised = news_raise net process below is in
+          let frontiers = changed_frontiers net process is advanced in
+          let raised = news_raise net process is in
           let count = all_counted (news process.state) in
           omega (arith, sum, frontiers, raised, count);
       sound = subst (IsSound design.circuit end) (sym after)
@@ -298,7 +291,7 @@ module _ {design : DesignView} {end : ℕ} {processes : List ProcessView} {sourc
   }
     where
       at : slice_get (map (λ (p : ProcessView). p.state) processes) net ≡ Some process.state
-      at = (runs_at all net process below is).at
+      at = (runs_at all net process is).at
 
       told : news process.state ≡ news_at (state_of processes lists counts) net
       told = ap (λ place. option_map_or news place []) (sym at)
@@ -311,7 +304,7 @@ module _ {design : DesignView} {end : ℕ} {processes : List ProcessView} {sourc
           ≡ step (state_of processes lists counts) (Advance net)
       after =
           ap (λ ps. record { processes = ps; lists = sent net (news process.state) sources lists; counts = counted counts (news process.state) })
-          (changed net process below is advanced)
+          (changed net process is advanced)
           ∙ ap (λ ss. record {
             processes = update advanced net (map (λ (p : ProcessView). p.state) processes);
             lists = sent net (news process.state) ss lists;
@@ -327,16 +320,16 @@ module _ {design : DesignView} {end : ℕ} {processes : List ProcessView} {sourc
           not (length (news process.state) == 0) ≡ is_useful (state_of processes lists counts) (Advance net)
       useful true e =
           let is_same : next_frontier process.state ≡ process.state.known.frontier = eqb-true _ _ e in
-          ap (λ ms. not (length ms == 0)) (no_news process.state e)
+          ap (λ ms. not (length ms == 0)) (no_news process.state is_same)
           ∙ sym (advance_useless (state_of processes lists counts) net process.state at is_same)
       useful false e =
           let apart : next_frontier process.state ≡ process.state.known.frontier → ⊥ = eqb-false _ _ e in
           let ahead = (all.sound.processes net process.state at).ahead in
           ap (λ b. not b) (some_news process.state e)
-          ∙ sym (farther_useful net process below is (omega (arith, apart, ahead)))
+          ∙ sym (farther_useful net process is (omega (arith, apart, ahead)))
 
   -- an Advance that has a message to tell is useful
-  pub telling_useful : (net : ℕ) (process : ProcessView) → net < length design.circuit → process ≡ slice_index_or processes net process →
+  pub telling_useful : (net : ℕ) (process : ProcessView) → net < length design.circuit → slice_get processes net ≡ Some process →
       0 < length (news process.state) → is_useful (state_of processes lists counts) (Advance net) ≡ true
   telling_useful net process below is some = sym (net_advanced net process below is).useful ∙ ap not (some-eqb (length (news process.state)) some)
     where

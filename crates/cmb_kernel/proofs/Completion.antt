@@ -6,12 +6,11 @@ use Rattle.std.proofs.lemmas.Option.{slice_get-get_or, get_or_from_slice_get}
 use Rattle.std.proofs.Math.Nat.{suc-mul}
 use Rattle.design.specs.Circuit.{Circuit, IsCircuit}
 use Rattle.gate_process.specs.Step.{ProcessState, next_frontier, safe_of}
-use Rattle.gate_process.proofs.CallerLemmas.{frontier-end, least-bound}
+use Rattle.gate_process.proofs.CallerLemmas.{frontier-end, get_below, least-bound}
 use Rattle.cmb_channels.proofs.CallerLemmas.{view_at}
 use Rattle.cmb_kernel.specs.State.{State, frontier_at, least_frontier, least_delay, IsComplete, is_complete}
 use Rattle.cmb_kernel.specs.Step.{round_of, rounds, completed_within}
 use Rattle.cmb_kernel.specs.Sound.{IsSound}
-use Rattle.cmb_kernel.proofs.Soundness.{get_below}
 use Rattle.cmb_kernel.proofs.LeastFrontier.{net_count, least_frontier-le, least_frontier_greatest, round_sound, round_raises}
 
 pub rounds_sound : (circuit : Circuit) → IsCircuit circuit → (last : ℕ) (count : ℕ) (state : State) → IsSound circuit last state →

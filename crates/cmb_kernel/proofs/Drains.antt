@@ -63,20 +63,20 @@ module _ (circuit : Circuit) (last : ℕ) (state : State) (sound : IsSound circu
 -- the parts of a running kernel after a net is drained
 module _ {design : DesignView} {end : ℕ} {processes : List ProcessView} {sources : List ℕ} {nets : ℕ} {lists : List (List Message)}
     {counts : Counts} (all : IsRunning design end processes sources nets (state_of processes lists counts))
-    (net bound : ℕ) (process : ProcessView) (below : net < length design.circuit) (is : process ≡ slice_index_or processes net process)
+    (net bound : ℕ) (process : ProcessView) (below : net < length design.circuit) (is : slice_get processes net ≡ Some process)
     (above : floor_at (state_of processes lists counts) net ≤ bound)
     (known : bound ≤ least_frontier end (state_of processes lists counts)) where
   -- the bound is between the net's floor and its frontier
   pub bounded : (process.state.floor ≤ bound) × (bound ≤ process.state.known.frontier)
   bounded =
-      let floor = floor_is all net process below is in
-      let frontier = frontier_is all net process below is in
+      let floor = floor_is all net process is in
+      let frontier = frontier_is all net process is in
       let least = least_frontier-le design.circuit end (state_of processes lists counts) all.sound net below in
       (omega arith, omega arith)
 
   can_drain : CanDrain (state_of processes lists counts) net bound
   can_drain other at =
-      let here = (runs_at all net process below is).at in
+      let here = (runs_at all net process is).at in
       let same : process.state ≡ other = cc in
       subst (λ (p : ProcessState). (p.floor ≤ bound) × (bound ≤ p.known.frontier)) same bounded
 
@@ -84,19 +84,19 @@ module _ {design : DesignView} {end : ℕ} {processes : List ProcessView} {sourc
       ≡ after_drain (state_of processes lists counts) net bound
   after =
       ap (λ ps. record { processes = ps; lists = lists; counts = counts })
-      (changed all net process below is (drained bound))
+      (changed all net process is (drained bound))
 
   pub net_drained : IsRunning design end (slice_set processes net (running (drained bound process.state))) sources nets
       (state_of (slice_set processes net (running (drained bound process.state))) lists counts)
   net_drained = record {
     well_formed = all.well_formed;
     within = all.within;
-    all_run = changed_runs all net process below is (drained bound);
+    all_run = changed_runs all net process is (drained bound);
     feeds = all.feeds;
     all_nets = all.all_nets;
     messages =
         let sum = all.messages in
-        let frontiers = changed_frontiers all net process below is (drained bound) in
+        let frontiers = changed_frontiers all net process is (drained bound) in
         omega (arith, sum, frontiers);
     sound = subst (IsSound design.circuit end) (sym after)
         (drain_sound design.circuit end (state_of processes lists counts) all.sound net bound can_drain);
@@ -107,13 +107,13 @@ module _ {design : DesignView} {end : ℕ} {processes : List ProcessView} {sourc
       ≡ changes_between (value_of design.circuit net) (floor_at (state_of processes lists counts) net) bound
   taken_out =
       drained_true (value_of design.circuit) net bound process.state
-      (all.sound.processes net process.state (runs_at all net process below is).at) bounded.0 bounded.1
-      ∙ ap (λ from. changes_between (value_of design.circuit net) from bound) (floor_is all net process below is)
+      (all.sound.processes net process.state (runs_at all net process is).at) bounded.0 bounded.1
+      ∙ ap (λ from. changes_between (value_of design.circuit net) from bound) (floor_is all net process is)
 
   -- and the bound is the floor then
   pub floor_after : floor_at (after_drain (state_of processes lists counts) net bound) net ≡ bound
   floor_after =
-      let here = (runs_at all net process below is).at in
+      let here = (runs_at all net process is).at in
       let low = bounded.0 in
       view_of_update_same (λ (p : ProcessState). p.floor) (drained bound) net (map (λ (p : ProcessView). p.state) processes) process.state here
       ∙ (let e : max process.state.floor bound ≡ bound = omega arith in e)

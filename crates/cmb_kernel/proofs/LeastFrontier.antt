@@ -14,14 +14,14 @@ use Rattle.design.specs.Pins.{first_pin, net_of_pin, place_of_pin}
 use Rattle.cmb_channels.proofs.CallerLemmas.{map-update, IsUpdated, get_of_update, view_of_update_same, view_of_update_other, view_at, length-taken, taken_at, taken_elsewhere}
 use Rattle.gate_process.specs.Knowledge.{Knowledge, Tells}
 use Rattle.gate_process.specs.Step.{ProcessState, own_delay, safe_of, next_frontier, extended, advanced, heard}
-use Rattle.gate_process.proofs.CallerLemmas.{least-le, least-bound, least_greatest, frontier-farther, get_of_kept, get_of_map}
+use Rattle.gate_process.proofs.CallerLemmas.{frontier-farther, get_below, get_of_kept, get_of_map, least-bound, least-le, least_greatest}
 use Rattle.cmb_events.specs.declared.event.Event.{Event}
 use Rattle.cmb_events.specs.declared.event.Event.TheVariants.{Deliver, Advance}
 use Rattle.cmb_kernel.specs.State.{State, nets_of, frontier_at, least_frontier, least_delay}
 use Rattle.cmb_kernel.specs.Step.{after_deliver, after_advance, step, steps, deliveries_from, round_events, round_of}
 use Rattle.cmb_events.specs.Schedule.{Exists}
 use Rattle.cmb_kernel.specs.Sound.{IsSound}
-use Rattle.cmb_kernel.proofs.Soundness.{get_below, net_at, step_sound, steps_sound}
+use Rattle.cmb_kernel.proofs.Soundness.{net_at, step_sound, steps_sound}
 
 pub join : (a b c : ℕ) → a ≤ b → b ≤ c → a ≤ c
 join a b c h k = omega arith

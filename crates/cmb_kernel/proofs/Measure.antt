@@ -17,7 +17,7 @@ use Rattle.cmb_channels.specs.declared.message.Message.TheVariants.{Change as Ch
 use Rattle.cmb_channels.proofs.CallerLemmas.{view_at}
 use Rattle.gate_process.specs.Knowledge.{Knowledge, news_of}
 use Rattle.gate_process.specs.Step.{ProcessState, next_frontier, reckoned, advanced, news}
-use Rattle.gate_process.proofs.CallerLemmas.{Tells-le}
+use Rattle.gate_process.proofs.CallerLemmas.{Tells-le, get_below}
 use Rattle.cmb_events.specs.declared.event.Event.{Event}
 use Rattle.cmb_events.specs.declared.event.Event.TheVariants.{Deliver, Advance}
 use Rattle.cmb_kernel.specs.State.{State, frontier_at}
@@ -25,7 +25,7 @@ use Rattle.cmb_kernel.specs.Useful.{progress_of, progress, is_advance, is_useful
 use Rattle.cmb_kernel.specs.Step.{step, steps, after_deliver}
 use Rattle.cmb_events.specs.Schedule.{Exists}
 use Rattle.cmb_kernel.specs.Sound.{IsSound}
-use Rattle.cmb_kernel.proofs.Soundness.{get_below, net_at, step_sound, steps_sound}
+use Rattle.cmb_kernel.proofs.Soundness.{net_at, step_sound, steps_sound}
 use Rattle.cmb_kernel.proofs.LeastFrontier.{net_count}
 use Rattle.cmb_kernel.proofs.Completion.{frontier_within}
 use Rattle.cmb_kernel.proofs.UsefulEvents.{sum_by-update, progress-advanced, advance_useful, deliver_useful}

@@ -13,14 +13,14 @@ use Rattle.cmb_channels.specs.declared.message.Message.{Message}
 use Rattle.cmb_channels.proofs.CallerLemmas.{map-update, view_at, view_of_update_same, view_of_update_other}
 use Rattle.gate_process.specs.Knowledge.{Knowledge}
 use Rattle.gate_process.specs.Step.{ProcessState, started_process, advanced, heard, drained, drained_changes}
-use Rattle.gate_process.proofs.CallerLemmas.{drained_true}
+use Rattle.gate_process.proofs.CallerLemmas.{drained_true, get_below}
 use Rattle.cmb_events.specs.declared.event.Event.{Event}
 use Rattle.cmb_events.specs.declared.event.Event.TheVariants.{Deliver, Advance}
 use Rattle.cmb_kernel.specs.State.{State, started, nets_of, floor_at, IsComplete, is_complete}
 use Rattle.cmb_kernel.specs.Step.{step, steps, after_deliver, after_drain, round_events, round_of, completed_within}
 use Rattle.cmb_kernel.specs.Sound.{IsSound}
 use Rattle.cmb_kernel.specs.Drains.{Action, happens, drains, acted, all_acted, events_among, IsAllowed, CanAct, handed_out, apart_from_waves}
-use Rattle.cmb_kernel.proofs.Soundness.{get_below, started_sound, step_sound}
+use Rattle.cmb_kernel.proofs.Soundness.{started_sound, step_sound}
 use Rattle.cmb_kernel.proofs.LeastFrontier.{net_count}
 use Rattle.cmb_kernel.proofs.Drains.{drain_sound}
 use Rattle.cmb_kernel.proofs.Alike.{alike_step, alike_drain}

@@ -12,11 +12,11 @@ use Rattle.gate_process.specs.Step.{ProcessState, next_frontier, kept, all_kept,
 use Rattle.cmb_events.specs.declared.event.Event.{Event}
 use Rattle.cmb_events.specs.declared.event.Event.TheVariants.{Deliver, Advance}
 use Rattle.cmb_events.specs.Schedule.{Exists}
+use Rattle.gate_process.proofs.CallerLemmas.{get_below}
 use Rattle.cmb_kernel.specs.State.{State, nets_of, frontier_at, received_of, received_at}
 use Rattle.cmb_kernel.specs.Step.{step, after_advance, after_deliver}
 use Rattle.cmb_kernel.specs.Useful.{NoneFalls, SomeRises, is_useful}
 use Rattle.cmb_kernel.specs.Sound.{IsSound}
-use Rattle.cmb_kernel.proofs.Soundness.{get_below}
 use Rattle.cmb_kernel.proofs.LeastFrontier.{net_count, frontier_rises}
 use Rattle.cmb_kernel.proofs.UsefulEvents.{advance_useful, advance_useless, deliver_useful, deliver_useless, message_raises, process_of_pin}
 

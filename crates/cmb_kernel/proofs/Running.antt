@@ -1,9 +1,9 @@
 -- What the parts of a running kernel tell.
-use Rattle.std.proofs.Common.{◌≡◌, ℕ, suc, ◌+◌, ◌-◌, ◌<◌, ◌≤◌, Bool, false, List, [], ◌∷◌, map, length, Option, None, Some, slice_get, slice_index_or, refl, ap, sym, subst, ◌∙◌, arith, zero-add, add-zero}
+use Rattle.std.proofs.Common.{◌≡◌, ℕ, suc, ◌+◌, ◌-◌, ◌<◌, ◌≤◌, Bool, false, List, [], ◌∷◌, map, length, Option, None, Some, slice_get, refl, ap, sym, subst, ◌∙◌, arith, zero-add, add-zero}
 use Rattle.std.specs.List.{range_with_len}
 use Rattle.std.specs.Option.{option_map, option_map_or, ForSome}
 use Rattle.std.proofs.lemmas.List.{length-map}
-use Rattle.std.proofs.lemmas.Option.{slice_get-map, slice_get-get_or, get_or_from_slice_get, same_Some}
+use Rattle.std.proofs.lemmas.Option.{slice_get-map, get_or_from_slice_get, same_Some}
 use Rattle.logic3.specs.Wave.{Wave, wave_of}
 use Rattle.design.specs.Circuit.{Net, Circuit, IsCircuit, pin_count}
 use Rattle.design.specs.Design.{DesignView}
@@ -14,6 +14,7 @@ use Rattle.cmb_channels.specs.declared.message.Message.{Message}
 use Rattle.cmb_channels.proofs.CallerLemmas.{view_at}
 use Rattle.gate_process.specs.Knowledge.{Knowledge}
 use Rattle.gate_process.specs.Step.{ProcessState, ProcessView, running}
+use Rattle.gate_process.proofs.CallerLemmas.{get_below}
 use Rattle.cmb_kernel.specs.declared.counts.Counts.{Counts}
 use Rattle.cmb_kernel.specs.State.{State, KernelView, nets_of, frontier_at, floor_at, IsUndrained, received_of, received_at, IsComplete, waves_in}
 use Rattle.cmb_kernel.specs.Running.{state_of, IsRunning}
@@ -59,59 +60,63 @@ module _ {design : DesignView} {end : ℕ} {processes : List ProcessView} {sourc
   length-processes =
       sym (length-map processes (λ (p : ProcessView). p.state)) ∙ net_count design.circuit end (state_of processes lists counts) all.sound
 
-  pub runs_at : (net : ℕ) (process : ProcessView) → net < length design.circuit → process ≡ slice_index_or processes net process →
+  pub process_below : (net : ℕ) → net < length design.circuit → net < length processes
+  process_below net below = let count = length-processes in omega arith
+
+  -- each net has a process
+  pub process_at : (net : ℕ) → net < length design.circuit → (process : ProcessView) × (slice_get processes net ≡ Some process)
+  process_at net below = get_below processes net (process_below net below)
+
+  pub runs_at : (net : ℕ) (process : ProcessView) → slice_get processes net ≡ Some process →
       RunsAt (state_of processes lists counts) net process
-  runs_at net process exists is =
-      let count = length-processes in
-      let here : slice_get processes net ≡ Some process =
-      slice_get-get_or processes net process (omega arith) ∙ ap (λ (p : ProcessView). Some p) (sym is) in
+  runs_at net process is =
       let state : slice_get (map (λ (p : ProcessView). p.state) processes) net ≡ Some process.state =
-      slice_get-map (λ (p : ProcessView). p.state) processes net ∙ ap (option_map (λ (p : ProcessView). p.state)) here in
+      slice_get-map (λ (p : ProcessView). p.state) processes net ∙ ap (option_map (λ (p : ProcessView). p.state)) is in
       let again : Some process ≡ Some (running process.state) =
-      sym here ∙ ap (λ ps. slice_get ps net) all.all_run
+      sym is ∙ ap (λ ps. slice_get ps net) all.all_run
       ∙ slice_get-map running (map (λ (p : ProcessView). p.state) processes) net ∙ ap (option_map running) state in
       record { runs = ap (λ (p : ProcessView). p.failed) (same_Some process (running process.state) again); at = state }
 
-  pub frontier_is : (net : ℕ) (process : ProcessView) → net < length design.circuit → process ≡ slice_index_or processes net process →
+  pub frontier_is : (net : ℕ) (process : ProcessView) → slice_get processes net ≡ Some process →
       process.state.known.frontier ≡ frontier_at (state_of processes lists counts) net
-  frontier_is net process exists is =
+  frontier_is net process is =
       sym (view_at (λ (p : ProcessState). p.known.frontier) (map (λ (p : ProcessView). p.state) processes) net process.state
-      (runs_at net process exists is).at)
+      (runs_at net process is).at)
 
-  pub frontier_in_time : (net : ℕ) (process : ProcessView) (frontier : ℕ) → net < length design.circuit → process ≡ slice_index_or processes net process →
+  pub frontier_in_time : (net : ℕ) (process : ProcessView) (frontier : ℕ) → slice_get processes net ≡ Some process →
       frontier ≡ process.state.known.frontier → frontier ≤ end
-  frontier_in_time net process frontier exists is known =
-      let within = frontier_within design.circuit end net (state_of processes lists counts) process.state all.sound (runs_at net process exists is).at in
+  frontier_in_time net process frontier is known =
+      let within = frontier_within design.circuit end net (state_of processes lists counts) process.state all.sound (runs_at net process is).at in
       omega (arith, within, known)
 
-  pub floor_is : (net : ℕ) (process : ProcessView) → net < length design.circuit → process ≡ slice_index_or processes net process →
+  pub floor_is : (net : ℕ) (process : ProcessView) → slice_get processes net ≡ Some process →
       process.state.floor ≡ floor_at (state_of processes lists counts) net
-  floor_is net process exists is =
+  floor_is net process is =
       sym (view_at (λ (p : ProcessState). p.floor) (map (λ (p : ProcessView). p.state) processes) net process.state
-      (runs_at net process exists is).at)
+      (runs_at net process is).at)
 
-  pub floor_in_time : (net : ℕ) (process : ProcessView) (floor : ℕ) → net < length design.circuit → process ≡ slice_index_or processes net process →
+  pub floor_in_time : (net : ℕ) (process : ProcessView) (floor : ℕ) → slice_get processes net ≡ Some process →
       floor ≡ process.state.floor → floor ≤ frontier_at (state_of processes lists counts) net
-  floor_in_time net process floor exists is same =
-      let knows = all.sound.processes net process.state (runs_at net process exists is).at in
-      omega (arith, knows.floor, same, frontier_is net process exists is)
+  floor_in_time net process floor is same =
+      let knows = all.sound.processes net process.state (runs_at net process is).at in
+      omega (arith, knows.floor, same, frontier_is net process is)
 
-  pub wave_is : (net : ℕ) (process : ProcessView) → net < length design.circuit → process ≡ slice_index_or processes net process →
+  pub wave_is : (net : ℕ) (process : ProcessView) → slice_get processes net ≡ Some process →
       process.state.known.wave
       ≡ wave_of (value_of design.circuit net) (floor_at (state_of processes lists counts) net) (frontier_at (state_of processes lists counts) net)
-  wave_is net process exists is =
-      let there = (runs_at net process exists is).at in
+  wave_is net process is =
+      let there = (runs_at net process is).at in
       let knows = knows_net design.circuit end (state_of processes lists counts) all.sound net process.state there in
-      knows.wave ∙ ap (λ from. wave_of (value_of design.circuit net) from process.state.known.frontier) (floor_is net process exists is)
-      ∙ ap (wave_of (value_of design.circuit net) (floor_at (state_of processes lists counts) net)) (frontier_is net process exists is)
+      knows.wave ∙ ap (λ from. wave_of (value_of design.circuit net) from process.state.known.frontier) (floor_is net process is)
+      ∙ ap (wave_of (value_of design.circuit net) (floor_at (state_of processes lists counts) net)) (frontier_is net process is)
 
   -- the place of a pin is among those of its net's process
   pub place_within : (pin net : ℕ) (process : ProcessView) → pin < pin_count design.circuit → net ≡ net_of_pin design.circuit pin →
-      net < length design.circuit → process ≡ slice_index_or processes net process →
+      slice_get processes net ≡ Some process →
       place_of_pin design.circuit pin < length process.state.received
-  place_within pin net process exists net_is below is =
+  place_within pin net process exists net_is is =
       let state = state_of processes lists counts in
-      let here = (runs_at net process below is).at in
+      let here = (runs_at net process is).at in
       let there = pin_is design.circuit pin exists in
       let own : slice_get design.circuit net ≡ Some process.state.net =
       net_at design.circuit circuit_ok end (state_of processes lists counts) all.sound net process.state here in
@@ -124,11 +129,11 @@ module _ {design : DesignView} {end : ℕ} {processes : List ProcessView} {sourc
       omega arith
 
   pub received_is : (pin net place frontier : ℕ) (process : ProcessView) → net ≡ net_of_pin design.circuit pin → place ≡ place_of_pin design.circuit pin →
-      net < length design.circuit → process ≡ slice_index_or processes net process →
+      slice_get processes net ≡ Some process →
       option_map (λ (known : Knowledge). known.frontier) (slice_get process.state.received place) ≡ Some frontier →
       frontier ≡ received_at (state_of processes lists counts) pin
-  received_is pin net place frontier process net_is place_at below is told =
-      let here = (runs_at net process below is).at in
+  received_is pin net place frontier process net_is place_at is told =
+      let here = (runs_at net process is).at in
       let known : slice_get (map (λ (k : Knowledge). k.frontier) process.state.received) place ≡ Some frontier =
       slice_get-map (λ (k : Knowledge). k.frontier) process.state.received place ∙ told in
       let own : received_of process.state place ≡ frontier =
@@ -142,20 +147,19 @@ module _ {design : DesignView} {end : ℕ} {processes : List ProcessView} {sourc
       (sym here ∙ ap (slice_get (map (λ (p : ProcessView). p.state) processes)) net_there)
 
   -- the same by the net of a pin and its place there
-  pub place_there : (net place : ℕ) (process : ProcessView) → net < length design.circuit → process ≡ slice_index_or processes net process →
+  pub place_there : (net place : ℕ) (process : ProcessView) → slice_get processes net ≡ Some process →
       ForSome (slice_get design.circuit net) (λ (n : Net). place < length n.pins) → place < length process.state.received
-  place_there net place process below is inside =
-      let here = (runs_at net process below is).at in
+  place_there net place process is inside =
+      let here = (runs_at net process is).at in
       let own = net_at design.circuit circuit_ok end (state_of processes lists counts) all.sound net process.state here in
       let pins = (all.sound.processes net process.state here).pins in
       let within = inside process.state.net own in
       omega (arith, pins, within)
 
-  pub received_by_place : (net place frontier : ℕ) (process : ProcessView) → net < length design.circuit →
-      process ≡ slice_index_or processes net process →
+  pub received_by_place : (net place frontier : ℕ) (process : ProcessView) → slice_get processes net ≡ Some process →
       option_map (λ (known : Knowledge). known.frontier) (slice_get process.state.received place) ≡ Some frontier →
       frontier ≡ received_at (state_of processes lists counts) (first_pin design.circuit net + place)
-  received_by_place net place frontier process below is told = go (slice_get process.state.received place) refl told
+  received_by_place net place frontier process is told = go (slice_get process.state.received place) refl told
     where
       go : (found : Option Knowledge) → slice_get process.state.received place ≡ found →
           option_map (λ (known : Knowledge). known.frontier) found ≡ Some frontier →
@@ -164,11 +168,11 @@ module _ {design : DesignView} {end : ℕ} {processes : List ProcessView} {sourc
       go (Some known) e told =
           sym (same_Some known.frontier frontier told)
           ∙ sym (received_there design.circuit circuit_ok end (state_of processes lists counts) all.sound net place process.state known
-          (runs_at net process below is).at e)
+          (runs_at net process is).at e)
 
-  pub received_in_time : (net place frontier : ℕ) (process : ProcessView) → net < length design.circuit → process ≡ slice_index_or processes net process →
+  pub received_in_time : (net place frontier : ℕ) (process : ProcessView) → slice_get processes net ≡ Some process →
       option_map (λ (known : Knowledge). known.frontier) (slice_get process.state.received place) ≡ Some frontier → frontier ≤ end
-  received_in_time net place frontier process below is told = go (slice_get process.state.received place) refl told
+  received_in_time net place frontier process is told = go (slice_get process.state.received place) refl told
     where
       go : (found : Option Knowledge) → slice_get process.state.received place ≡ found →
           option_map (λ (known : Knowledge). known.frontier) found ≡ Some frontier → frontier ≤ end
@@ -176,7 +180,7 @@ module _ {design : DesignView} {end : ℕ} {processes : List ProcessView} {sourc
       go (Some known) e told =
           let same : known.frontier ≡ frontier = same_Some known.frontier frontier told in
           let within = received_within design.circuit circuit_ok end (state_of processes lists counts) all.sound net place process.state known
-          (runs_at net process below is).at e in
+          (runs_at net process is).at e in
           omega (arith, same, within)
 
 -- a run that goes on from one that hasn't failed

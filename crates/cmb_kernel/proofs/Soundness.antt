@@ -16,7 +16,7 @@ use Rattle.cmb_channels.proofs.CallerLemmas.{map-update, IsUpdated, get_of_updat
 use Rattle.gate_process.specs.Knowledge.{Knowledge, nothing_known, knowledge_of, told, told_all, Tells}
 use Rattle.gate_process.specs.Step.{ProcessState, started_process, next_frontier, advanced, news, heard, kept_from, kept, extended}
 use Rattle.gate_process.specs.Truth.{Meets, KnowsTruth}
-use Rattle.gate_process.proofs.CallerLemmas.{Tells-append, told_all_truth, HeardTruth, heard_truth, news_true, get_of_map, get_of_kept, advanced_knows, heard_knows}
+use Rattle.gate_process.proofs.CallerLemmas.{HeardTruth, Tells-append, advanced_knows, get_below, get_of_kept, get_of_map, heard_knows, heard_truth, news_true, told_all_truth}
 use Rattle.cmb_events.specs.declared.event.Event.{Event}
 use Rattle.cmb_events.specs.declared.event.Event.TheVariants.{Deliver, Advance}
 use Rattle.cmb_kernel.specs.State.{State, started, nets_of, frontier_at}
@@ -80,11 +80,6 @@ started_sound circuit last = record {
 }
 
 -- ---- a step
-
-pub get_below : {A : Type 0} (xs : List A) (place : ℕ) → place < length xs → (x : A) × (slice_get xs place ≡ Some x)
-get_below [] place h = absurd (omega arith)
-get_below (x ∷ xs) zero h = (x, refl)
-get_below (x ∷ xs) (suc place) h = get_below xs place (omega arith)
 
 module _ (circuit : Circuit) (ok : IsCircuit circuit) (last : ℕ) (state : State) (sound : IsSound circuit last state) where
   pub net_at : (number : ℕ) (process : ProcessState) → slice_get state.processes number ≡ Some process → slice_get circuit number ≡ Some process.net

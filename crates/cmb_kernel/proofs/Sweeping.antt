@@ -10,13 +10,13 @@ use Rattle.design.specs.Pins.{first_pin, net_of_pin, place_of_pin}
 use Rattle.design.proofs.CallerLemmas.{pin_is}
 use Rattle.cmb_channels.specs.declared.message.Message.{Message}
 use Rattle.gate_process.specs.Step.{ProcessState}
-use Rattle.gate_process.proofs.CallerLemmas.{least-bound}
+use Rattle.gate_process.proofs.CallerLemmas.{get_below, least-bound}
 use Rattle.cmb_events.specs.declared.event.Event.TheVariants.{Deliver, Advance}
 use Rattle.cmb_kernel.specs.State.{State, frontier_at, received_at, least_frontier, least_delay}
 use Rattle.cmb_kernel.specs.Step.{step}
 use Rattle.cmb_kernel.specs.Sweeps.{pin_numbers, taken_below, caught_up, all_caught_up, swept_net, swept, AllKnow, HoldsAll, EventsLead}
 use Rattle.cmb_kernel.specs.Sound.{IsSound}
-use Rattle.cmb_kernel.proofs.Soundness.{get_below, net_at, step_sound}
+use Rattle.cmb_kernel.proofs.Soundness.{net_at, step_sound}
 use Rattle.cmb_kernel.proofs.LeastFrontier.{join, at_pin, deliver_there, NetKnows, pin_knows, net_count, advances_farther, least_frontier-le, least_frontier_greatest}
 use Rattle.cmb_kernel.proofs.PinPlaces.{pin_exists, received_there}
 use Rattle.cmb_kernel.proofs.EventsLead.{leads_nowhere, event_leads, leads_on, lead_sound, lead_frontier, lead_received}

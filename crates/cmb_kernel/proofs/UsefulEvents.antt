@@ -16,7 +16,7 @@ use Rattle.design.specs.Pins.{net_of_pin, place_of_pin}
 use Rattle.cmb_channels.proofs.CallerLemmas.{view_at, view_of_update_same}
 use Rattle.gate_process.specs.Knowledge.{Knowledge, told}
 use Rattle.gate_process.specs.Step.{ProcessState, least, own_delay, next_frontier, kept, all_kept, extended, advanced, heard}
-use Rattle.gate_process.proofs.CallerLemmas.{HeardTruth, heard_truth, least_greatest, get_of_map}
+use Rattle.gate_process.proofs.CallerLemmas.{HeardTruth, get_below, get_of_map, heard_truth, least_greatest}
 use Rattle.cmb_events.specs.declared.event.Event.{Event}
 use Rattle.cmb_events.specs.declared.event.Event.TheVariants.{Deliver, Advance}
 use Rattle.cmb_kernel.specs.State.{State, nets_of, frontier_at, least_frontier, least_delay, IsComplete}
@@ -24,7 +24,7 @@ use Rattle.cmb_kernel.specs.Useful.{progress_of, progress, is_useful}
 use Rattle.cmb_kernel.specs.Step.{step, after_deliver}
 use Rattle.cmb_events.specs.Schedule.{Exists}
 use Rattle.cmb_kernel.specs.Sound.{IsSound}
-use Rattle.cmb_kernel.proofs.Soundness.{get_below, pin_tells}
+use Rattle.cmb_kernel.proofs.Soundness.{pin_tells}
 use Rattle.cmb_kernel.proofs.LeastFrontier.{net_count, least_frontier-le, pins_know, advances_farther}
 use Rattle.cmb_kernel.proofs.Completion.{complete_from_least}
 

@@ -1,9 +1,7 @@
-ghost use Rattle.std.specs.Prelude.{◌≡◌, ◌≢◌, ◌+◌, ◌<◌, ◌≤◌, false, length, map, slice_index_or, [], IfOk};
+ghost use Rattle.std.specs.Prelude.{◌≡◌, ◌≢◌, ◌+◌, ◌<◌, ◌≤◌, false, length, slice_index_or, []};
 ghost use Rattle.design.specs.Circuit.{IsCircuit, pin_count};
-ghost use Rattle.design.specs.Design.{IsDesign};
 ghost use Rattle.design.specs.Equations.{value_of};
 ghost use Rattle.logic3.specs.Wave.{wave_of};
-ghost use Rattle.gate_process.specs.Step.{running, started_process};
 ghost use Rattle.cmb_kernel.specs.State.{fresh, frontier_at, floor_at, received_at};
 ghost use Rattle.cmb_kernel.specs.Sound.{IsSound};
 
@@ -18,9 +16,9 @@ use crate::counts::Counts;
 use crate::fault::KernelFault;
 use cmb_channels::{Fabric, Message};
 use design::Design;
-use gate_process::Process;
+use gate_process::Processes;
 use logic3::Waveform;
-use std::alloc::{AllocError, Global};
+use std::alloc::Global;
 use std::marker::Model;
 use timing_text::Horizon;
 
@@ -35,7 +33,7 @@ pub struct Kernel<'d, F: Fabric> {
     design: &'d Design,
     // The first tick after the horizon.
     end: u64,
-    processes: Vec<Process<'d>>,
+    processes: Processes<'d>,
     fabric: F,
     counts: Counts,
     // What an advance tells, before it is sent. Kept for its memory alone.
@@ -54,12 +52,12 @@ impl<'d, F: Fabric> Model for Kernel<'d, F> {
       circuit = k.design.now.circuit;
       end = k.end;
       failed = k.failed;
-      state = state_of k.processes.items (F.lists k.fabric) k.counts;
+      state = state_of k.processes (F.lists k.fabric) k.counts;
     } };
 
     ghost invariant = { λ k. k.failed ≡ false →
-        IsRunning k.design.now k.end k.processes.items (F.sources k.fabric) (F.nets k.fabric)
-        (state_of k.processes.items (F.lists k.fabric) k.counts) };
+        IsRunning k.design.now k.end k.processes (F.sources k.fabric) (F.nets k.fabric)
+        (state_of k.processes (F.lists k.fabric) k.counts) };
 }
 
 impl<'d, F: Fabric> Kernel<'d, F> {
@@ -74,7 +72,7 @@ impl<'d, F: Fabric> Kernel<'d, F> {
     ) -> Result<Kernel<'d, F>, KernelFault>
         ensures { result ≢ Err KernelFault.Memory → result ≡ Ok (fresh design.now.circuit (horizon + 1)) }
     {
-        let processes = started(alloc, design, horizon)?;
+        let processes = Processes::new(alloc, design, horizon)?;
         let fabric = F::empty_for(alloc, design)?;
         Ok(Kernel {
             design,
@@ -116,7 +114,7 @@ impl<'d, F: Fabric> Kernel<'d, F> {
         ensures frontier { result ≡ frontier_at self.now.state net }
         ensures within { result ≤ self.now.end }
     {
-        self.processes[net as usize].frontier()
+        self.processes.of_net(net).frontier()
     }
 
     /// What a net shows at the ticks known, from its [`floor`](Self::floor) on.
@@ -128,7 +126,7 @@ impl<'d, F: Fabric> Kernel<'d, F> {
         ensures undrained { floor_at self.now.state net ≡ 0 →
             result.now ≡ wave_of (value_of self.now.circuit net) 0 (frontier_at self.now.state net) }
     {
-        self.processes[net as usize].waveform()
+        self.processes.of_net(net).waveform()
     }
 
     /// How many ticks of its source a pin knows: at most the horizon and one more.
@@ -140,7 +138,7 @@ impl<'d, F: Fabric> Kernel<'d, F> {
     {
         let net = self.design.pin_net(pin);
         let place = pin - self.design.pin(net, 0);
-        self.processes[net as usize].received(place)
+        self.processes.of_net(net).received(place)
     }
 
     /// How many messages wait at a pin.
@@ -151,21 +149,4 @@ impl<'d, F: Fabric> Kernel<'d, F> {
     {
         self.fabric.waiting(pin)
     }
-}
-
-/// A process for each net of a design, in order.
-fn started<'d>(
-    alloc: Global,
-    design: &'d Design,
-    horizon: Horizon,
-) -> Result<Vec<Process<'d>>, AllocError>
-    ensures processes { IfOk result (λ processes. processes.items ≡
-        map (λ net. running (started_process (horizon + 1) net)) design.now.circuit) }
-    ensures well_formed { IsDesign design.now }
-{
-    let mut processes = Vec::with_capacity(alloc, design.nets() as usize)?;
-    for net in 0..design.nets() {
-        processes.push(Process::new(alloc, design, net, horizon)?)?;
-    }
-    Ok(processes)
 }

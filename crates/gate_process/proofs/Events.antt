@@ -1,5 +1,5 @@
 -- A process that knows the truth goes on to know it.
-use Rattle.std.proofs.Common.{◌≡◌, ℕ, zero, suc, ◌+◌, ◌<◌, ◌≤◌, List, [], ◌∷◌, map, Some, slice_get, refl, ap, sym, subst, ◌∙◌, arith, inl, inr}
+use Rattle.std.proofs.Common.{◌≡◌, ℕ, zero, suc, ◌+◌, ◌<◌, ◌≤◌, List, [], ◌∷◌, length, map, Some, slice_get, refl, ap, sym, subst, ◌∙◌, arith, inl, inr}
 use Rattle.std.proofs.lemmas.List.{length-map}
 use Rattle.logic3.specs.declared.value.Value.{Value}
 use Rattle.logic3.specs.Wave.{value_at}
@@ -14,6 +14,11 @@ use Rattle.gate_process.proofs.Kept.{length-all_kept, frontiers-all_kept, get_of
 use Rattle.gate_process.proofs.Told.{forgetting_truth, kept_truth, HeardTruth, heard_truth}
 use Rattle.gate_process.proofs.Frontiers.{least-update, frontier-mono, asked-kept}
 use Rattle.gate_process.proofs.Reckoned.{advanced_true}
+
+pub get_below : {A : Type 0} (xs : List A) (place : ℕ) → place < length xs → (x : A) × (slice_get xs place ≡ Some x)
+get_below [] place h = absurd (omega arith)
+get_below (x ∷ xs) zero h = (x, refl)
+get_below (x ∷ xs) (suc place) h = get_below xs place (omega arith)
 
 pub get_of_map : {A B : Type 0} (view : A → B) (xs : List A) (at : ℕ) (y : B) → slice_get (map view xs) at ≡ Some y →
     (x : A) × (slice_get xs at ≡ Some x) × (y ≡ view x)

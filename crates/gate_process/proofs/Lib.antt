@@ -9,6 +9,7 @@ mod Heard
 mod Kept
 mod Nets
 mod Passed
+mod Quiet
 mod ReadBy
 mod ReadOnce
 mod Reckoned

@@ -32,7 +32,7 @@ pub record Walked (signal : ℕ → Value) (from to tick told : ℕ) (start wave
   pub messages_are : messages ≡ map Changes (changes_between signal from tick)
   pub told_is : told ≡ told_to from (changes_between signal from tick)
 
-none_between : (signal : ℕ → Value) (at : ℕ) → changes_between signal at at ≡ []
+pub none_between : (signal : ℕ → Value) (at : ℕ) → changes_between signal at at ≡ []
 none_between signal at = quiet signal at at (λ tick a b. absurd (omega arith))
 
 -- all changes so far are past

@@ -7,6 +7,8 @@ mod cursor;
 pub mod laws;
 mod own_net;
 mod process;
+mod processes;
 mod received;
 
 pub use process::Process;
+pub use processes::Processes;

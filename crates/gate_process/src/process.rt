@@ -1,6 +1,7 @@
 ghost use Rattle.std.specs.Prelude.{◌≡◌, ℕ, ◌+◌, ◌++◌, ◌<◌, ◌≤◌, Bool, true, false, length, slice_get, Some, IfOk, IfSome, OnOk, OnErr};
 ghost use Rattle.cmb_channels.specs.Kinds.{is_change};
 ghost use Rattle.gate_process.specs.Step.{running, started_process, pin_frontier, pin_last, heard, safe_of, next_frontier, advanced, news, drained, drained_changes};
+ghost use Rattle.gate_process.specs.Quiet.{IsQuiet};
 ghost use Rattle.gate_process.specs.Truth.{IsProcess, CanHear};
 
 use crate::advance::{extend, keep_all};
@@ -117,6 +118,8 @@ impl<'d> Process<'d> {
         ensures state { OnOk result (self.new ≡ running (advanced self.old.state)) }
         ensures err { OnErr result (self.new.failed ≡ true) }
         ensures memory { OnErr result (self.old.state.known.frontier < next_frontier self.old.state) }
+        // Until it hears a message, to advance again would change nothing.
+        ensures quiet { OnOk result (IsQuiet self.new.state) }
     {
         messages.clear();
         let safe = least_frontier(self.end, self.received.as_slice());
@@ -149,6 +152,7 @@ impl<'d> Process<'d> {
         ensures same { OnErr result (changes.new.items ≡ changes.old.items) }
         ensures err { OnErr result (self.new ≡ self.old) }
         ensures memory { OnErr result (0 < length (drained_changes bound self.old.state)) }
+        ensures quiet { OnOk result (IsQuiet self.old.state → IsQuiet self.new.state) }
     {
         self.wave.split_below(bound, changes)?;
         self.floor = self.floor.max(bound);

@@ -18,7 +18,7 @@ impl<'d, F: Fabric> Kernel<'d, F> {
         ensures floor { result ≡ floor_at self.now.state net }
         ensures known { result ≤ frontier_at self.now.state net }
     {
-        self.processes[net as usize].floor()
+        self.processes.of_net(net).floor()
     }
 
     /// Takes out a net's changes from its floor up to but not including a tick up to which every net is
@@ -51,7 +51,7 @@ impl<'d, F: Fabric> Kernel<'d, F> {
         ensures sound { self.new.failed ≡ false → IsSound self.new.circuit self.new.end self.new.state }
     {
         self.check_running()?;
-        self.processes[net as usize].drain_below(bound, changes)?;
+        self.processes.drain_below(net, bound, changes)?;
         Ok(())
     }
 }

@@ -118,7 +118,7 @@ impl<'d, F: Fabric> Kernel<'d, F> {
         self.failed = true;
         let message = self.fabric.take(pin);
         if let Some(message) = message {
-            self.processes[net as usize].receive(place, message)?;
+            self.processes.receive(net, place, message)?;
         }
         self.counts.add_event(&[]);
         self.failed = false;
@@ -136,7 +136,7 @@ impl<'d, F: Fabric> Kernel<'d, F> {
     {
         // So it stays where the event is broken off.
         self.failed = true;
-        self.processes[net as usize].advance(&mut self.news)?;
+        self.processes.advance(net, &mut self.news)?;
         send_all(&mut self.fabric, net, self.news.as_slice())?;
         self.counts.add_event(self.news.as_slice());
         self.failed = false;

@@ -96,6 +96,6 @@ impl<'d, F: Fabric> Kernel<'d, F> {
         requires place { ForSome (slice_get self.now.circuit net) (λ (n : Net). place < length n.pins) }
         ensures { result ≡ received_at self.now.state (first_pin self.now.circuit net + place) }
     {
-        self.processes[net as usize].received(place)
+        self.processes.of_net(net).received(place)
     }
 }

@@ -7,12 +7,12 @@ pub invariant_of-result : goal.invariant_of-result
 invariant_of-result g c =
     let limit = c.ticks.ensures.limit in
     rw c.ticks.ensures.ticks
-    (λ _. fresh_runs c.args.design.now (c.args.horizon + 1) c.in_ok-processes.processes.items (g.F.Fabric.lists c.in_ok-fabric.fabric)
+    (λ _. fresh_runs c.args.design.now (c.args.horizon + 1) c.in_ok-processes.processes (g.F.Fabric.lists c.in_ok-fabric.fabric)
     c.in_ok-processes.ensures.processes c.in_ok-fabric.ensures.lists _ _ c.in_ok-processes.ensures.well_formed (omega arith)
     c.in_ok-fabric.ensures.sources c.in_ok-fabric.ensures.nets)
 
 pub returns : goal.returns
 returns g c = rw c.ticks.ensures.ticks
     (λ _. ap (λ (s : State). Ok (record (fresh c.args.design.now.circuit (c.args.horizon + 1)) { state = s }))
-    (state_started c.args.design.now (c.args.horizon + 1) c.in_ok-processes.processes.items (g.F.Fabric.lists c.in_ok-fabric.fabric)
+    (state_started c.args.design.now (c.args.horizon + 1) c.in_ok-processes.processes (g.F.Fabric.lists c.in_ok-fabric.fabric)
     c.in_ok-processes.ensures.processes c.in_ok-fabric.ensures.lists))

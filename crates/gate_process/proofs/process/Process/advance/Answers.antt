@@ -9,6 +9,8 @@ use Rattle.gate_process.specs.Truth.{IsProcess}
 use Rattle.gate_process.proofs.Frontiers.{least-bound}
 use Rattle.gate_process.proofs.Events.{advanced_is_process}
 use Rattle.gate_process.proofs.Heard.{nothing_forgotten_farther}
+use Rattle.gate_process.specs.Quiet.{IsQuiet}
+use Rattle.gate_process.proofs.Quiet.{quiet_advanced}
 use Rattle.gate_process.proofs.Advanced.{wave_ends, wave_past, advanced_of}
 use Rattle.gate_process.proofs.process.Process.advance.Goals as goal
 use Rattle.gate_process.proofs.process.Process.advance.Goals.{After-next_frontier-to, After-keep_all}
@@ -126,3 +128,9 @@ returns-clause-news c =
     (news_of (changes_between (continued c.self.inside.wave from (equation c.self.inside.net (signals_of received))) from to) to)) c.as_slice-2.ensures.value
     ∙ ap (λ end. cond (end == from) [] (news_of (changes_between (reckoned (before at)) from end) end)) (to_is at)
     ∙ ap news (view_is at)
+
+pub returns-clause-quiet : goal.returns-clause-quiet
+unfolding after
+returns-clause-quiet c =
+    let at = (goal.at.returns-clause-quiet c).After-next_frontier-to in
+    subst IsQuiet (sym (has_advanced c)) (quiet_advanced (before at) (is_process at))

@@ -3,6 +3,8 @@ use Rattle.logic3.specs.Wave.{changes_below}
 use Rattle.logic3.proofs.CallerLemmas.{OnErr_always}
 use Rattle.gate_process.specs.Step.{ProcessState, ProcessView, drained, drained_changes}
 use Rattle.gate_process.specs.Truth.{IsProcess}
+use Rattle.gate_process.specs.Quiet.{IsQuiet}
+use Rattle.gate_process.proofs.Quiet.{quiet_drained}
 use Rattle.gate_process.proofs.Drained.{taken_out, left, drained_is_process}
 use Rattle.gate_process.proofs.process.Process.drain_below.Goals as goal
 use Rattle.gate_process.proofs.process.Process.drain_below.Goals.{After-split_below}
@@ -77,3 +79,11 @@ returns-clause-ok c =
     let failed = ap (λ (view : ProcessView). view.failed) c.self.view_is ∙ c.requires.running in
     let state = is_drained c ∙ ap (drained c.args.bound) (view_is at) in
     λ i. record { failed = failed i; state = state i }
+
+pub returns-clause-quiet : goal.returns-clause-quiet
+unfolding after
+returns-clause-quiet c = λ quiet.
+    let at = (goal.at.returns-clause-quiet c).After-split_below in
+    subst IsQuiet (sym (is_drained c))
+    (quiet_drained (before at) c.args.bound (drained_is_process (before at) c.args.bound (is_process at) (within at))
+    (subst IsQuiet (sym (view_is at)) quiet))

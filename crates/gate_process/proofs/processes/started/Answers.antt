@@ -3,8 +3,8 @@ use Rattle.std.proofs.lemmas.List.{map_more}
 use Rattle.std.proofs.lemmas.Option.{get_or_from_slice_get}
 use Rattle.design.specs.Circuit.{Net, Circuit}
 use Rattle.gate_process.specs.Step.{ProcessView, running, started_process}
-use Rattle.cmb_kernel.proofs.Soundness.{get_below}
-use Rattle.cmb_kernel.proofs.kernel.started.Goals as goal
+use Rattle.gate_process.proofs.Events.{get_below}
+use Rattle.gate_process.proofs.processes.started.Goals as goal
 
 one_more_net : (view : Net → ProcessView) (circuit : Circuit) (net : ℕ) (process : ProcessView) → net < length circuit →
     IfSome (slice_get circuit net) (λ n. process ≡ view n) →

@@ -1,0 +1,157 @@
+//! The processes of a design.
+ghost use Rattle.std.specs.Prelude.{◌≡◌, ℕ, ◌+◌, ◌<◌, ◌≤◌, ◌++◌, true, false, length, map, replicate, slice_get, slice_set, Some, IfOk, OnOk, OnErr};
+ghost use Rattle.std.specs.Option.{ForSome};
+ghost use Rattle.cmb_channels.specs.Kinds.{is_change};
+ghost use Rattle.design.specs.Design.{IsDesign};
+ghost use Rattle.gate_process.specs.Step.{ProcessView, running, started_process, next_frontier, advanced, news, heard, drained, drained_changes};
+ghost use Rattle.gate_process.specs.Truth.{CanHear};
+
+use crate::process::Process;
+use cmb_channels::Message;
+use design::Design;
+use logic3::Change;
+use std::alloc::{AllocError, Global};
+use std::marker::Model;
+use timing_text::Horizon;
+
+/// A process for each net of a design.
+///
+/// It knows which processes are quiet: they heard nothing since they last advanced, so they would find
+/// nothing new. Such a process is passed over where it is to advance, and not even fetched from memory.
+#[derive(Debug, Drop)]
+pub struct Processes<'d> {
+    processes: Vec<Process<'d>>,
+    // Whether the process of the same place is quiet. It takes much less memory than a process.
+    quiet: Vec<bool>,
+}
+
+impl<'d> Model for Processes<'d> {
+    ghost use Rattle.std.specs.Prelude.{List};
+    ghost use Rattle.gate_process.specs.Step.{ProcessView};
+    ghost use Rattle.gate_process.specs.Quiet.{AreQuiet};
+
+    ghost Value = { List ProcessView };
+
+    ghost view = { λ p. p.processes.items };
+
+    ghost invariant = { λ p. AreQuiet p.processes.items p.quiet.items };
+}
+
+impl<'d> Processes<'d> {
+    /// A process for each net of a design, in order, which knows nothing yet.
+    pub fn new(
+        alloc: Global,
+        design: &'d Design,
+        horizon: Horizon,
+    ) -> Result<Processes<'d>, AllocError>
+        ensures processes { IfOk result (λ processes. processes ≡
+            map (λ net. running (started_process (horizon + 1) net)) design.now.circuit) }
+        ensures well_formed { IsDesign design.now }
+    {
+        let processes = started(alloc, design, horizon)?;
+        let quiet = none_quiet(alloc, processes.len())?;
+        Ok(Processes { processes, quiet })
+    }
+
+    /// The process of a net.
+    pub fn of_net(&self, net: u32) -> &Process<'d>
+        requires { net < length self.now }
+        ensures { slice_get self.now net ≡ Some result.now }
+    {
+        &self.processes[net as usize]
+    }
+
+    /// Lets the process of a net hear a message, as [`Process::receive`] does. An `AllocError` changes
+    /// nothing.
+    pub fn receive(&mut self, net: u32, place: u32, message: Message) -> Result<(), AllocError>
+        requires net { net < length self.old }
+        requires running { ForSome (slice_get self.old net) (λ (process : ProcessView). process.failed ≡ false) }
+        requires place { ForSome (slice_get self.old net) (λ (process : ProcessView).
+            place < length process.state.received) }
+        requires can_hear { ForSome (slice_get self.old net) (λ (process : ProcessView).
+            CanHear process.state place message) }
+        ensures ok { OnOk result (ForSome (slice_get self.old net) (λ (process : ProcessView).
+            self.new ≡ slice_set self.old net (running (heard place message process.state)))) }
+        ensures err { OnErr result (self.new ≡ self.old) }
+        ensures memory { OnErr result (is_change message ≡ true) }
+    {
+        self.quiet[net as usize] = false;
+        self.processes[net as usize].receive(place, message)?;
+        Ok(())
+    }
+
+    /// Advances the process of a net, as [`Process::advance`] does. One that heard nothing since it last
+    /// advanced costs nothing. After an `AllocError` the process has failed.
+    pub fn advance(&mut self, net: u32, messages: &mut Vec<Message>) -> Result<(), AllocError>
+        requires net { net < length self.old }
+        requires running { ForSome (slice_get self.old net) (λ (process : ProcessView). process.failed ≡ false) }
+        ensures news { OnOk result (ForSome (slice_get self.old net) (λ (process : ProcessView).
+            messages.new.items ≡ news process.state)) }
+        ensures ok { OnOk result (ForSome (slice_get self.old net) (λ (process : ProcessView).
+            self.new ≡ slice_set self.old net (running (advanced process.state)))) }
+        ensures err { OnErr result ((process : ProcessView) × (process.failed ≡ true)
+            × (self.new ≡ slice_set self.old net process)) }
+        ensures memory { OnErr result (ForSome (slice_get self.old net) (λ (process : ProcessView).
+            process.state.known.frontier < next_frontier process.state)) }
+    {
+        if self.quiet[net as usize] {
+            messages.clear();
+            return Ok(());
+        }
+        self.processes[net as usize].advance(messages)?;
+        self.quiet[net as usize] = true;
+        Ok(())
+    }
+
+    /// Takes out changes of a net, as [`Process::drain_below`] does. An `AllocError` changes nothing.
+    pub fn drain_below(
+        &mut self,
+        net: u32,
+        bound: u64,
+        changes: &mut Vec<Change>,
+    ) -> Result<(), AllocError>
+        requires net { net < length self.old }
+        requires running { ForSome (slice_get self.old net) (λ (process : ProcessView). process.failed ≡ false) }
+        requires known { ForSome (slice_get self.old net) (λ (process : ProcessView).
+            bound ≤ process.state.known.frontier) }
+        ensures changes { OnOk result (ForSome (slice_get self.old net) (λ (process : ProcessView).
+            changes.new.items ≡ changes.old.items ++ drained_changes bound process.state)) }
+        ensures ok { OnOk result (ForSome (slice_get self.old net) (λ (process : ProcessView).
+            self.new ≡ slice_set self.old net (running (drained bound process.state)))) }
+        ensures same { OnErr result (changes.new.items ≡ changes.old.items) }
+        ensures err { OnErr result (self.new ≡ self.old) }
+        ensures memory { OnErr result (ForSome (slice_get self.old net) (λ (process : ProcessView).
+            0 < length (drained_changes bound process.state))) }
+    {
+        // It stays quiet if it was: what was taken out plays no part in what it reckons.
+        self.processes[net as usize].drain_below(bound, changes)?;
+        Ok(())
+    }
+}
+
+fn started<'d>(
+    alloc: Global,
+    design: &'d Design,
+    horizon: Horizon,
+) -> Result<Vec<Process<'d>>, AllocError>
+    ensures processes { IfOk result (λ processes. processes.items ≡
+        map (λ net. running (started_process (horizon + 1) net)) design.now.circuit) }
+    ensures well_formed { IsDesign design.now }
+{
+    let mut processes = Vec::with_capacity(alloc, design.nets() as usize)?;
+    for net in 0..design.nets() {
+        processes.push(Process::new(alloc, design, net, horizon)?)?;
+    }
+    Ok(processes)
+}
+
+/// The flags of so many processes before they advance.
+fn none_quiet(alloc: Global, count: usize) -> Result<Vec<bool>, AllocError>
+    ensures { IfOk result (λ quiet. quiet.items ≡ replicate count false) }
+{
+    let mut quiet = Vec::with_capacity(alloc, count)?;
+    for _process in 0..count {
+        quiet.push(false)?;
+    }
+    Ok(quiet)
+}
