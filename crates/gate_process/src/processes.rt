@@ -80,8 +80,8 @@ impl<'d> Processes<'d> {
         Ok(())
     }
 
-    /// Advances the process of a net, as [`Process::advance`] does. One that heard nothing since it last
-    /// advanced costs nothing. After an `AllocError` the process has failed.
+    /// Advances the process of a net, as [`Process::advance`] does. A quiet one isn't touched, and takes no
+    /// memory. After an `AllocError` the process has failed.
     pub fn advance(&mut self, net: u32, messages: &mut Vec<Message>) -> Result<(), AllocError>
         requires net { net < length self.old }
         requires running { ForSome (slice_get self.old net) (λ (process : ProcessView). process.failed ≡ false) }
@@ -123,12 +123,13 @@ impl<'d> Processes<'d> {
         ensures memory { OnErr result (ForSome (slice_get self.old net) (λ (process : ProcessView).
             0 < length (drained_changes bound process.state))) }
     {
-        // It stays quiet if it was: what was taken out plays no part in what it reckons.
+        // A quiet process stays quiet: what is taken out plays no part in what it reckons.
         self.processes[net as usize].drain_below(bound, changes)?;
         Ok(())
     }
 }
 
+/// A process for each net of a design, in order.
 fn started<'d>(
     alloc: Global,
     design: &'d Design,
@@ -145,7 +146,7 @@ fn started<'d>(
     Ok(processes)
 }
 
-/// The flags of so many processes before they advance.
+/// The flags of so many processes that haven't advanced yet.
 fn none_quiet(alloc: Global, count: usize) -> Result<Vec<bool>, AllocError>
     ensures { IfOk result (λ quiet. quiet.items ≡ replicate count false) }
 {
