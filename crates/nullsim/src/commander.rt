@@ -74,6 +74,7 @@ pub fn write_counts_line<E: Write>(err: &mut E, counts: Counts) -> Result<(), Du
     ensures ok { OnOk result (Appends (E.contents err.old) (E.contents err.new) (counts_line counts)) }
     ensures err { OnErr result (AppendsPrefix (E.contents err.old) (E.contents err.new) (counts_line counts)) }
     ensures no_memory { IfErr result (λ fault. fault ≢ DumpFault.Memory) }
+    ensures fault { IfErr result (λ fault. fault ≢ DumpFault.Failed) }
 {
     let (mut events, mut changes) = (Buffer::new(), Buffer::new());
     let (mut nulls, mut rounds) = (Buffer::new(), Buffer::new());
@@ -99,6 +100,7 @@ fn write_numbers<'a, E: Write>(
     ensures err { OnErr result (AppendsPrefix (E.contents err.old) (E.contents err.new)
         (line_of_numbers events.now changes.now nulls.now rounds.now)) }
     ensures no_memory { IfErr result (λ fault. fault ≢ DumpFault.Memory) }
+    ensures fault { IfErr result (λ fault. fault ≢ DumpFault.Failed) }
 {
     let pieces = [
         "events ",

@@ -28,6 +28,7 @@ pub fn write_fault_line<E: Write>(
     ensures err { OnErr result (AppendsPrefix (E.contents err.old) (E.contents err.new)
         (fault_line (called names.entry) fault.entry)) }
     ensures no_memory { IfErr result (λ fault. fault ≢ DumpFault.Memory) }
+    ensures fault { IfErr result (λ fault. fault ≢ DumpFault.Failed) }
 {
     let mut buffer = Buffer::new();
     let number = buffer.format(fault.line());
@@ -46,6 +47,7 @@ fn write_line_of<'a, E: Write>(
     ensures err { OnErr result (AppendsPrefix (E.contents err.old) (E.contents err.new)
         (line (place.now ++ codes ":" ++ number.now ++ codes ": " ++ name.now))) }
     ensures no_memory { IfErr result (λ fault. fault ≢ DumpFault.Memory) }
+    ensures fault { IfErr result (λ fault. fault ≢ DumpFault.Failed) }
 {
     write_pieces(err, &[place, ":", number, ": ", name, "\n"])
 }

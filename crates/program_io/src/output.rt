@@ -34,6 +34,7 @@ pub fn write_pieces<W: Write>(out: &mut W, pieces: &[&str]) -> Result<(), DumpFa
     ensures err { OnErr result (AppendsPrefix (W.contents out.old) (W.contents out.new)
         (concat (map (λ piece. piece.now) pieces.now))) }
     ensures no_memory { IfErr result (λ fault. fault ≢ DumpFault.Memory) }
+    ensures fault { IfErr result (λ fault. fault ≢ DumpFault.Failed) }
 {
     for piece in pieces {
         write_all_bytes(out, piece.as_bytes())?;
