@@ -1,4 +1,4 @@
-use Rattle.std.proofs.Common.{◌≡◌, ◌∷◌, [], List, ap, sym, ◌∙◌, arith}
+use Rattle.std.proofs.Common.{◌≡◌, ◌∷◌, [], ap, ◌∙◌, arith}
 use Rattle.logic3.specs.Wave.{Wave}
 use Rattle.gate_process.specs.Reading.{read_by}
 use Rattle.gate_process.proofs.ReadBy.{stimuli_read, pins_read, one_read, two_read, count_read, wave_goes_on, news_tell_of_it}

@@ -1,6 +1,5 @@
 use Rattle.std.proofs.Common.{◌≡◌, ◌≢◌, ℕ, ◌<◌, ◌≤◌, refl, ap, sym, ◌∙◌, arith, rules, append-nil, map}
 use Rattle.std.proofs.lemmas.Bool.{lt-ltb, le-ltb}
-use Rattle.logic3.specs.declared.value.Value.{Value}
 use Rattle.logic3.specs.Wave.{last_value, changes_between}
 use Rattle.cmb_channels.specs.declared.message.Message.TheVariants.{Change as Changes}
 use Rattle.gate_process.specs.Reading.{shown}
