@@ -150,7 +150,7 @@ round_ahead circuit ok last old new sound_old sound_new ahead number = go (cases
         let a = round_frontier circuit ok last old sound_old number net.0 net.1 in
         let b = round_frontier circuit ok last new sound_new number net.0 net.1 in
         let more = frontier-mono net.0 last (least last (map (frontier_at old) (net.0).pins)) (least last (map (frontier_at new) (net.0).pins))
-        (timed_at circuit ok number net.0 net.1).period.0 (least_map-mono last last (net.0).pins (frontier_at old) (frontier_at new) (omega arith) ahead) in
+        (timed_at circuit ok number net.0 net.1).timing.clock (least_map-mono last last (net.0).pins (frontier_at old) (frontier_at new) (omega arith) ahead) in
         omega arith
     go (inr past) =
         let count = net_count circuit last (round_of old) (round_sound circuit ok last old sound_old) in

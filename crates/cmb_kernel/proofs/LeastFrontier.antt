@@ -222,13 +222,13 @@ advances_farther circuit last low state net sound ok h know below =
     let known = get_of_map (λ (k : Knowledge). k.frontier) (mover.0).received place x e in
     let farther = know place mover.0 known.0 mover.1 known.1 in
     let is = known.2 in omega arith) in
-    let delay : least_delay last circuit ≤ own_delay (mover.0).net.part last (mover.0).net.delay =
-    least-le last (map (λ (n : Net). own_delay n.part last n.delay) circuit) net _
-    (slice_get-map (λ (n : Net). own_delay n.part last n.delay) circuit net ∙ ap (option_map (λ (n : Net). own_delay n.part last n.delay)) at) in
+    let delay : least_delay last circuit ≤ own_delay (mover.0).net.part last (mover.0).net.timing.delay =
+    least-le last (map (λ (n : Net). own_delay n.part last n.timing.delay) circuit) net _
+    (slice_get-map (λ (n : Net). own_delay n.part last n.timing.delay) circuit net ∙ ap (option_map (λ (n : Net). own_delay n.part last n.timing.delay)) at) in
     let farther : min (mover.0).end (low + least_delay last circuit) ≤ next_frontier mover.0 =
     frontier-farther (mover.0).net (mover.0).end (safe_of mover.0) low (least_delay last circuit)
-    (timed_at circuit ok net (mover.0).net at).period.0 safe
-    (subst (λ n. least_delay last circuit ≤ own_delay (mover.0).net.part n (mover.0).net.delay) (sym end) delay) in
+    (timed_at circuit ok net (mover.0).net at).timing.clock safe
+    (subst (λ n. least_delay last circuit ≤ own_delay (mover.0).net.part n (mover.0).net.timing.delay) (sym end) delay) in
     let new : frontier_at (step state (Advance net)) net ≡ next_frontier mover.0 =
     view_of_update_same (λ (p : ProcessState). p.known.frontier) advanced net state.processes mover.0 mover.1 in
     same_end (mover.0).end last (low + least_delay last circuit) _ _ end farther new

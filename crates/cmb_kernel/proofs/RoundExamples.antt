@@ -2,7 +2,7 @@
 use Rattle.std.proofs.Common.{◌≡◌, ℕ, List, [], ◌∷◌, refl, map, Option, Some, slice_get}
 use Rattle.std.specs.Option.{option_map, option_map_or}
 use Rattle.logic3.specs.declared.value.Value.{Value}
-use Rattle.logic3.specs.declared.value.Value.TheVariants.{Zero, One}
+use Rattle.logic3.specs.declared.value.Value.TheVariants.{Zero, One, Unknown}
 use Rattle.logic3.specs.declared.gates.GateKind.TheVariants.{Nand, Not}
 use Rattle.logic3.specs.declared.change.Change.{Change}
 use Rattle.logic3.specs.Wave.{Wave}
@@ -15,7 +15,13 @@ use Rattle.cmb_kernel.specs.Step.{after_drain, round_of, rounds}
 
 -- a net without stimuli, with the period 3
 abbrev net_of : Part → List ℕ → ℕ → Net
-net_of part pins delay = record { name = []; part = part; pins = pins; delay = delay; period = 3; stimuli = [] }
+net_of part pins delay = record {
+  name = [];
+  part = part;
+  pins = pins;
+  timing = record { delay = delay; period = 3; phase = 0; initial = Unknown };
+  stimuli = [];
+}
 
 abbrev change : ℕ → Value → Change
 change tick value = record { tick = tick; value = value }

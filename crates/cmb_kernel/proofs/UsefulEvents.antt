@@ -170,9 +170,9 @@ delay_positive Flop end delay timed h = timed.0
 
 pub least_delay-positive : (circuit : Circuit) (last : ℕ) → IsCircuit circuit → 0 < last → 0 < least_delay last circuit
 least_delay-positive circuit last ok h =
-    let each = least_greatest last (map (λ (n : Net). own_delay n.part last n.delay) circuit) 1 (omega arith) (λ place x e.
-    let net = get_of_map (λ (n : Net). own_delay n.part last n.delay) circuit place x e in
-    let positive = delay_positive (net.0).part last (net.0).delay (timed_at circuit ok place net.0 net.1).delay h in
+    let each = least_greatest last (map (λ (n : Net). own_delay n.part last n.timing.delay) circuit) 1 (omega arith) (λ place x e.
+    let net = get_of_map (λ (n : Net). own_delay n.part last n.timing.delay) circuit place x e in
+    let positive = delay_positive (net.0).part last (net.0).timing.delay (timed_at circuit ok place net.0 net.1).timing.delay h in
     let is = net.2 in
     omega arith) in
     omega arith

@@ -55,7 +55,7 @@ least_frontier end state = least end (map (λ (process : ProcessState). process.
 
 -- the least delay of a gate or flip-flop, or the end where there is none
 abbrev pub least_delay : ℕ → Circuit → ℕ
-least_delay end circuit = least end (map (λ (net : Net). own_delay net.part end net.delay) circuit)
+least_delay end circuit = least end (map (λ (net : Net). own_delay net.part end net.timing.delay) circuit)
 
 -- so many rounds are enough: each raises the least frontier by at least the least delay, or to the end
 abbrev pub most_rounds : ℕ → Circuit → ℕ

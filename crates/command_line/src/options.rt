@@ -49,16 +49,17 @@ pub(super) const BENCH: &str =
     "The circuit in the ISCAS-89 .bench notation: lines such as INPUT(a),\n\
      OUTPUT(y), y = NAND(a, q), q = DFF(y)";
 
-const DELAYS: &str = "The delays of single gates and flip-flops: lines NAME TICKS, such as\n\
-     y 3; without it there are none";
+const DELAYS: &str = "The timing of single gates and flip-flops: lines NAME TICKS, such as\n\
+     y 3; or the line timing version 2, and behind it lines such as\n\
+     delay y 3, clock q 4 1 and init q 0; without it there is none";
 
 const STIMULI: &str = "What drives the inputs: lines TICK NAME VALUE, such as 40 a 1, the\n\
      value being 0, 1 or x; an input is x before its first line";
 
 const DELAY: &str = "The delay of all other gates and flip-flops: 1 to 1000000 ticks";
 
-const PERIOD: &str = "The period of all flip-flops, which sample their data at its\n\
-     multiples: 1 to 10000000 ticks";
+const PERIOD: &str = "The period of all flip-flops without a clock line, which sample\n\
+     their data at its multiples: 1 to 10000000 ticks";
 
 pub(super) const SCHEDULE: &str =
     "Events to begin with: lines advance NAME and deliver NAME PLACE; what\n\

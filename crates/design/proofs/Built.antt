@@ -15,33 +15,36 @@ use Rattle.timing_text.specs.declared.fault.DelayFault.TheVariants as delay
 use Rattle.timing_text.specs.declared.fault.StimulusFault.{StimulusFault}
 use Rattle.timing_text.specs.declared.fault.StimulusFault.TheVariants as stimulus
 use Rattle.design.specs.declared.fault.BuildFault.{BuildFault}
-use Rattle.design.specs.declared.fault.BuildFault.TheVariants.{Setting, Timing, Stimulus, Memory}
+use Rattle.design.specs.declared.fault.BuildFault.TheVariants.{Setting, Stimulus, Memory}
+use Rattle.design.specs.declared.fault.BuildFault.TheVariants as build
 use Rattle.design.specs.Circuit.{Circuit, IsTimed}
 use Rattle.timing_text.specs.Ranges.{most_delay, most_ticks}
 use Rattle.design.specs.Design.{DesignView, IsDesign, untimed}
 use Rattle.design.specs.Joined.{timed_nets, design_view, first_pins_of, IsJoined}
 use Rattle.timing_text.specs.Options.{is_in_limits, option_fault, options_of}
-use Rattle.timing_text.specs.Delays.{DelayLine, delays_of, net_delays, delay_of_net}
+use Rattle.timing_text.specs.declared.timing.Timing.{Timing}
+use Rattle.timing_text.specs.TimingLines.{NetProperty}
+use Rattle.timing_text.specs.Timings.{properties_of, net_timings, timing_of_net}
 use Rattle.timing_text.specs.Stimuli.{NamedChange, stimuli_of, net_stimuli, stimuli_named}
 use Rattle.design.specs.Faults.{timing_fault, stimulus_fault}
 use Rattle.design.specs.Build.{circuit_with, circuit_of, design_of}
-use Rattle.timing_text.proofs.CallerLemmas.{HasDelay-delays_of, HasStimuli-stimuli_of}
+use Rattle.timing_text.proofs.CallerLemmas.{HasTiming-properties_of, HasStimuli-stimuli_of}
 
 -- nets without what timed them
-untimed-timed : (delay : NetView → ℕ) (stimuli : NetView → List Change) (period : ℕ) (nets : List NetView) →
-    map untimed (map (λ (net : NetView). record { name = net.name; part = net.part; pins = net.pins; delay = delay net; period = period; stimuli = stimuli net }) nets)
+untimed-timed : (timing : NetView → Timing) (stimuli : NetView → List Change) (nets : List NetView) →
+    map untimed (map (λ (net : NetView). record { name = net.name; part = net.part; pins = net.pins; timing = timing net; stimuli = stimuli net }) nets)
     ≡ nets
-untimed-timed delay stimuli period [] = refl
-untimed-timed delay stimuli period (net ∷ nets) = ap (λ rest. net ∷ rest) (untimed-timed delay stimuli period nets)
+untimed-timed timing stimuli [] = refl
+untimed-timed timing stimuli (net ∷ nets) = ap (λ rest. net ∷ rest) (untimed-timed timing stimuli nets)
 
--- delays and stimuli that were made net by net
-timed_nets-by_net : (delay : NetView → ℕ) (stimuli : NetView → List Change) (period : ℕ) (nets : List NetView) →
-    timed_nets nets (map delay nets) period (map stimuli nets)
-    ≡ map (λ (net : NetView). record { name = net.name; part = net.part; pins = net.pins; delay = delay net; period = period; stimuli = stimuli net }) nets
-timed_nets-by_net delay stimuli period [] = refl
-timed_nets-by_net delay stimuli period (net ∷ nets) =
-    ap (λ rest. record { name = net.name; part = net.part; pins = net.pins; delay = delay net; period = period; stimuli = stimuli net } ∷ rest)
-    (timed_nets-by_net delay stimuli period nets)
+-- timings and stimuli that were made net by net
+timed_nets-by_net : (timing : NetView → Timing) (stimuli : NetView → List Change) (nets : List NetView) →
+    timed_nets nets (map timing nets) (map stimuli nets)
+    ≡ map (λ (net : NetView). record { name = net.name; part = net.part; pins = net.pins; timing = timing net; stimuli = stimuli net }) nets
+timed_nets-by_net timing stimuli [] = refl
+timed_nets-by_net timing stimuli (net ∷ nets) =
+    ap (λ rest. record { name = net.name; part = net.part; pins = net.pins; timing = timing net; stimuli = stimuli net } ∷ rest)
+    (timed_nets-by_net timing stimuli nets)
 
 -- ---- what the steps of a build gave
 
@@ -70,23 +73,23 @@ InRange-option_fault default period = go (is_in_limits default most_delay) (is_i
     go true false d p e = absurd (cc)
     go false period_in d p e = absurd (cc)
 
--- delays and stimuli of the nets, as the texts say
-pub record IsGiven (netlist : NetlistView) (delay_text stimulus_text : List ℕ) (default period : ℕ) (delays : List ℕ) (stimuli : List (List Change)) : Type 0 where
-  pub lines : List DelayLine
+-- timings and stimuli of the nets, as the texts say
+pub record IsGiven (netlist : NetlistView) (delay_text stimulus_text : List ℕ) (default period : ℕ) (timings : List Timing) (stimuli : List (List Change)) : Type 0 where
+  pub lines : List NetProperty
   pub changes : List NamedChange
   pub no_fault : option_fault default period ≡ None
-  pub lines_are : delays_of netlist delay_text ≡ Ok lines
+  pub lines_are : properties_of netlist delay_text ≡ Ok lines
   pub changes_are : stimuli_of netlist stimulus_text ≡ Ok changes
-  pub delays_are : delays ≡ net_delays netlist default lines
+  pub timings_are : timings ≡ net_timings netlist default period lines
   pub stimuli_are : stimuli ≡ net_stimuli netlist changes
 
-pub is_given : (netlist : NetlistView) (delay_text stimulus_text : List ℕ) (default period : ℕ) (delays : List ℕ) (stimuli : List (List Change)) (done : Unit {0}) →
+pub is_given : (netlist : NetlistView) (delay_text stimulus_text : List ℕ) (default period : ℕ) (timings : List Timing) (stimuli : List (List Change)) (done : Unit {0}) →
     Ok done ≡ options_of default period →
-    Ok delays ≡ result_map_both (net_delays netlist default) (λ fault. fault) (delays_of netlist delay_text) →
+    Ok timings ≡ result_map_both (net_timings netlist default period) (λ fault. fault) (properties_of netlist delay_text) →
     Ok stimuli ≡ result_map_both (net_stimuli netlist) (λ fault. fault) (stimuli_of netlist stimulus_text) →
-    IsGiven netlist delay_text stimulus_text default period delays stimuli
-is_given netlist delay_text stimulus_text default period delays stimuli done options lines changes =
-    let by_lines = given_by (net_delays netlist default) (delays_of netlist delay_text) delays lines in
+    IsGiven netlist delay_text stimulus_text default period timings stimuli
+is_given netlist delay_text stimulus_text default period timings stimuli done options lines changes =
+    let by_lines = given_by (net_timings netlist default period) (properties_of netlist delay_text) timings lines in
     let by_changes = given_by (net_stimuli netlist) (stimuli_of netlist stimulus_text) stimuli changes in
     record {
       lines = by_lines.0;
@@ -94,40 +97,41 @@ is_given netlist delay_text stimulus_text default period delays stimuli done opt
       no_fault = no_fault (option_fault default period) done options;
       lines_are = by_lines.1;
       changes_are = by_changes.1;
-      delays_are = by_lines.2;
+      timings_are = by_lines.2;
       stimuli_are = by_changes.2;
     }
 
 -- ---- the design that they make
 
-module _ {netlist : NetlistView} {delay_text stimulus_text : List ℕ} {default period : ℕ} {delays : List ℕ} {stimuli : List (List Change)}
-    (given : IsGiven netlist delay_text stimulus_text default period delays stimuli) where
-  circuit_is : timed_nets netlist.nets delays period stimuli ≡ circuit_with netlist given.lines given.changes default period
+module _ {netlist : NetlistView} {delay_text stimulus_text : List ℕ} {default period : ℕ} {timings : List Timing} {stimuli : List (List Change)}
+    (given : IsGiven netlist delay_text stimulus_text default period timings stimuli) where
+  circuit_is : timed_nets netlist.nets timings stimuli ≡ circuit_with netlist given.lines given.changes default period
   circuit_is =
-      (λ i. timed_nets netlist.nets (given.delays_are i) period (given.stimuli_are i))
-      ∙ timed_nets-by_net (delay_of_net default given.lines) (λ (net : NetView). stimuli_named given.changes net.name) period netlist.nets
+      (λ i. timed_nets netlist.nets (given.timings_are i) (given.stimuli_are i))
+      ∙ timed_nets-by_net (timing_of_net default period given.lines) (λ (net : NetView). stimuli_named given.changes net.name) netlist.nets
 
   -- it is the one that the definition gives
-  pub design_of-given : design_of netlist delay_text stimulus_text default period ≡ Ok (design_view netlist delays period stimuli)
+  pub design_of-given : design_of netlist delay_text stimulus_text default period ≡ Ok (design_view netlist timings stimuli)
   design_of-given = rw (given.no_fault, given.lines_are, given.changes_are) (ap (λ nets. Ok (record { netlist = netlist; circuit = nets })) (sym circuit_is))
 
   all_timed : IsNetlist netlist → All IsTimed (circuit_with netlist given.lines given.changes default period)
   all_timed ok =
       let range = InRange-option_fault default period given.no_fault in
-      let delayed = HasDelay-delays_of netlist delay_text default given.lines given.lines_are range.delay_in_range.0 range.delay_in_range.1 in
+      let timed = HasTiming-properties_of netlist delay_text default period given.lines given.lines_are range.delay_in_range.0 range.delay_in_range.1
+      range.period_in_range.0 range.period_in_range.1 in
       let stimulated = HasStimuli-stimuli_of netlist stimulus_text given.changes ok.distinct given.changes_are in
       All-map IsTimed _ netlist.nets
-      (λ k d below. record { delay = delayed (get_or netlist.nets k d); period = range.period_in_range; stimuli = stimulated k d below })
+      (λ k d below. record { timing = timed (get_or netlist.nets k d); stimuli = stimulated k d below })
 
   -- and its parts fit together
-  pub IsJoined-given : (first_pins : List ℕ) → IsNetlist netlist → first_pins ≡ first_pins_of netlist → IsJoined netlist first_pins delays period stimuli
+  pub IsJoined-given : (first_pins : List ℕ) → IsNetlist netlist → first_pins ≡ first_pins_of netlist → IsJoined netlist first_pins timings stimuli
   IsJoined-given first_pins ok starts = record {
     starts = starts;
-    some_delay = ap length given.delays_are ∙ length-map netlist.nets _;
+    some_timing = ap length given.timings_are ∙ length-map netlist.nets _;
     some_stimuli = ap length given.stimuli_are ∙ length-map netlist.nets _;
     well_formed = record {
       netlist = ok;
-      same_nets = ap (map untimed) circuit_is ∙ untimed-timed (delay_of_net default given.lines) (λ (net : NetView). stimuli_named given.changes net.name) period netlist.nets;
+      same_nets = ap (map untimed) circuit_is ∙ untimed-timed (timing_of_net default period given.lines) (λ (net : NetView). stimuli_named given.changes net.name) netlist.nets;
       timed = rw circuit_is (all_timed ok);
     };
   }
@@ -139,7 +143,7 @@ refused_by f (Ok x) fault e = absurd (cc)
 refused_by f (Err other) fault e = cc
 
 -- a fault that isn't want of memory is passed on
-timing_fault-other : (fault : DelayFault) → timing_fault fault ≢ Memory → (fault ≢ delay.Memory) × (timing_fault fault ≡ Timing fault)
+timing_fault-other : (fault : DelayFault) → timing_fault fault ≢ Memory → (fault ≢ delay.Memory) × (timing_fault fault ≡ build.Timing fault)
 timing_fault-other delay.Memory differs = absurd (differs refl)
 timing_fault-other _ differs = ((λ e. (cc)), refl)
 
@@ -149,22 +153,22 @@ stimulus_fault-other _ differs = ((λ e. (cc)), refl)
 
 module _ (netlist : NetlistView) (delay_text stimulus_text : List ℕ) (default period : ℕ) (done : Unit {0}) (options : Ok done ≡ options_of default period) where
   pub design_of-timing_fault : (fault : DelayFault) →
-      (fault ≢ delay.Memory → Err fault ≡ result_map_both (net_delays netlist default) (λ fault. fault) (delays_of netlist delay_text)) →
+      (fault ≢ delay.Memory → Err fault ≡ result_map_both (net_timings netlist default period) (λ fault. fault) (properties_of netlist delay_text)) →
       timing_fault fault ≢ Memory → Err (timing_fault fault) ≡ design_of netlist delay_text stimulus_text default period
   design_of-timing_fault fault refused differs =
       let other = timing_fault-other fault differs in
       let none = no_fault (option_fault default period) done options in
-      let lines = refused_by (net_delays netlist default) (delays_of netlist delay_text) fault (refused other.0) in
+      let lines = refused_by (net_timings netlist default period) (properties_of netlist delay_text) fault (refused other.0) in
       rw (none, lines) (ap Err other.1)
 
-  pub design_of-stimulus_fault : (delays : List ℕ) (fault : StimulusFault) →
-      Ok delays ≡ result_map_both (net_delays netlist default) (λ fault. fault) (delays_of netlist delay_text) →
+  pub design_of-stimulus_fault : (timings : List Timing) (fault : StimulusFault) →
+      Ok timings ≡ result_map_both (net_timings netlist default period) (λ fault. fault) (properties_of netlist delay_text) →
       (fault ≢ stimulus.Memory → Err fault ≡ result_map_both (net_stimuli netlist) (λ fault. fault) (stimuli_of netlist stimulus_text)) →
       stimulus_fault fault ≢ Memory → Err (stimulus_fault fault) ≡ design_of netlist delay_text stimulus_text default period
-  design_of-stimulus_fault delays fault given refused differs =
+  design_of-stimulus_fault timings fault given refused differs =
       let other = stimulus_fault-other fault differs in
       let none = no_fault (option_fault default period) done options in
-      let lines = given_by (net_delays netlist default) (delays_of netlist delay_text) delays given in
+      let lines = given_by (net_timings netlist default period) (properties_of netlist delay_text) timings given in
       let changes = refused_by (net_stimuli netlist) (stimuli_of netlist stimulus_text) fault (refused other.0) in
       rw (none, lines.1, changes) (ap Err other.1)
 
@@ -174,30 +178,30 @@ module _ (netlist : NetlistView) (delay_text stimulus_text : List ℕ) (default 
 pub IsDesign-circuit_of : (netlist : NetlistView) (delay_text stimulus_text : List ℕ) (default period : ℕ) (circuit : Circuit) → IsNetlist netlist →
     circuit_of netlist delay_text stimulus_text default period ≡ Ok circuit → IsDesign (record { netlist = netlist; circuit = circuit })
 IsDesign-circuit_of netlist delay_text stimulus_text default period circuit ok =
-    go (option_fault default period) (delays_of netlist delay_text) (stimuli_of netlist stimulus_text) refl refl refl
+    go (option_fault default period) (properties_of netlist delay_text) (stimuli_of netlist stimulus_text) refl refl refl
   where
-    made : (lines : List DelayLine) (changes : List NamedChange) → option_fault default period ≡ None → delays_of netlist delay_text ≡ Ok lines →
+    made : (lines : List NetProperty) (changes : List NamedChange) → option_fault default period ≡ None → properties_of netlist delay_text ≡ Ok lines →
         stimuli_of netlist stimulus_text ≡ Ok changes →
         IsDesign (record { netlist = netlist; circuit = circuit_with netlist lines changes default period })
     made lines changes none lines_are changes_are =
-        let given : IsGiven netlist delay_text stimulus_text default period (net_delays netlist default lines) (net_stimuli netlist changes) = record {
+        let given : IsGiven netlist delay_text stimulus_text default period (net_timings netlist default period lines) (net_stimuli netlist changes) = record {
           lines = lines;
           changes = changes;
           no_fault = none;
           lines_are = lines_are;
           changes_are = changes_are;
-          delays_are = refl;
+          timings_are = refl;
           stimuli_are = refl;
         } in
         record {
           netlist = ok;
-          same_nets = untimed-timed (delay_of_net default lines) (λ (net : NetView). stimuli_named changes net.name) period netlist.nets;
+          same_nets = untimed-timed (timing_of_net default period lines) (λ (net : NetView). stimuli_named changes net.name) netlist.nets;
           timed = all_timed given ok;
         }
 
-    go : (fault : Option OptionFault) (lines : Result (List DelayLine) DelayFault) (changes : Result (List NamedChange) StimulusFault) →
-        option_fault default period ≡ fault → delays_of netlist delay_text ≡ lines → stimuli_of netlist stimulus_text ≡ changes →
-        option_map_or (λ f. Err (Setting f)) fault (result_map_both (λ x. x) Timing lines
+    go : (fault : Option OptionFault) (lines : Result (List NetProperty) DelayFault) (changes : Result (List NamedChange) StimulusFault) →
+        option_fault default period ≡ fault → properties_of netlist delay_text ≡ lines → stimuli_of netlist stimulus_text ≡ changes →
+        option_map_or (λ f. Err (Setting f)) fault (result_map_both (λ x. x) build.Timing lines
         >>= λ ls. result_map_both (λ x. x) Stimulus changes >>= λ cs. Ok (circuit_with netlist ls cs default period)) ≡ Ok circuit →
         IsDesign (record { netlist = netlist; circuit = circuit })
     go (Some f) lines changes a b c e = absurd (cc)

@@ -2,7 +2,7 @@
 pub use Rattle.design.proofs.Built.{IsDesign-design_of}
 pub use Rattle.design.proofs.Joined.{net_named-circuit}
 pub use Rattle.design.proofs.Numbers.{PinIs, length-sources, net_of_pin_below, pin_below, pin_count-cons, pin_is, same_pin, source_at}
-pub use Rattle.design.proofs.SampleTicks.{asked-before, asked-early, asked-from, asked-mono, asker-late, asker-mono, asker-none, unasked}
+pub use Rattle.design.proofs.AskedTicks.{asked-before, asked-early, asked-from, asked-mono, asker-late, asker-mono, asker-none, unasked}
 pub use Rattle.design.proofs.Solution.{same_asked, same_values, value_solves}
 pub use Rattle.design.proofs.Stored.{length-circuit, net_limit}
 pub use Rattle.design.proofs.WellFormed.{All-slice_get, IsCircuit-from_IsDesign, pins_at, pins_below, takes_its_pins, timed_at}

@@ -1,14 +1,14 @@
 -- The circuit of a design by the stored parts.
-use Rattle.std.proofs.Common.{◌≡◌, ℕ, ◌<◌, List, length, map, get_or, position, option_map, Some, slice_get, All, bytes_eq, refl, ap, sym, ◌∙◌, arith}
+use Rattle.std.proofs.Common.{◌≡◌, ℕ, ◌<◌, List, length, map, get_or, position, option_map, Some, slice_get, bytes_eq, refl, ap, sym, ◌∙◌, arith}
 use Rattle.std.specs.List.{zip}
 use Rattle.std.proofs.lemmas.List.{length-map}
-use Rattle.std.proofs.lemmas.List.Elements.{All-map}
 use Rattle.std.proofs.lemmas.Option.{slice_get-map, slice_get-get_or}
 use Rattle.std.proofs.lemmas.Simd.{map-map}
 use Rattle.std.proofs.lemmas.Slice.Zip.{length-zip, firsts-zip, seconds-zip}
 use Rattle.logic3.specs.declared.change.Change.{Change}
 use Rattle.netlist.specs.Netlist.{NetView, net_named}
 use Rattle.netlist.proofs.CallerLemmas.{position-map}
+use Rattle.timing_text.specs.declared.timing.Timing.{Timing}
 use Rattle.design.specs.Circuit.{Net}
 use Rattle.design.specs.Design.{DesignView, IsDesign, untimed}
 use Rattle.design.specs.Joined.{timed_net, timed_nets}
@@ -20,33 +20,27 @@ get_part part xs ys place d same within =
     let long : length xs ≡ length ys = sym (length-map xs part) ∙ ap length same in
     sym (slice_get-map part xs place) ∙ ap (λ zs. slice_get zs place) same ∙ slice_get-get_or ys place d (omega arith)
 
-module _ (nets : List NetView) (delays : List ℕ) (period : ℕ) (stimuli : List (List Change))
-    (some_delay : length delays ≡ length nets) (some_stimuli : length stimuli ≡ length nets) where
-  timings : length (zip delays stimuli) ≡ length nets
-  timings = length-zip delays stimuli ∙ omega arith
+module _ (nets : List NetView) (timings : List Timing) (stimuli : List (List Change))
+    (some_timing : length timings ≡ length nets) (some_stimuli : length stimuli ≡ length nets) where
+  both : length (zip timings stimuli) ≡ length nets
+  both = length-zip timings stimuli ∙ omega arith
 
-  pub untimed-timed_nets : map untimed (timed_nets nets delays period stimuli) ≡ nets
-  untimed-timed_nets = map-map untimed (timed_net period) (zip nets (zip delays stimuli)) ∙ firsts-zip nets (zip delays stimuli) timings
+  pub untimed-timed_nets : map untimed (timed_nets nets timings stimuli) ≡ nets
+  untimed-timed_nets = map-map untimed timed_net (zip nets (zip timings stimuli)) ∙ firsts-zip nets (zip timings stimuli) both
 
-  pub delays-timed_nets : map (λ (net : Net). net.delay) (timed_nets nets delays period stimuli) ≡ delays
-  delays-timed_nets =
-      map-map (λ (net : Net). net.delay) (timed_net period) (zip nets (zip delays stimuli))
-      ∙ sym (map-map (λ (t : ℕ × List Change). t.0) (λ (t : NetView × (ℕ × List Change)). t.1) (zip nets (zip delays stimuli)))
-      ∙ ap (map (λ (t : ℕ × List Change). t.0)) (seconds-zip nets (zip delays stimuli) timings)
-      ∙ firsts-zip delays stimuli (omega arith)
+  pub timings-timed_nets : map (λ (net : Net). net.timing) (timed_nets nets timings stimuli) ≡ timings
+  timings-timed_nets =
+      map-map (λ (net : Net). net.timing) timed_net (zip nets (zip timings stimuli))
+      ∙ sym (map-map (λ (t : Timing × List Change). t.0) (λ (t : NetView × (Timing × List Change)). t.1) (zip nets (zip timings stimuli)))
+      ∙ ap (map (λ (t : Timing × List Change). t.0)) (seconds-zip nets (zip timings stimuli) both)
+      ∙ firsts-zip timings stimuli (omega arith)
 
-  pub stimuli-timed_nets : map (λ (net : Net). net.stimuli) (timed_nets nets delays period stimuli) ≡ stimuli
+  pub stimuli-timed_nets : map (λ (net : Net). net.stimuli) (timed_nets nets timings stimuli) ≡ stimuli
   stimuli-timed_nets =
-      map-map (λ (net : Net). net.stimuli) (timed_net period) (zip nets (zip delays stimuli))
-      ∙ sym (map-map (λ (t : ℕ × List Change). t.1) (λ (t : NetView × (ℕ × List Change)). t.1) (zip nets (zip delays stimuli)))
-      ∙ ap (map (λ (t : ℕ × List Change). t.1)) (seconds-zip nets (zip delays stimuli) timings)
-      ∙ seconds-zip delays stimuli (omega arith)
-
--- all nets have the one period
-pub periods-timed_nets : (nets : List NetView) (delays : List ℕ) (period : ℕ) (stimuli : List (List Change)) →
-    All (λ (net : Net). net.period ≡ period) (timed_nets nets delays period stimuli)
-periods-timed_nets nets delays period stimuli =
-    All-map (λ (net : Net). net.period ≡ period) (timed_net period) (zip nets (zip delays stimuli)) (λ k d below. refl)
+      map-map (λ (net : Net). net.stimuli) timed_net (zip nets (zip timings stimuli))
+      ∙ sym (map-map (λ (t : Timing × List Change). t.1) (λ (t : NetView × (Timing × List Change)). t.1) (zip nets (zip timings stimuli)))
+      ∙ ap (map (λ (t : Timing × List Change). t.1)) (seconds-zip nets (zip timings stimuli) both)
+      ∙ seconds-zip timings stimuli (omega arith)
 
 -- a net has the same number in the netlist and in the circuit
 pub net_named-circuit : (design : DesignView) → IsDesign design → (name : List ℕ) →

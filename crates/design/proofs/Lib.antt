@@ -1,9 +1,11 @@
+mod AskedTicks
 mod Behind
 mod Built
 pub mod CallerLemmas
 mod Cutting
 mod Joined
 mod Numbers
+mod OnePeriod
 mod Ordered
 mod Parts
 mod Ranks

@@ -8,10 +8,10 @@ use Rattle.logic3.specs.Gate.{value_of_gate, only_pin}
 use Rattle.netlist.specs.declared.part.Part.{Part}
 use Rattle.netlist.specs.declared.part.Part.TheVariants.{Input, Gate, Flop}
 use Rattle.design.specs.Circuit.{Net, Circuit, IsCircuit, IsTimed}
-use Rattle.timing_text.specs.Ranges.{HasDelay}
-use Rattle.design.specs.Samples.{timing_of, asked_of_part}
+use Rattle.timing_text.specs.Ranges.{HasDelay, HasTiming}
+use Rattle.design.specs.Samples.{asked_of_part}
 use Rattle.design.specs.Equations.{values_at, equation_of_part, equation_at, IsSolution, value_within, value_of}
-use Rattle.design.proofs.SampleTicks.{asked-early}
+use Rattle.design.proofs.AskedTicks.{asked-early}
 use Rattle.design.proofs.WellFormed.{timed_at}
 
 -- signals that agree at a tick give the same list there
@@ -28,23 +28,23 @@ same_asked (Some tick) found other none h = h tick refl
 
 -- an equation gives the same where the signals show the same at the tick that is asked for
 pub same_values : (part : Part) (net : Net) (f g : List (ℕ → Value)) (tick : ℕ) →
-    ((asked : ℕ) → asked_of_part part (timing_of net) tick ≡ Some asked → values_at asked f ≡ values_at asked g) →
+    ((asked : ℕ) → asked_of_part part net.timing tick ≡ Some asked → values_at asked f ≡ values_at asked g) →
     equation_of_part part net f tick ≡ equation_of_part part net g tick
 same_values Input net f g tick h = refl
 same_values (Gate kind) net f g tick h =
-    same_asked (asked_of_part (Gate kind) (timing_of net) tick) _ _ Unknown (λ at is. ap (value_of_gate kind) (h at is))
+    same_asked (asked_of_part (Gate kind) net.timing tick) _ _ Unknown (λ at is. ap (value_of_gate kind) (h at is))
 same_values Flop net f g tick h =
-    same_asked (asked_of_part Flop (timing_of net) tick) _ _ Unknown (λ at is. ap only_pin (h at is))
+    same_asked (asked_of_part Flop net.timing tick) _ _ net.timing.initial (λ at is. ap only_pin (h at is))
 
 -- it asks for earlier ticks alone
-same_equation : (part : Part) (net : Net) (f g : ℕ → ℕ → Value) (tick : ℕ) → HasDelay part net.delay → 1 ≤ net.period →
+same_equation : (part : Part) (net : Net) (f g : ℕ → ℕ → Value) (tick : ℕ) → HasTiming part net.timing →
     ((pin at : ℕ) → at < tick → f pin at ≡ g pin at) →
     equation_of_part part net (map f net.pins) tick ≡ equation_of_part part net (map g net.pins) tick
-same_equation part net f g tick delay period h =
+same_equation part net f g tick timing h =
     same_values part net (map f net.pins) (map g net.pins) tick (λ at is.
-    same_at f g at net.pins (λ pin. h pin at (earlier part delay (asked-early (timing_of net) period part tick at is) is)))
+    same_at f g at net.pins (λ pin. h pin at (earlier part timing.delay (asked-early net.timing part timing.clock tick at is) is)))
   where
-    earlier : {at : ℕ} (part : Part) → HasDelay part net.delay → at + net.delay ≤ tick → asked_of_part part (timing_of net) tick ≡ Some at → at < tick
+    earlier : {at : ℕ} (part : Part) → HasDelay part net.timing.delay → at + net.timing.delay ≤ tick → asked_of_part part net.timing tick ≡ Some at → at < tick
     earlier {at} Input delay late is = absurd (none-some at is)
     earlier (Gate kind) delay late is = omega arith
     earlier Flop delay late is = omega arith
@@ -54,7 +54,7 @@ same_at_place : (place : Option Net) (f g : ℕ → ℕ → Value) (tick : ℕ) 
     ((pin at : ℕ) → at < tick → f pin at ≡ g pin at) → equation_at place f tick ≡ equation_at place g tick
 same_at_place None f g tick timed h = refl
 same_at_place (Some net) f g tick timed h =
-    let ok = timed net refl in same_equation net.part net f g tick ok.delay ok.period.0 h
+    let ok = timed net refl in same_equation net.part net f g tick ok.timing h
 
 -- any solution is what the equations give within enough ticks
 within_solution : (circuit : Circuit) → IsCircuit circuit → (signals : ℕ → ℕ → Value) → IsSolution circuit signals →

@@ -7,11 +7,12 @@ use Rattle.std.proofs.lemmas.Option.{slice_get_cases}
 use Rattle.std.proofs.lemmas.Simd.{map-map}
 use Rattle.logic3.specs.declared.change.Change.{Change}
 use Rattle.netlist.specs.Netlist.{NetView, NetlistView}
+use Rattle.timing_text.specs.declared.timing.Timing.{Timing}
 use Rattle.design.specs.Circuit.{Net, Circuit, pin_count}
 use Rattle.design.specs.Design.{DesignView, IsDesign, untimed}
 use Rattle.design.specs.Joined.{design_view, starts_from, IsJoined}
 use Rattle.design.specs.Pins.{first_pin}
-use Rattle.design.proofs.Joined.{get_part, delays-timed_nets, stimuli-timed_nets, periods-timed_nets}
+use Rattle.design.proofs.Joined.{get_part, timings-timed_nets, stimuli-timed_nets}
 use Rattle.design.proofs.Starts.{length-starts_from, get_or-starts_from}
 use Rattle.design.proofs.WellFormed.{All-slice_get}
 
@@ -43,8 +44,8 @@ pins_by_net design ok =
 
 -- ---- of the design that parts make
 
-module _ {netlist : NetlistView} {first_pins delays : List ℕ} {period : ℕ} {stimuli : List (List Change)} {design : DesignView}
-    (joined : IsJoined netlist first_pins delays period stimuli) (view : design_view netlist delays period stimuli ≡ design) where
+module _ {netlist : NetlistView} {first_pins : List ℕ} {timings : List Timing} {stimuli : List (List Change)} {design : DesignView}
+    (joined : IsJoined netlist first_pins timings stimuli) (view : design_view netlist timings stimuli ≡ design) where
   pub well_formed : IsDesign design
   well_formed = subst IsDesign view joined.well_formed
 
@@ -65,28 +66,14 @@ module _ {netlist : NetlistView} {first_pins delays : List ℕ} {period : ℕ} {
   length-stimuli =
       joined.some_stimuli ∙ ap (λ (d : DesignView). length d.netlist.nets) view ∙ sym (length-circuit design well_formed)
 
-  pub delay_at : (net d : ℕ) → net < length design.circuit →
-      option_map (λ (n : Net). n.delay) (slice_get design.circuit net) ≡ Some (get_or delays net d)
-  delay_at net d = get_part (λ (n : Net). n.delay) design.circuit delays net d
-      (subst (λ (d : DesignView). map (λ (n : Net). n.delay) d.circuit ≡ delays) view
-      (delays-timed_nets netlist.nets delays period stimuli joined.some_delay joined.some_stimuli))
+  pub timing_at : (net : ℕ) (d : Timing) → net < length design.circuit →
+      option_map (λ (n : Net). n.timing) (slice_get design.circuit net) ≡ Some (get_or timings net d)
+  timing_at net d = get_part (λ (n : Net). n.timing) design.circuit timings net d
+      (subst (λ (d : DesignView). map (λ (n : Net). n.timing) d.circuit ≡ timings) view
+      (timings-timed_nets netlist.nets timings stimuli joined.some_timing joined.some_stimuli))
 
   pub stimuli_at : (net : ℕ) (d : List Change) → net < length design.circuit →
       option_map (λ (n : Net). n.stimuli) (slice_get design.circuit net) ≡ Some (get_or stimuli net d)
   stimuli_at net d = get_part (λ (n : Net). n.stimuli) design.circuit stimuli net d
       (subst (λ (d : DesignView). map (λ (n : Net). n.stimuli) d.circuit ≡ stimuli) view
-      (stimuli-timed_nets netlist.nets delays period stimuli joined.some_delay joined.some_stimuli))
-
-  period_is : All (λ (n : Net). n.period ≡ period) design.circuit
-  period_is = subst (λ (d : DesignView). All (λ (n : Net). n.period ≡ period) d.circuit) view
-      (periods-timed_nets netlist.nets delays period stimuli)
-
-  pub period_at : (net : ℕ) → net < length design.circuit → option_map (λ (n : Net). n.period) (slice_get design.circuit net) ≡ Some period
-  period_at net below = go (slice_get_cases design.circuit net).1
-    where
-      go : ((n : Net) × (net < length design.circuit) × (slice_get design.circuit net ≡ Some n) × (get_or design.circuit net n ≡ n))
-          ⊎ ((length design.circuit ≤ net) × (slice_get design.circuit net ≡ None)) →
-          option_map (λ (n : Net). n.period) (slice_get design.circuit net) ≡ Some period
-      go (inl (n, within, found, at)) =
-          ap (option_map (λ (n : Net). n.period)) found ∙ ap Some (All-slice_get (λ (n : Net). n.period ≡ period) design.circuit net n period_is found)
-      go (inr (past, found)) = absurd (omega arith)
+      (stimuli-timed_nets netlist.nets timings stimuli joined.some_timing joined.some_stimuli))

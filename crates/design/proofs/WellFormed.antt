@@ -10,9 +10,9 @@ use Rattle.netlist.specs.declared.part.Part.{Part}
 use Rattle.netlist.specs.declared.part.Part.TheVariants.{Gate, Flop}
 use Rattle.netlist.specs.Part.{takes_pins}
 use Rattle.netlist.specs.Netlist.{NetView}
-use Rattle.design.specs.declared.samples.Timing.{Timing}
+use Rattle.timing_text.specs.declared.timing.Timing.{Timing}
+use Rattle.timing_text.specs.Ranges.{HasTiming}
 use Rattle.design.specs.Circuit.{Net, Circuit, IsCircuit, IsTimed}
-use Rattle.design.specs.Samples.{timing_of}
 use Rattle.design.specs.Design.{DesignView, IsDesign, untimed}
 
 -- what holds of each element holds of the one at a place
@@ -77,13 +77,15 @@ pins_below design ok number pins pins_are =
     let circuit = IsCircuit-from_IsDesign design ok in
     rw (← found.2) (All-slice_get (λ (net : Net). All (λ pin. pin < length design.circuit) net.pins) design.circuit number found.0 circuit.pins found.1)
 
--- a period is at least one tick
-pub period_some : (circuit : Circuit) → IsCircuit circuit → (number : ℕ) (timing : Timing) →
-    option_map timing_of (slice_get circuit number) ≡ Some timing → 0 < timing.period
-period_some circuit ok number timing timing_is =
-    let found = net_there timing_of (slice_get circuit number) timing timing_is in
+-- its timing is one that its part may have
+pub has_timing : (circuit : Circuit) → IsCircuit circuit → (number : ℕ) (part : Part) (timing : Timing) →
+    option_map (λ (net : Net). net.part) (slice_get circuit number) ≡ Some part →
+    option_map (λ (net : Net). net.timing) (slice_get circuit number) ≡ Some timing → HasTiming part timing
+has_timing circuit ok number part timing part_is timing_is =
+    let found = net_there (λ (net : Net). net.timing) (slice_get circuit number) timing timing_is in
+    let same : found.0.part ≡ part = let e = rw found.1 at part_is in same_Some found.0.part part e in
     let timed = timed_at circuit ok number found.0 found.1 in
-    subst (λ (timing : Timing). 0 < timing.period) found.2 timed.period.0
+    rw (← found.2, ← same) timed.timing
 
 arity_of : (kind : GateKind) (pins : ℕ) → takes_pins (Gate kind) pins ≡ true → HasArity kind pins
 arity_of Not pins e = eqb-true pins 1 e

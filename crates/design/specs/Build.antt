@@ -9,18 +9,18 @@ use Rattle.design.specs.declared.fault.BuildFault.TheVariants.{Setting, Timing, 
 use Rattle.design.specs.Circuit.{Circuit}
 use Rattle.design.specs.Design.{DesignView}
 use Rattle.timing_text.specs.Options.{option_fault}
-use Rattle.timing_text.specs.Delays.{DelayLine, delays_of, delay_named, delay_of_part}
+use Rattle.timing_text.specs.TimingLines.{NetProperty}
+use Rattle.timing_text.specs.Timings.{properties_of, timing_of_net}
 use Rattle.timing_text.specs.Stimuli.{NamedChange, stimuli_of, stimuli_named}
 
--- each net with its delay, the period and its stimuli
-abbrev pub circuit_with : NetlistView → List DelayLine → List NamedChange → ℕ → ℕ → Circuit
-circuit_with netlist delays stimuli default period =
+-- each net with its timing and its stimuli
+abbrev pub circuit_with : NetlistView → List NetProperty → List NamedChange → ℕ → ℕ → Circuit
+circuit_with netlist lines stimuli default period =
     map (λ (net : NetView). record {
       name = net.name;
       part = net.part;
       pins = net.pins;
-      delay = delay_of_part net.part (delay_named delays default net.name);
-      period = period;
+      timing = timing_of_net default period lines net;
       stimuli = stimuli_named stimuli net.name;
     }) netlist.nets
 
@@ -28,9 +28,9 @@ circuit_with netlist delays stimuli default period =
 abbrev pub circuit_of : NetlistView → List ℕ → List ℕ → ℕ → ℕ → Result Circuit BuildFault
 circuit_of netlist delay_text stimulus_text default period =
     option_map_or (λ fault. Err (Setting fault)) (option_fault default period) (do
-      delays ← result_map_both (λ delays. delays) Timing (delays_of netlist delay_text)
+      lines ← result_map_both (λ lines. lines) Timing (properties_of netlist delay_text)
       stimuli ← result_map_both (λ stimuli. stimuli) Stimulus (stimuli_of netlist stimulus_text)
-      Ok (circuit_with netlist delays stimuli default period))
+      Ok (circuit_with netlist lines stimuli default period))
 
 -- the design that a netlist makes with its texts and settings, or the first fault
 abbrev pub design_of : NetlistView → List ℕ → List ℕ → ℕ → ℕ → Result DesignView BuildFault

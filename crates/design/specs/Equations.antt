@@ -9,19 +9,19 @@ use Rattle.logic3.specs.Wave.{Wave, value_after, value_at, wave_of}
 use Rattle.netlist.specs.declared.part.Part.{Part}
 use Rattle.netlist.specs.declared.part.Part.TheVariants.{Input, Gate, Flop}
 use Rattle.design.specs.Circuit.{Net, Circuit}
-use Rattle.design.specs.Samples.{timing_of, asked_of_part}
+use Rattle.design.specs.Samples.{asked_of_part}
 
 -- what signals show at a tick
 abbrev pub values_at : ℕ → List (ℕ → Value) → List Value
 values_at tick signals = map (λ (signal : ℕ → Value). signal tick) signals
 
--- the value of a net at a tick, from the signals at its pins
+-- the value of a net at a tick, from the signals at its pins; a flip-flop begins with its initial value, and a gate with X
 abbrev pub equation_of_part : Part → Net → List (ℕ → Value) → ℕ → Value
 equation_of_part Input net signals tick = value_after Unknown net.stimuli tick
 equation_of_part (Gate kind) net signals tick =
-    option_map_or (λ asked. value_of_gate kind (values_at asked signals)) (asked_of_part (Gate kind) (timing_of net) tick) Unknown
+    option_map_or (λ asked. value_of_gate kind (values_at asked signals)) (asked_of_part (Gate kind) net.timing tick) Unknown
 equation_of_part Flop net signals tick =
-    option_map_or (λ asked. only_pin (values_at asked signals)) (asked_of_part Flop (timing_of net) tick) Unknown
+    option_map_or (λ asked. only_pin (values_at asked signals)) (asked_of_part Flop net.timing tick) net.timing.initial
 
 abbrev pub equation : Net → List (ℕ → Value) → ℕ → Value
 equation net signals tick = equation_of_part net.part net signals tick

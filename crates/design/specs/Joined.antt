@@ -3,26 +3,25 @@ use Rattle.std.specs.Prelude.{◌≡◌, ℕ, ◌+◌, List, [], ◌∷◌, leng
 use Rattle.std.specs.List.{zip}
 use Rattle.logic3.specs.declared.change.Change.{Change}
 use Rattle.netlist.specs.Netlist.{NetView, NetlistView}
+use Rattle.timing_text.specs.declared.timing.Timing.{Timing}
 use Rattle.design.specs.Circuit.{Net, Circuit}
 use Rattle.design.specs.Design.{DesignView, IsDesign}
 
-abbrev pub timed_net : ℕ → NetView × (ℕ × List Change) → Net
-timed_net period timed = record {
+abbrev pub timed_net : NetView × (Timing × List Change) → Net
+timed_net timed = record {
   name = timed.0.name;
   part = timed.0.part;
   pins = timed.0.pins;
-  delay = timed.1.0;
-  period = period;
+  timing = timed.1.0;
   stimuli = timed.1.1;
 }
 
--- each net with its delay, the period and its stimuli, in order
-abbrev pub timed_nets : List NetView → List ℕ → ℕ → List (List Change) → Circuit
-timed_nets nets delays period stimuli = map (timed_net period) (zip nets (zip delays stimuli))
+-- each net with its timing and its stimuli, in order
+abbrev pub timed_nets : List NetView → List Timing → List (List Change) → Circuit
+timed_nets nets timings stimuli = map timed_net (zip nets (zip timings stimuli))
 
-abbrev pub design_view : NetlistView → List ℕ → ℕ → List (List Change) → DesignView
-design_view netlist delays period stimuli =
-    record { netlist = netlist; circuit = timed_nets netlist.nets delays period stimuli }
+abbrev pub design_view : NetlistView → List Timing → List (List Change) → DesignView
+design_view netlist timings stimuli = record { netlist = netlist; circuit = timed_nets netlist.nets timings stimuli }
 
 -- the first pin of each net, by the pins of all nets, and at the end the first number that is no pin
 abbrev pub starts_from : ℕ → List (List ℕ) → List ℕ
@@ -32,9 +31,9 @@ starts_from pin (pins ∷ nets) = pin ∷ starts_from (pin + length pins) nets
 abbrev pub first_pins_of : NetlistView → List ℕ
 first_pins_of netlist = starts_from 0 (map (λ (net : NetView). net.pins) netlist.nets)
 
--- parts that make a design, with a delay, stimuli and a first pin for each net
-pub record IsJoined (netlist : NetlistView) (first_pins delays : List ℕ) (period : ℕ) (stimuli : List (List Change)) : Type 0 where
+-- parts that make a design, with a timing, stimuli and a first pin for each net
+pub record IsJoined (netlist : NetlistView) (first_pins : List ℕ) (timings : List Timing) (stimuli : List (List Change)) : Type 0 where
   pub starts : first_pins ≡ first_pins_of netlist
-  pub some_delay : length delays ≡ length netlist.nets
+  pub some_timing : length timings ≡ length netlist.nets
   pub some_stimuli : length stimuli ≡ length netlist.nets
-  pub well_formed : IsDesign (design_view netlist delays period stimuli)
+  pub well_formed : IsDesign (design_view netlist timings stimuli)

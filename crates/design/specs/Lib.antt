@@ -10,6 +10,7 @@ pub mod Design
 pub mod Joined
 pub mod Samples
 pub mod Equations
+pub mod OnePeriod
 pub mod Pins
 pub mod Flow
 pub mod Walk

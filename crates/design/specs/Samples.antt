@@ -1,20 +1,25 @@
--- At which tick a net looks at its pins: what its part, its delay and its period mean, and nothing else says so.
-use Rattle.std.specs.Prelude.{ℕ, ◌+◌, ◌-◌, ◌*◌, ◌/◌, nat_lt, max, if◌then◌else◌, Option, None, Some}
+-- At which tick a net looks at its pins: what its part and its timing mean, and nothing else says so.
+use Rattle.std.specs.Prelude.{◌≡◌, ℕ, ◌+◌, ◌-◌, ◌*◌, ◌/◌, ◌%◌, ◌==◌, ◌≤◌, nat_lt, max, if◌then◌else◌, Option, None, Some}
 use Rattle.netlist.specs.declared.part.Part.{Part}
 use Rattle.netlist.specs.declared.part.Part.TheVariants.{Input, Gate, Flop}
-use Rattle.design.specs.declared.samples.Timing.{Timing}
+use Rattle.timing_text.specs.declared.timing.Timing.{Timing}
 use Rattle.design.specs.Circuit.{Net}
 
--- the greatest multiple of the period that is at most the tick
-abbrev pub last_sample : ℕ → ℕ → ℕ
-last_sample period tick = period * (tick / period)
+-- a flip-flop samples at the ticks of at least 1 whose remainder by its period is its phase
+abbrev pub IsSample : ℕ → ℕ → ℕ → Type 0
+IsSample period phase tick = (1 ≤ tick) × (tick % period ≡ phase)
 
--- the least positive multiple of the period that is at least the tick
-abbrev pub next_sample : ℕ → ℕ → ℕ
-next_sample period tick = period * max 1 ((tick + (period - 1)) / period)
+-- the first of them
+abbrev pub first_sample : ℕ → ℕ → ℕ
+first_sample period phase = if phase == 0 then period else phase
 
-abbrev pub timing_of : Net → Timing
-timing_of net = record { delay = net.delay; period = net.period }
+-- the last one up to a tick, where the first isn't after it
+abbrev pub last_sample : ℕ → ℕ → ℕ → ℕ
+last_sample period phase tick = phase + period * ((tick - phase) / period)
+
+-- the next one from a tick on
+abbrev pub next_sample : ℕ → ℕ → ℕ → ℕ
+next_sample period phase tick = max (first_sample period phase) (phase + period * ((tick - phase + (period - 1)) / period))
 
 -- the tick of its pins that decides what a net shows at a tick; none for an input, before a gate's delay is over, and before a
 -- flip-flop's first sample shows
@@ -22,16 +27,17 @@ abbrev pub asked_of_part : Part → Timing → ℕ → Option ℕ
 asked_of_part Input timing tick = None
 asked_of_part (Gate kind) timing tick = if nat_lt tick timing.delay then None else Some (tick - timing.delay)
 asked_of_part Flop timing tick =
-    if nat_lt tick (timing.delay + timing.period) then None else Some (last_sample timing.period (tick - timing.delay))
+    if nat_lt tick (timing.delay + first_sample timing.period timing.phase) then None
+    else Some (last_sample timing.period timing.phase (tick - timing.delay))
 
 abbrev pub asked_tick : Net → ℕ → Option ℕ
-asked_tick net tick = asked_of_part net.part (timing_of net) tick
+asked_tick net tick = asked_of_part net.part net.timing tick
 
 -- the first tick that asks for this tick of the pins or a later one; none for an input
 abbrev pub asker_of_part : Part → Timing → ℕ → Option ℕ
 asker_of_part Input timing tick = None
 asker_of_part (Gate kind) timing tick = Some (tick + timing.delay)
-asker_of_part Flop timing tick = Some (next_sample timing.period tick + timing.delay)
+asker_of_part Flop timing tick = Some (next_sample timing.period timing.phase tick + timing.delay)
 
 abbrev pub first_asker : Net → ℕ → Option ℕ
-first_asker net tick = asker_of_part net.part (timing_of net) tick
+first_asker net tick = asker_of_part net.part net.timing tick

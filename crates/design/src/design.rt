@@ -3,14 +3,13 @@ ghost use Rattle.std.specs.Option.{ForSome};
 ghost use Rattle.netlist.specs.Netlist.{net_named};
 ghost use Rattle.design.specs.Circuit.{Net, pin_count};
 ghost use Rattle.design.specs.Pins.{sources_of, first_pin, net_of_pin};
-ghost use Rattle.design.specs.Samples.{timing_of};
 
 mod build;
 
-use crate::samples::Timing;
-use logic3::Change;
+use logic3::{Change, Value};
 use netlist::{Netlist, Part};
 use std::marker::Model;
+use timing_text::Timing;
 
 /// A netlist with its timing and stimuli.
 ///
@@ -22,10 +21,9 @@ pub struct Design {
     netlist: Netlist,
     // The first pin of each net, and at the end how many pins there are.
     first_pins: Vec<u32>,
-    // The delay and the stimuli of each net.
-    delays: Vec<u64>,
+    // The timing and the stimuli of each net.
+    timings: Vec<Timing>,
     stimuli: Vec<Vec<Change>>,
-    period: u64,
 }
 
 impl Model for Design {
@@ -36,10 +34,10 @@ impl Model for Design {
 
     ghost use Rattle.design.specs.Joined.{design_view, IsJoined};
 
-    ghost view = { λ d. design_view d.netlist d.delays.items d.period (map (λ v. v.items) d.stimuli.items) };
+    ghost view = { λ d. design_view d.netlist d.timings.items (map (λ v. v.items) d.stimuli.items) };
 
     ghost invariant = { λ d.
-        IsJoined d.netlist d.first_pins.items d.delays.items d.period (map (λ v. v.items) d.stimuli.items) };
+        IsJoined d.netlist d.first_pins.items d.timings.items (map (λ v. v.items) d.stimuli.items) };
 }
 
 impl Design {
@@ -131,33 +129,45 @@ impl Design {
         self.pins_of(net)[place as usize]
     }
 
+    /// When a net looks at its pins, and what it shows before.
+    pub fn timing(&self, net: u32) -> Timing
+        requires { net < length self.now.circuit }
+        ensures { option_map (λ (n : Net). n.timing) (slice_get self.now.circuit net) ≡ Some result }
+    {
+        self.timings[net as usize]
+    }
+
     /// The delay of a net in ticks: 0 for an input, else 1 to 1,000,000.
     pub fn delay(&self, net: u32) -> u64
         requires { net < length self.now.circuit }
-        ensures { option_map (λ (n : Net). n.delay) (slice_get self.now.circuit net) ≡ Some result }
+        ensures { option_map (λ (n : Net). n.timing.delay) (slice_get self.now.circuit net) ≡ Some result }
     {
-        self.delays[net as usize]
+        self.timing(net).delay
     }
 
-    /// The period of a net in ticks: 1 to 10,000,000. It matters for a flip-flop alone.
+    /// The period of a flip-flop in ticks: 1 to 10,000,000. 0 for any other net.
     pub fn period(&self, net: u32) -> u64
         requires { net < length self.now.circuit }
-        ensures { option_map (λ (n : Net). n.period) (slice_get self.now.circuit net) ≡ Some result }
+        ensures { option_map (λ (n : Net). n.timing.period) (slice_get self.now.circuit net) ≡ Some result }
     {
-        // All flip-flops share one.
-        let _ = net;
-        self.period
+        self.timing(net).period
     }
 
-    /// When a net looks at its pins: its delay and its period.
-    pub fn timing(&self, net: u32) -> Timing
+    /// The phase of a flip-flop in ticks, below its period: it samples at the ticks of at least 1
+    /// whose remainder by the period is the phase. 0 for any other net.
+    pub fn phase(&self, net: u32) -> u64
         requires { net < length self.now.circuit }
-        ensures { option_map timing_of (slice_get self.now.circuit net) ≡ Some result }
+        ensures { option_map (λ (n : Net). n.timing.phase) (slice_get self.now.circuit net) ≡ Some result }
     {
-        Timing {
-            delay: self.delay(net),
-            period: self.period(net),
-        }
+        self.timing(net).phase
+    }
+
+    /// What a flip-flop shows before its first sample shows. X for any other net.
+    pub fn init(&self, net: u32) -> Value
+        requires { net < length self.now.circuit }
+        ensures { option_map (λ (n : Net). n.timing.initial) (slice_get self.now.circuit net) ≡ Some result }
+    {
+        self.timing(net).initial
     }
 
     /// The stimuli of a net, at ticks that rise strictly, up to 10,000,000; none but for an input.

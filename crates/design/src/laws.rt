@@ -1,9 +1,13 @@
 //! Facts about the defining equations alone.
-ghost use Rattle.std.specs.Prelude.{◌≡◌, ℕ, ◌+◌, ◌<◌, ◌≤◌, Some};
+ghost use Rattle.std.specs.Prelude.{◌≡◌, ℕ, ◌+◌, ◌<◌, ◌≤◌, List, Some, Ok};
 ghost use Rattle.logic3.specs.declared.value.Value.{Value};
+ghost use Rattle.netlist.specs.Netlist.{NetlistView, IsNetlist};
+ghost use Rattle.timing_text.specs.Timings.{IsFirstVersion};
+ghost use Rattle.design.specs.Build.{circuit_of};
 ghost use Rattle.design.specs.Circuit.{Net, Circuit, IsTimed, IsCircuit};
-ghost use Rattle.design.specs.Samples.{last_sample, next_sample, asked_tick, first_asker};
+ghost use Rattle.design.specs.Samples.{IsSample, first_sample, last_sample, next_sample, asked_tick, first_asker};
 ghost use Rattle.design.specs.Equations.{IsSolution, value_of};
+ghost use Rattle.design.specs.OnePeriod.{IsPeriodicSolution};
 
 /// The equations of a circuit have one solution, and no other.
 pub fn one_solution()
@@ -13,17 +17,34 @@ pub fn one_solution()
         (net tick : ℕ) → signals net tick ≡ value_of circuit net tick }
 {}
 
-/// The last sample of a tick is less than a period before it, and the next one is not before it. No
-/// sample lies between: before the next sample of a tick the last one is before that tick, and from
-/// there on it is not before the next.
+/// Where a delay text is of version 1, what nets show solves the equations of one period, at whose
+/// multiples all flip-flops sample, which begin with X; and nothing else does.
+pub fn one_period()
+    ensures solves { (netlist : NetlistView) (delays stimuli : List ℕ) (default period : ℕ) (circuit : Circuit) →
+        IsNetlist netlist → IsFirstVersion delays → circuit_of netlist delays stimuli default period ≡ Ok circuit →
+        IsPeriodicSolution period circuit (value_of circuit) }
+    ensures only { (netlist : NetlistView) (delays stimuli : List ℕ) (default period : ℕ) (circuit : Circuit) →
+        IsNetlist netlist → IsFirstVersion delays → circuit_of netlist delays stimuli default period ≡ Ok circuit →
+        (signals : ℕ → ℕ → Value) → IsPeriodicSolution period circuit signals →
+        (net tick : ℕ) → signals net tick ≡ value_of circuit net tick }
+{}
+
+/// What the first sample, the last one up to a tick and the next one from a tick on are, where the phase
+/// is below the period: samples, and no other lies before the first, between the last and the tick, or
+/// between the tick and the next.
 pub fn samples()
-    ensures last { (period tick : ℕ) → last_sample period tick ≤ tick }
-    ensures near { (period tick : ℕ) → 0 < period → tick < last_sample period tick + period }
-    ensures next { (period tick : ℕ) → 0 < period → tick ≤ next_sample period tick }
-    ensures before { (period tick early : ℕ) → 0 < period →
-        period ≤ early → early < next_sample period tick → last_sample period early < tick }
-    ensures from { (period tick late : ℕ) → 0 < period →
-        next_sample period tick ≤ late → next_sample period tick ≤ last_sample period late }
+    ensures first { (period phase : ℕ) → phase < period →
+        IsSample period phase (first_sample period phase) }
+    ensures least { (period phase sample : ℕ) → phase < period → IsSample period phase sample →
+        first_sample period phase ≤ sample }
+    ensures last { (period phase tick : ℕ) → phase < period → first_sample period phase ≤ tick →
+        IsSample period phase (last_sample period phase tick) × (last_sample period phase tick ≤ tick) }
+    ensures greatest { (period phase tick sample : ℕ) → phase < period → IsSample period phase sample →
+        sample ≤ tick → sample ≤ last_sample period phase tick }
+    ensures next { (period phase tick : ℕ) → phase < period →
+        IsSample period phase (next_sample period phase tick) × (tick ≤ next_sample period phase tick) }
+    ensures soonest { (period phase tick sample : ℕ) → phase < period → IsSample period phase sample →
+        tick ≤ sample → next_sample period phase tick ≤ sample }
 {}
 
 /// A net's value asks for its pins at least a delay earlier, and a later value doesn't ask for an
@@ -31,7 +52,7 @@ pub fn samples()
 /// From it on some tick is asked for, and none that is before it by more than the delay.
 pub fn asked_ticks()
     ensures earlier { (net : Net) (tick asked : ℕ) → IsTimed net →
-        asked_tick net tick ≡ Some asked → asked + net.delay ≤ tick }
+        asked_tick net tick ≡ Some asked → asked + net.timing.delay ≤ tick }
     ensures rising { (net : Net) (tick late asked : ℕ) → IsTimed net →
         asked_tick net tick ≡ Some asked → tick ≤ late →
         (next : ℕ) × (asked_tick net late ≡ Some next) × (asked ≤ next) }
@@ -39,5 +60,5 @@ pub fn asked_ticks()
         first_asker net pin ≡ Some first → asked_tick net tick ≡ Some asked → tick < first → asked < pin }
     ensures from { (net : Net) (pin first tick : ℕ) → IsTimed net →
         first_asker net pin ≡ Some first → first ≤ tick →
-        (asked : ℕ) × (asked_tick net tick ≡ Some asked) × (first ≤ asked + net.delay) }
+        (asked : ℕ) × (asked_tick net tick ≡ Some asked) × (first ≤ asked + net.timing.delay) }
 {}

@@ -13,5 +13,5 @@ pub use design::Design;
 pub use fault::BuildFault;
 pub use order::flow_order;
 pub use plain::plain_waves;
-pub use samples::Timing;
+pub use samples::{asked_tick, first_asker};
 pub use segments::{Segment, segments_of};

@@ -13,6 +13,7 @@ ghost use Rattle.design.specs.Design.{IsDesign};
 ghost use Rattle.design.specs.Equations.{equation_at, signals_in, waves_of};
 
 use crate::design::Design;
+use crate::samples::asked_tick;
 use logic3::{Change, GateKind, Value, Waveform, gate, value_after};
 use netlist::Part;
 use std::alloc::{AllocError, Global};
@@ -98,11 +99,12 @@ fn net_value(
 {
     let pins = design.pins_of(net);
     let part = design.part(net);
-    let asked = design.timing(net).asked_tick(part, tick);
+    let timing = design.timing(net);
+    let asked = asked_tick(part, timing, tick);
     match part {
         Part::Input => Ok(value_after(Value::Unknown, design.stimuli(net), tick)),
         Part::Gate(kind) => gate_value(kind, pins, asked, waves, values),
-        Part::Flop => Ok(sampled_value(pins[0], asked, waves)),
+        Part::Flop => Ok(sampled_value(pins[0], asked, timing.initial, waves)),
     }
 }
 
@@ -143,14 +145,14 @@ fn read_pins(
     Ok(())
 }
 
-/// What a flip-flop shows: its pin at the tick it asks for, X where there is none.
-fn sampled_value(pin: u32, asked: Option<u64>, waves: &[Waveform]) -> Value
+/// What a flip-flop shows: its pin at the tick it asks for, its initial value where there is none.
+fn sampled_value(pin: u32, asked: Option<u64>, initial: Value, waves: &[Waveform]) -> Value
     requires { pin < length waves.now }
-    ensures { result ≡ option_map_or (signals_in waves.now pin) asked Unknown }
+    ensures { result ≡ option_map_or (signals_in waves.now pin) asked initial }
 {
     match asked {
         Some(tick) => shown(waves, pin, tick),
-        None => Value::Unknown,
+        None => initial,
     }
 }
 

@@ -1,67 +1,77 @@
 //! At which tick a net looks at its pins.
 ghost use Rattle.std.specs.Prelude.{◌≡◌, ◌<◌, ◌≤◌, ◌+◌};
-ghost use Rattle.timing_text.specs.Ranges.{most_delay, most_ticks};
-ghost use Rattle.design.specs.Samples.{last_sample, next_sample, asked_of_part, asker_of_part};
+ghost use Rattle.netlist.specs.declared.part.Part.TheVariants.{Flop};
+ghost use Rattle.timing_text.specs.Ranges.{most_ticks, HasTiming};
+ghost use Rattle.design.specs.Samples.{first_sample, last_sample, next_sample, asked_of_part, asker_of_part};
 
 use netlist::Part;
+use timing_text::Timing;
 
-/// When a net looks at its pins, in ticks.
-#[derive(Clone, Copy, Debug, PartialEq, Eq)]
-pub struct Timing {
-    /// 0 for an input, else 1 to 1,000,000.
-    pub delay: u64,
-    /// 1 to 10,000,000: a flip-flop samples at the multiples of it, but not at tick 0.
-    pub period: u64,
-}
-
-impl Timing {
-    /// The tick of its pins that decides what such a net shows at a tick.
-    ///
-    /// None for an input, before a gate's delay is over, and before a flip-flop's first sample shows.
-    pub fn asked_tick(self, part: Part, tick: u64) -> Option<u64>
-        requires { 0 < self.period }
-        ensures { result ≡ asked_of_part part self tick }
-    {
-        match part {
-            Part::Input => None,
-            Part::Gate(_) => tick.checked_sub(self.delay),
-            Part::Flop if tick < self.delay || tick - self.delay < self.period => None,
-            Part::Flop => Some(last_sample(self.period, tick - self.delay)),
-        }
-    }
-
-    /// The first tick at which such a net asks for this tick of its pins or a later one.
-    ///
-    /// None for an input.
-    pub fn first_asker(self, part: Part, tick: u64) -> Option<u64>
-        requires some { 0 < self.period }
-        requires most { self.period ≤ most_ticks }
-        requires delay { self.delay ≤ most_delay }
-        requires tick { tick ≤ most_ticks + 1 }
-        ensures { result ≡ asker_of_part part self tick }
-    {
-        match part {
-            Part::Input => None,
-            Part::Gate(_) => Some(tick + self.delay),
-            Part::Flop => Some(next_sample(self.period, tick) + self.delay),
-        }
-    }
-}
-
-/// The greatest multiple of the period that is at most the tick.
-fn last_sample(period: u64, tick: u64) -> u64
-    requires { 0 < period }
-    ensures { result ≡ last_sample period tick }
+/// The tick of its pins that decides what a net shows at a tick.
+///
+/// None for an input, before a gate's delay is over, and before a flip-flop's first sample shows.
+pub fn asked_tick(part: Part, timing: Timing, tick: u64) -> Option<u64>
+    requires { HasTiming part timing }
+    ensures { result ≡ asked_of_part part timing tick }
 {
-    tick / period * period
+    match part {
+        Part::Input => None,
+        Part::Gate(_) => tick.checked_sub(timing.delay),
+        Part::Flop => sampled_tick(timing, tick),
+    }
 }
 
-/// The least positive multiple of the period that is at least the tick.
-fn next_sample(period: u64, tick: u64) -> u64
+/// The sample that a flip-flop shows at a tick; none before the first one shows.
+fn sampled_tick(timing: Timing, tick: u64) -> Option<u64>
+    requires { HasTiming Flop timing }
+    ensures { result ≡ asked_of_part Flop timing tick }
+{
+    let sampled = tick.checked_sub(timing.delay)?;
+    if sampled < first_sample(timing.period, timing.phase) {
+        return None;
+    }
+    Some(last_sample(timing.period, timing.phase, sampled))
+}
+
+/// The first tick at which a net asks for this tick of its pins or a later one.
+///
+/// None for an input.
+pub fn first_asker(part: Part, timing: Timing, tick: u64) -> Option<u64>
+    requires timing { HasTiming part timing }
+    requires tick { tick ≤ most_ticks + 1 }
+    ensures { result ≡ asker_of_part part timing tick }
+{
+    match part {
+        Part::Input => None,
+        Part::Gate(_) => Some(tick + timing.delay),
+        Part::Flop => Some(next_sample(timing.period, timing.phase, tick) + timing.delay),
+    }
+}
+
+/// The first tick of at least 1 whose remainder by the period is the phase.
+fn first_sample(period: u64, phase: u64) -> u64
+    ensures { result ≡ first_sample period phase }
+{
+    if phase == 0 { period } else { phase }
+}
+
+/// The last such tick up to this one, which isn't before the first.
+fn last_sample(period: u64, phase: u64, tick: u64) -> u64
+    requires some { 0 < period }
+    requires phase { phase ≤ tick }
+    ensures { result ≡ last_sample period phase tick }
+{
+    phase + (tick - phase) / period * period
+}
+
+/// The next such tick, from this one on.
+fn next_sample(period: u64, phase: u64, tick: u64) -> u64
     requires some { 0 < period }
     requires most { period ≤ most_ticks }
+    requires phase { phase < period }
     requires tick { tick ≤ most_ticks + 1 }
-    ensures { result ≡ next_sample period tick }
+    ensures { result ≡ next_sample period phase tick }
 {
-    tick.div_ceil(period).max(1) * period
+    let periods = tick.saturating_sub(phase).div_ceil(period);
+    first_sample(period, phase).max(phase + periods * period)
 }

@@ -98,6 +98,27 @@ pub(crate) const RING_COUNTER: Circuit = Circuit {
     ..INVERTER
 };
 
+/// The first of these, with a clock that samples at the ticks 1, 5 and 9, and begun with 0.
+pub(crate) const CLOCKED: Circuit = Circuit {
+    delays: b"timing version 2\nclock q 4 1\ninit q 0\n",
+    ..SAMPLER
+};
+
+/// The second, begun with 0, which starts it.
+pub(crate) const PRESET_RING: Circuit = Circuit {
+    delays: b"timing version 2\ninit q 0\n",
+    ..RING_COUNTER
+};
+
+/// Two flip-flops of one input, each with a clock and a delay of its own: `q` samples at the ticks 2, 5,
+/// 8 and so on, `r` at 5, 10 and so on.
+pub(crate) const TWO_CLOCKS: Circuit = Circuit {
+    bench: b"INPUT(d)\nq = DFF(d)\nr = DFF(d)\n",
+    delays: b"timing version 2\nclock q 3 2\nclock r 5 0\ninit r 0\ndelay r 2\n",
+    stimuli: b"0 d 0\n2 d 1\n6 d 0\n9 d 1\n",
+    ..SAMPLER
+};
+
 /// Seventeen nets, three of them flip-flops.
 pub(crate) const S27: Circuit = Circuit {
     bench: S27_BENCH,

@@ -2,7 +2,7 @@
 ghost use Rattle.std.specs.Prelude.{◌≡◌, OnOk};
 
 use crate::circuits::{
-    Circuit, GATED_OSCILLATOR, INVERTER, LATE_PIN, RING_COUNTER, SAMPLER, SELF_INVERTER,
+    CLOCKED, Circuit, GATED_OSCILLATOR, INVERTER, LATE_PIN, PRESET_RING, RING_COUNTER, SAMPLER, SELF_INVERTER,
     SLOW_INVERTER,
 };
 use Event::{Advance, Deliver};
@@ -124,6 +124,8 @@ fn by_rounds(rt: HostRuntime) -> Result<(), Fail> {
         (GATED_OSCILLATOR, 12, counts(24, 6, 5, 7)),
         (SAMPLER, 9, counts(7, 4, 2, 2)),
         (RING_COUNTER, 10, counts(21, 0, 8, 7)),
+        (CLOCKED, 9, counts(7, 5, 3, 2)),
+        (PRESET_RING, 10, counts(27, 7, 7, 7)),
         (SLOW_INVERTER, 5, counts(2, 2, 2, 1)),
     ] {
         let after = (counts(0, 0, 0, 0), 0);

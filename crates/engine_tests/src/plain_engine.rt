@@ -1,7 +1,7 @@
 //! The plain engine on worked circuits.
 use crate::circuits::{
-    CONTROLLED_AND, CROSSING, Circuit, GATED_OSCILLATOR, INVERTER, LATE_PIN, RING_COUNTER, S27,
-    SAMPLER, SELF_INVERTER, SLOW_INVERTER,
+    CLOCKED, CONTROLLED_AND, CROSSING, Circuit, GATED_OSCILLATOR, INVERTER, LATE_PIN, PRESET_RING,
+    RING_COUNTER, S27, SAMPLER, SELF_INVERTER, SLOW_INVERTER, TWO_CLOCKS,
 };
 use Value::{One, Unknown, Zero};
 use design::{Design, plain_waves};
@@ -87,6 +87,45 @@ fn circuits_with_memory(rt: HostRuntime) -> Result<(), Fail> {
         (SAMPLER, 9, b"q", &[(5, One), (9, Zero)]),
         (RING_COUNTER, 10, b"q", &[]),
         (RING_COUNTER, 10, b"n", &[]),
+    ] {
+        shows(&rt, rt.alloc(), circuit, horizon, net, changes)?;
+    }
+    Ok(())
+}
+
+// A clock line that says this of the flip-flop, and the changes that it shows then.
+static CLOCKS: [(&[u8], &[(u32, Value)]); 7] = [
+    // Each tick but tick 0.
+    (b"timing version 2\nclock q 1 0", &[(5, One), (6, Zero)]),
+    // The last phase of a period.
+    (b"timing version 2\nclock q 4 3", &[(8, Zero)]),
+    (b"timing version 2\nclock q 4 3\ninit q 0", &[(0, Zero), (4, Unknown), (8, Zero)]),
+    // No sample up to the horizon: the period is longer, or the phase is past it.
+    (b"timing version 2\nclock q 10000000 0\ninit q 1", &[(0, One)]),
+    (b"timing version 2\nclock q 100 50\ninit q 1", &[(0, One)]),
+    (b"timing version 2\nclock q 10000000 9999999\ninit q 0", &[(0, Zero)]),
+    // The first sample at the horizon shows a delay later.
+    (b"timing version 2\nclock q 100 9\ninit q 1", &[(0, One)]),
+];
+
+#[test]
+fn clocks(rt: HostRuntime) -> Result<(), Fail> {
+    for &(delays, changes) in &CLOCKS {
+        let circuit = Circuit { delays, ..SAMPLER };
+        shows(&rt, rt.alloc(), circuit, 9, b"q", changes)?;
+    }
+    Ok(())
+}
+
+#[test]
+fn clocks_and_initial_values(rt: HostRuntime) -> Result<(), Fail> {
+    let rings = [(0, Zero), (4, One), (7, Zero), (10, One)];
+    for (circuit, horizon, net, changes) in [
+        (CLOCKED, 9, b"q", [(0, Zero), (2, Unknown), (6, Zero)].as_slice()),
+        (PRESET_RING, 10, b"q", rings.as_slice()),
+        (PRESET_RING, 10, b"n", &[(1, One), (5, Zero), (8, One)]),
+        (TWO_CLOCKS, 14, b"q", &[(3, One), (9, Zero), (12, One)]),
+        (TWO_CLOCKS, 14, b"r", &[(0, Zero), (7, One)]),
     ] {
         shows(&rt, rt.alloc(), circuit, horizon, net, changes)?;
     }

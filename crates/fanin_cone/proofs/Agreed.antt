@@ -13,9 +13,9 @@ use Rattle.netlist.specs.declared.part.Part.{Part}
 use Rattle.netlist.specs.declared.part.Part.TheVariants.{Input, Gate, Flop}
 use Rattle.netlist.specs.Netlist.{NetView, net_named, name_at}
 use Rattle.design.specs.Circuit.{Net}
-use Rattle.timing_text.specs.Ranges.{HasDelay}
+use Rattle.timing_text.specs.Ranges.{HasTiming}
 use Rattle.design.specs.Design.{DesignView, IsDesign}
-use Rattle.design.specs.Samples.{timing_of, asked_of_part}
+use Rattle.design.specs.Samples.{asked_of_part}
 use Rattle.design.specs.Equations.{values_at, equation_of_part, value_within, value_of}
 use Rattle.design.proofs.CallerLemmas.{net_named-circuit, asked-early, same_asked, length-circuit, timed_at, pins_at, IsCircuit-from_IsDesign}
 use Rattle.netlist.proofs.CallerLemmas.{no_net, net_at-named}
@@ -44,21 +44,23 @@ value_after-filter v (change ∷ changes) horizon tick h =
     go (inr early) rest = rw (le-leb change.tick horizon early) (rest (cond (nat_le change.tick tick) change.value v))
 
 -- the same signals at each earlier tick give the same value
-same_equation : (part : Part) (x y : Net) (f g : ℕ → ℕ → Value) (horizon tick : ℕ) → HasDelay part x.delay → 1 ≤ x.period →
-    x.delay ≡ y.delay → (part ≡ Flop → x.period ≡ y.period) → stimuli_to horizon x.stimuli ≡ stimuli_to horizon y.stimuli → tick ≤ horizon →
+same_equation : (part : Part) (x y : Net) (f g : ℕ → ℕ → Value) (horizon tick : ℕ) → HasTiming part x.timing →
+    x.timing ≡ y.timing → stimuli_to horizon x.stimuli ≡ stimuli_to horizon y.stimuli → tick ≤ horizon →
     ((at : ℕ) → at < tick → values_at at (map f x.pins) ≡ values_at at (map g y.pins)) →
     equation_of_part part x (map f x.pins) tick ≡ equation_of_part part y (map g y.pins) tick
-same_equation Input x y f g horizon tick has_delay has_period delay period stimuli h pins =
+same_equation Input x y f g horizon tick timed timing stimuli h pins =
     sym (value_after-filter Unknown x.stimuli horizon tick h)
     ∙ ap (λ changes. value_after Unknown changes tick) stimuli
     ∙ value_after-filter Unknown y.stimuli horizon tick h
-same_equation (Gate kind) x y f g horizon tick has_delay has_period delay period stimuli h pins =
-    rw (← delay) (same_asked (asked_of_part (Gate kind) (timing_of x) tick) _ _ Unknown (λ at is.
-    let early = asked-early (timing_of x) has_period (Gate kind) tick at is in
+same_equation (Gate kind) x y f g horizon tick timed timing stimuli h pins =
+    rw (← timing) (same_asked (asked_of_part (Gate kind) x.timing tick) _ _ Unknown (λ at is.
+    let early = asked-early x.timing (Gate kind) timed.clock tick at is in
+    let delay = timed.delay in
     ap (value_of_gate kind) (pins at (omega arith))))
-same_equation Flop x y f g horizon tick has_delay has_period delay period stimuli h pins =
-    rw (← delay, ← period refl) (same_asked (asked_of_part Flop (timing_of x) tick) _ _ Unknown (λ at is.
-    let early = asked-early (timing_of x) has_period Flop tick at is in
+same_equation Flop x y f g horizon tick timed timing stimuli h pins =
+    rw (← timing) (same_asked (asked_of_part Flop x.timing tick) _ _ x.timing.initial (λ at is.
+    let early = asked-early x.timing Flop timed.clock tick at is in
+    let delay = timed.delay in
     ap only_pin (pins at (omega arith))))
 
 module _ (a b : DesignView) (ok_a : IsDesign a) (ok_b : IsDesign b) (K : List ℕ → Type 0) where
@@ -108,7 +110,7 @@ module _ (a b : DesignView) (ok_a : IsDesign a) (ok_b : IsDesign b) (K : List �
       let circuit_b = IsCircuit-from_IsDesign b ok_b in
       let timed = timed_at a.circuit circuit_a m x at_a in
       rw (at_a, at_b)
-      (same_equation x.part x y (value_within a.circuit ticks) (value_within b.circuit ticks) horizon tick timed.delay timed.period.0 same.timing.delay same.timing.period same.timing.stimuli h
+      (same_equation x.part x y (value_within a.circuit ticks) (value_within b.circuit ticks) horizon tick timed.timing same.timing.timing same.timing.stimuli h
       (λ at early. same_pins (value_within a.circuit ticks) (value_within b.circuit ticks) at
       (λ other p q k_p at_p at_q. value_agrees_within horizon closed agree ticks other p q at k_p at_p at_q (omega arith) (omega arith))
       x.pins y.pins

@@ -1,7 +1,6 @@
 -- Two designs that agree on a set of names.
 use Rattle.std.specs.Prelude.{◌≡◌, ℕ, ◌≤◌, nat_le, List, filter, find, Option, Some, IsSome, bytes_eq}
 use Rattle.logic3.specs.declared.change.Change.{Change}
-use Rattle.netlist.specs.declared.part.Part.TheVariants.{Flop}
 use Rattle.netlist.specs.Netlist.{net_named}
 use Rattle.design.specs.Circuit.{Net}
 use Rattle.design.specs.Design.{DesignView, IsDesign}
@@ -20,10 +19,9 @@ HasNet design name = IsSome (net_of design name)
 abbrev pub stimuli_to : ℕ → List Change → List Change
 stimuli_to horizon stimuli = filter (λ (change : Change). nat_le change.tick horizon) stimuli
 
--- the same delay, period of a flip-flop, and stimuli up to the horizon
+-- the same delay, for a flip-flop the same clock and initial value, and the same stimuli up to the horizon
 pub record HasSameTiming (horizon : ℕ) (x y : Net) : Type 0 where
-  pub delay : x.delay ≡ y.delay
-  pub period : x.part ≡ Flop → x.period ≡ y.period
+  pub timing : x.timing ≡ y.timing
   pub stimuli : stimuli_to horizon x.stimuli ≡ stimuli_to horizon y.stimuli
 
 -- the same part, pin names in order, and timing; numbers play no part

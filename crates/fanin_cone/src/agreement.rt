@@ -10,7 +10,6 @@ ghost use Rattle.fanin_cone.specs.Agreement.{net_of, stimuli_to, IsSameNet, Agre
 use crate::cones::cone;
 use design::Design;
 use logic3::Change;
-use netlist::Part;
 use std::alloc::{AllocError, Global};
 use timing_text::Horizon;
 
@@ -18,8 +17,8 @@ use timing_text::Horizon;
 /// name has in the first one; None where one of them has no net of this name.
 ///
 /// They agree where each name of the cone is a net of both, with the same part, the same names at its
-/// pins in order, the same delay, the same period if it is a flip-flop, and the same stimuli at ticks
-/// up to the horizon. The numbers of nets play no part.
+/// pins in order, the same delay, the same period, phase and initial value if it is a flip-flop, and the
+/// same stimuli at ticks up to the horizon. The numbers of nets play no part.
 ///
 /// # Errors
 /// An `AllocError` where a growth was refused.
@@ -75,21 +74,10 @@ fn is_same_net(first: &Design, net: u32, second: &Design, other: u32, horizon: H
 {
     let same_names = has_same_names(first, first.pins_of(net), second, second.pins_of(other));
     let same_stimuli = has_same_stimuli(first.stimuli(net), second.stimuli(other), horizon);
-    is_same_part(first, net, second, other)
-        && first.delay(net) == second.delay(other)
+    first.part(net) == second.part(other)
+        && first.timing(net) == second.timing(other)
         && same_names
         && same_stimuli
-}
-
-/// Whether the same part drives two nets, with the same period if it is a flip-flop.
-fn is_same_part(first: &Design, net: u32, second: &Design, other: u32) -> bool
-    requires net { net < length first.now.circuit }
-    requires other { other < length second.now.circuit }
-    ensures { (x y : Net) → slice_get first.now.circuit net ≡ Some x → slice_get second.now.circuit other ≡ Some y →
-        IsTrue result ↔ ((x.part ≡ y.part) × (x.part ≡ Part.Flop → x.period ≡ y.period)) }
-{
-    let part = first.part(net);
-    part == second.part(other) && (part != Part::Flop || first.period(net) == second.period(other))
 }
 
 /// Whether the pins of two nets have the same names, in order.

@@ -39,7 +39,7 @@ advanced_knows signals number process meets h =
       pins = length-all_kept (extended process) 0 process.received ∙ h.pins;
       floor = omega arith;
       ahead = (let e = ap (λ s. frontier_of process.net process.end s) (advanced-safe process) in omega (arith, e));
-      asked = λ place tick asked a b is. asked-kept process.net process.end (safe_of process) place tick asked meets.timed.period.0 a b is;
+      asked = λ place tick asked a b is. asked-kept process.net process.end (safe_of process) place tick asked meets.timed.timing.clock a b is;
       known = advanced_true signals number process meets h;
       heard = λ place source received a b.
           let old = get_of_kept (extended process) process.received place received b in
@@ -62,7 +62,7 @@ heard_knows signals number process place source to received message rest meets h
       ahead =
           (let ahead = h.ahead in
           let later : next_frontier process ≤ next_frontier (heard place message process) =
-          frontier-mono process.net process.end (safe_of process) (safe_of (heard place message process)) meets.timed.period.0
+          frontier-mono process.net process.end (safe_of process) (safe_of (heard place message process)) meets.timed.timing.clock
           (least-update process.end process.received place change (λ known e.
           let same : known ≡ received = cc in
           let up : received.frontier < (told received message).frontier = now.raised in
@@ -130,7 +130,7 @@ advanced_is_process process h =
       pins = length-all_kept (extended process) 0 process.received ∙ h.pins;
       floor = omega arith;
       ahead = (let e = ap (λ s. frontier_of process.net process.end s) (advanced-safe process) in omega (arith, e));
-      asked = λ place tick asked a b is. asked-kept process.net process.end (safe_of process) place tick asked h.timed.period.0 a b is;
+      asked = λ place tick asked a b is. asked-kept process.net process.end (safe_of process) place tick asked h.timed.timing.clock a b is;
       known = sym (forgetting_truth (reckoned process) process.floor process.floor (next_frontier process) (omega arith) (omega arith));
       heard = λ place received b.
           let old = get_of_kept (extended process) process.received place received b in
@@ -150,7 +150,7 @@ heard_is_process process place message h raises =
       ahead =
           (let ahead = h.ahead in
           let later : next_frontier process ≤ next_frontier (heard place message process) =
-          frontier-mono process.net process.end (safe_of process) (safe_of (heard place message process)) h.timed.period.0
+          frontier-mono process.net process.end (safe_of process) (safe_of (heard place message process)) h.timed.timing.clock
           (least-update process.end process.received place change raises) in
           omega arith);
       asked = h.asked;

@@ -5,8 +5,9 @@ use Rattle.std.proofs.lemmas.List.{map_more}
 use Rattle.std.proofs.lemmas.Option.{none-some, same_Some}
 use Rattle.netlist.specs.declared.part.Part.{Part}
 use Rattle.netlist.specs.declared.part.Part.TheVariants.{Input, Gate, Flop}
+use Rattle.timing_text.specs.Ranges.{HasClock}
 use Rattle.design.specs.Circuit.{Net}
-use Rattle.design.specs.Samples.{timing_of, asked_tick, asker_of_part, first_asker}
+use Rattle.design.specs.Samples.{asked_tick, asker_of_part, first_asker}
 use Rattle.design.proofs.CallerLemmas.{asked-from, asker-late, asker-mono, asker-none}
 use Rattle.cmb_channels.specs.Lists.{update}
 use Rattle.gate_process.specs.Knowledge.{Knowledge}
@@ -64,37 +65,37 @@ to_end end (Some first) = omega arith
 pub frontier-end : (net : Net) (end safe : ℕ) → frontier_of net end safe ≤ end
 frontier-end net end safe = to_end end (first_asker net safe)
 
-pub frontier-mono : (net : Net) (end low high : ℕ) → 0 < net.period → low ≤ high → frontier_of net end low ≤ frontier_of net end high
-frontier-mono net end low high some h = go (first_asker net low) refl
+pub frontier-mono : (net : Net) (end low high : ℕ) → HasClock net.part net.timing → low ≤ high → frontier_of net end low ≤ frontier_of net end high
+frontier-mono net end low high clock h = go (first_asker net low) refl
   where
     go : (first : Option ℕ) → first_asker net low ≡ first → option_map_or (min end) first end ≤ frontier_of net end high
-    go None none = rw (asker-none (timing_of net) some net.part low high none) (omega arith)
+    go None none = rw (asker-none net.timing net.part low high none) (omega arith)
     go (Some first) begins =
-        let next = asker-mono (timing_of net) some net.part low high first begins h in
+        let next = asker-mono net.timing net.part clock low high first begins h in
         rw next.1 (farther end first next.0 next.2)
       where
         farther : (end a b : ℕ) → a ≤ b → min end a ≤ min end b
         farther end a b h = omega arith
 
 -- no later value asks for a tick that a pin of this frontier may have forgotten
-pub asked-kept : (net : Net) (end safe place tick asked : ℕ) → 0 < net.period → frontier_of net end safe ≤ tick → tick < end →
+pub asked-kept : (net : Net) (end safe place tick asked : ℕ) → HasClock net.part net.timing → frontier_of net end safe ≤ tick → tick < end →
     asked_tick net tick ≡ Some asked → oldest_asked net place (frontier_of net end safe) ≤ asked
-asked-kept net end safe place tick asked some after before is = go (first_asker net safe) refl after
+asked-kept net end safe place tick asked clock after before is = go (first_asker net safe) refl after
   where
     go : (first : Option ℕ) → first_asker net safe ≡ first → option_map_or (min end) first end ≤ tick →
         oldest_asked net place (option_map_or (min end) first end) ≤ asked
     go None none late = absurd (omega (arith, late, before))
     go (Some first) begins late =
-        let from = asked-from (timing_of net) some net.part safe first tick begins (omega (arith, late, before)) in
+        let from = asked-from net.timing net.part clock safe first tick begins (omega (arith, late, before)) in
         let same = same_Some from.0 asked (sym from.1 ∙ is) in
         omega (arith, from.2, same)
 
 -- where all pins are known up to a tick, a net can be reckoned at least its delay farther
-pub frontier-farther : (net : Net) (end safe low delay : ℕ) → 0 < net.period → low ≤ safe → delay ≤ own_delay net.part end net.delay →
+pub frontier-farther : (net : Net) (end safe low delay : ℕ) → HasClock net.part net.timing → low ≤ safe → delay ≤ own_delay net.part end net.timing.delay →
     min end (low + delay) ≤ frontier_of net end safe
-frontier-farther net end safe low delay some h k = go (first_asker net safe) refl
+frontier-farther net end safe low delay clock h k = go (first_asker net safe) refl
   where
-    own : (part : Part) (first : ℕ) → asker_of_part part (timing_of net) safe ≡ Some first → own_delay part end net.delay ≡ net.delay
+    own : (part : Part) (first : ℕ) → asker_of_part part net.timing safe ≡ Some first → own_delay part end net.timing.delay ≡ net.timing.delay
     own Input first begins = absurd (none-some first begins)
     own (Gate kind) first begins = refl
     own Flop first begins = refl
@@ -103,7 +104,7 @@ frontier-farther net end safe low delay some h k = go (first_asker net safe) ref
     go None none = omega arith
     go (Some first) begins =
         farther end low delay first
-        (omega (arith, h, k, own net.part first begins, asker-late (timing_of net) some net.part safe first begins))
+        (omega (arith, h, k, own net.part first begins, asker-late net.timing net.part clock safe first begins))
       where
         farther : (end low delay first : ℕ) → low + delay ≤ first → min end (low + delay) ≤ min end first
         farther end low delay first h = omega arith

@@ -2,14 +2,13 @@
 use Rattle.std.proofs.Common.{◌≡◌, Option, None, Some, option_map}
 use Rattle.std.proofs.lemmas.Option.{none-some, same_Some}
 use Rattle.design.specs.Circuit.{Net}
-use Rattle.design.specs.Samples.{timing_of}
 
 -- a net of which all fields are known
 pub net_of_fields : (place : Option Net) (net : Net) →
     option_map (λ (n : Net). n.name) place ≡ Some net.name →
     option_map (λ (n : Net). n.part) place ≡ Some net.part →
     option_map (λ (n : Net). n.pins) place ≡ Some net.pins →
-    option_map timing_of place ≡ Some (timing_of net) →
+    option_map (λ (n : Net). n.timing) place ≡ Some net.timing →
     option_map (λ (n : Net). n.stimuli) place ≡ Some net.stimuli →
     place ≡ Some net
 net_of_fields None net name part pins timing stimuli = absurd (none-some net.part part)
@@ -17,13 +16,12 @@ net_of_fields (Some n) net name part pins timing stimuli =
     let name_is = same_Some n.name net.name name in
     let part_is = same_Some n.part net.part part in
     let pins_are = same_Some n.pins net.pins pins in
-    let timing_is = same_Some (timing_of n) (timing_of net) timing in
+    let timing_is = same_Some n.timing net.timing timing in
     let stimuli_are = same_Some n.stimuli net.stimuli stimuli in
     λ i. Some (record {
       name = name_is i;
       part = part_is i;
       pins = pins_are i;
-      delay = (timing_is i).delay;
-      period = (timing_is i).period;
+      timing = timing_is i;
       stimuli = stimuli_are i;
     })

@@ -39,8 +39,8 @@ quiet_of process ok stays =
     let none = none_between (reckoned process) frontier in
     let wave : process.known.wave ≡ joined process.known.wave (changes_between (reckoned process) frontier frontier) =
     (λ i. record process.known.wave { changes = sym (append-nil process.known.wave.changes) i }) ∙ ap (joined process.known.wave) (sym none) in
-    let received = map_same (keeping (frontier - process.net.delay)) process.received ok.heard in
-    sym (advanced_of process ok process.known.wave frontier (frontier - process.net.delay) process.received (sym stays) wave (λ place. refl) received)
+    let received = map_same (keeping (frontier - process.net.timing.delay)) process.received ok.heard in
+    sym (advanced_of process ok process.known.wave frontier (frontier - process.net.timing.delay) process.received (sym stays) wave (λ place. refl) received)
 
 -- as it is once it has advanced
 pub quiet_advanced : (process : ProcessState) → IsProcess process → IsQuiet (advanced process)

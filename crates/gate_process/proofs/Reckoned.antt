@@ -6,8 +6,9 @@ use Rattle.std.specs.Option.{option_map, option_map_or}
 use Rattle.logic3.specs.declared.value.Value.{Value}
 use Rattle.logic3.specs.Wave.{value_at, value_before, changes_between}
 use Rattle.logic3.proofs.CallerLemmas.{value_at-wave_of, changes_between-same}
+use Rattle.timing_text.specs.Ranges.{HasClock}
 use Rattle.design.specs.Circuit.{Net}
-use Rattle.design.specs.Samples.{timing_of, asked_tick, first_asker}
+use Rattle.design.specs.Samples.{asked_tick, first_asker}
 use Rattle.design.specs.Equations.{equation}
 use Rattle.design.proofs.CallerLemmas.{asked-before, same_values, unasked}
 use Rattle.gate_process.specs.Knowledge.{Knowledge, knowledge_of, news_of, Tells}
@@ -30,13 +31,13 @@ same_heard (known ∷ received) (pin ∷ pins) signals at e h =
     let rest = same_heard received pins signals at (omega arith) (λ place source k a b. h (suc place) source k a b) in cc
 
 -- before its new frontier a net asks for ticks at which all its pins are known
-asked_known : (net : Net) (end safe tick asked : ℕ) → 0 < net.period → tick < frontier_of net end safe → asked_tick net tick ≡ Some asked → asked < safe
-asked_known net end safe tick asked some below is = go (first_asker net safe) refl below
+asked_known : (net : Net) (end safe tick asked : ℕ) → HasClock net.part net.timing → tick < frontier_of net end safe → asked_tick net tick ≡ Some asked → asked < safe
+asked_known net end safe tick asked clock below is = go (first_asker net safe) refl below
   where
     go : (first : Option ℕ) → first_asker net safe ≡ first → tick < option_map_or (min end) first end → asked < safe
-    go None none early = absurd (none-some asked (sym (unasked (timing_of net) some net.part safe tick none) ∙ is))
+    go None none early = absurd (none-some asked (sym (unasked net.timing net.part safe tick none) ∙ is))
     go (Some first) begins early =
-        asked-before (timing_of net) some net.part safe first tick asked begins is (sooner end first early)
+        asked-before net.timing net.part clock safe first tick asked begins is (sooner end first early)
       where
         sooner : (end first : ℕ) → tick < min end first → tick < first
         sooner end first h = omega arith
@@ -48,7 +49,7 @@ module _ (signals : ℕ → ℕ → Value) (number : ℕ) (process : ProcessStat
       equation process.net (map (λ (known : Knowledge). value_at known.wave) process.received) tick ≡ signals number tick
   equation_true tick after below =
       same_values process.net.part process.net _ (map signals process.net.pins) tick (λ at is.
-      let safe = asked_known process.net process.end (safe_of process) tick at meets.timed.period.0 below is in
+      let safe = asked_known process.net process.end (safe_of process) tick at meets.timed.timing.clock below is in
       same_heard process.received process.net.pins signals at h.pins (λ place source known a b.
       let last : next_frontier process ≤ process.end = frontier-end process.net process.end (safe_of process) in
       let asked = h.asked place tick at after (omega (arith, below, last)) is in

@@ -7,9 +7,9 @@ use Rattle.logic3.specs.Gate.{value_of_gate, only_pin}
 use Rattle.logic3.specs.Wave.{Wave, value_at}
 use Rattle.netlist.specs.declared.part.Part.{Part}
 use Rattle.netlist.specs.declared.part.Part.TheVariants.{Input, Gate, Flop}
-use Rattle.design.specs.declared.samples.Timing.{Timing}
+use Rattle.timing_text.specs.declared.timing.Timing.{Timing}
 use Rattle.design.specs.Circuit.{Net}
-use Rattle.design.specs.Samples.{timing_of, asked_of_part}
+use Rattle.design.specs.Samples.{asked_of_part}
 use Rattle.design.specs.Equations.{values_at}
 use Rattle.gate_process.specs.Knowledge.{Knowledge}
 
@@ -43,7 +43,12 @@ made_of Input values = only_pin values
 made_of (Gate kind) values = value_of_gate kind values
 made_of Flop values = only_pin values
 
+-- what it shows while it reads nothing
+abbrev pub unread : Part → Timing → Value
+unread Flop timing = timing.initial
+unread _ timing = Unknown
+
 -- what it shows where it reads these waveforms
 abbrev pub shown : Net → List Wave → ℕ → Value
 shown net read tick =
-    option_map_or (λ at. made_of net.part (values_at at (map value_at read))) (read_tick net.part (timing_of net) tick) Unknown
+    option_map_or (λ at. made_of net.part (values_at at (map value_at read))) (read_tick net.part net.timing tick) (unread net.part net.timing)

@@ -66,7 +66,7 @@ next_frontier process = frontier_of process.net process.end (safe_of process)
 
 -- from a frontier on a net asks for no tick of the pin at a place before this one, which is the same at all places
 abbrev pub oldest_asked : Net → ℕ → ℕ → ℕ
-oldest_asked net place frontier = frontier - net.delay
+oldest_asked net place frontier = frontier - net.timing.delay
 
 -- of what it received at a place, and knows so far, a process keeps the ticks from this one on
 abbrev pub kept_from : ProcessState → ℕ → ℕ → ℕ

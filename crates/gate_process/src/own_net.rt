@@ -4,16 +4,17 @@ ghost use Rattle.logic3.specs.declared.value.Value.{Value};
 ghost use Rattle.logic3.specs.declared.value.Value.TheVariants.{Unknown};
 ghost use Rattle.logic3.specs.Summary.{summary_of};
 ghost use Rattle.timing_text.specs.Ranges.{most_ticks};
-ghost use Rattle.design.specs.Samples.{timing_of, first_asker};
+ghost use Rattle.design.specs.Samples.{first_asker};
 ghost use Rattle.gate_process.specs.Reading.{reads, read_tick, made_of, shown};
 ghost use Rattle.gate_process.specs.Step.{frontier_of, oldest_asked};
 ghost use Rattle.gate_process.specs.Truth.{IsNet};
 
 use crate::cursor::{Cursor, read_at};
-use design::{Design, Timing};
+use design::{Design, asked_tick, first_asker};
 use logic3::{Change, Summary, Value};
 use netlist::Part;
 use std::marker::Model;
+use timing_text::Timing;
 
 /// What a net shows at a tick, and the tick up to which it stays.
 #[derive(Clone, Copy, Debug)]
@@ -42,8 +43,7 @@ impl<'d> Model for OwnNet<'d> {
       name = n.name.now;
       part = n.part;
       pins = n.pins.now;
-      delay = n.timing.delay;
-      period = n.timing.period;
+      timing = n.timing;
       stimuli = n.stimuli.now;
     } };
 
@@ -51,8 +51,7 @@ impl<'d> Model for OwnNet<'d> {
       name = n.name.now;
       part = n.part;
       pins = n.pins.now;
-      delay = n.timing.delay;
-      period = n.timing.period;
+      timing = n.timing;
       stimuli = n.stimuli.now;
     }) };
 }
@@ -96,7 +95,7 @@ impl<'d> OwnNet<'d> {
         requires safe { safe ≤ end }
         ensures { result ≡ frontier_of self.now end safe }
     {
-        match self.timing.first_asker(self.part, safe) {
+        match first_asker(self.part, self.timing, safe) {
             Some(first) => end.min(first),
             None => end,
         }
@@ -127,7 +126,7 @@ impl<'d> OwnNet<'d> {
         let Some(at) = self.read_tick(tick) else {
             // Until it reads anything, it waits for tick 0.
             return Look {
-                value: Value::Unknown,
+                value: self.timing.initial,
                 until: self.until(0, limit),
             };
         };
@@ -140,12 +139,12 @@ impl<'d> OwnNet<'d> {
 
     /// The tick of what it reads that decides what it shows at a tick.
     fn read_tick(&self, tick: u64) -> Option<u64>
-        ensures tick { result ≡ read_tick self.now.part (timing_of self.now) tick }
+        ensures tick { result ≡ read_tick self.now.part self.now.timing tick }
         ensures well_formed { IsNet self.now }
     {
         match self.part {
             Part::Input => Some(tick),
-            part => self.timing.asked_tick(part, tick),
+            part => asked_tick(part, self.timing, tick),
         }
     }
 
@@ -166,7 +165,7 @@ impl<'d> OwnNet<'d> {
         requires end { limit ≤ most_ticks + 1 }
         ensures { result ≡ option_map_or (min limit) (first_asker self.now change) change }
     {
-        match self.timing.first_asker(self.part, change) {
+        match first_asker(self.part, self.timing, change) {
             Some(first) => limit.min(first),
             None => change,
         }

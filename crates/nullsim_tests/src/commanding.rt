@@ -10,7 +10,7 @@ use crate::comparing::{
 };
 use crate::files::{FILES, Named};
 use crate::plainly::{DUMPS, REFUSED_PLAIN};
-use crate::running::{EDGE_RUNS, INVERTER_RUNS, REFUSED_RUNS, RUNS_WITHOUT_TEXTS};
+use crate::running::{COUNTED_RUNS, EDGE_RUNS, REFUSED_RUNS, RUNS_WITHOUT_TEXTS};
 use nullsim::{ReadFault, Texts, command};
 use std::alloc::{AllocError, Global};
 use std::io::Write;
@@ -175,7 +175,7 @@ fn lines_that_are_carried_out(rt: HostRuntime) -> Result<(), Fail> {
 #[test]
 fn counted_runs(rt: HostRuntime) -> Result<(), Fail> {
     for (start, table) in [
-        ("run", INVERTER_RUNS.as_slice()),
+        ("run", COUNTED_RUNS.as_slice()),
         (
             "run --bench edge.bench --stimuli edge.stim --horizon 8",
             EDGE_RUNS.as_slice(),

@@ -140,8 +140,8 @@ pub(crate) static INVERTER_TWICE: [CarriedOut; 6] = [
     ),
 ];
 
-// So are the periods of its flip-flops.
-pub(crate) static FLOP_TWICE: [CarriedOut; 4] = [
+// So are the clocks and the initial values of its flip-flops.
+pub(crate) static FLOP_TWICE: [CarriedOut; 7] = [
     (
         "--first-period 4 --second-period 4",
         b"agree yes\nfirst 5 1\nfirst 9 0\nsecond 5 1\nsecond 9 0\n",
@@ -149,6 +149,19 @@ pub(crate) static FLOP_TWICE: [CarriedOut; 4] = [
     ("--first-period 4", b"agree no\nfirst 5 1\nfirst 9 0\n"),
     ("--second-period 4", b"agree no\nsecond 5 1\nsecond 9 0\n"),
     ("", b"agree yes\n"),
+    // A text that says what holds without it, another phase, and another initial value.
+    (
+        "--first-period 4 --second-delays said.delays",
+        b"agree yes\nfirst 5 1\nfirst 9 0\nsecond 5 1\nsecond 9 0\n",
+    ),
+    (
+        "--first-delays said.delays --second-delays phase.delays",
+        b"agree no\nfirst 5 1\nfirst 9 0\nsecond 6 0\n",
+    ),
+    (
+        "--first-delays start.delays --first-period 4 --second-delays said.delays",
+        b"agree no\nfirst 0 0\nfirst 5 1\nfirst 9 0\nsecond 5 1\nsecond 9 0\n",
+    ),
 ];
 
 // A name with a dash, and values that are unknown.

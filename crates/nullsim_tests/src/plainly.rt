@@ -1,9 +1,9 @@
 //! Command lines of `plain`.
 use crate::commanding::{CarriedOut, Refused};
-use worked_examples::dumps::{INVERTER_DUMP, OUTPUTS_DUMP, SAMPLER_DUMP, SLOW_DUMP};
+use worked_examples::dumps::{CLOCKED_DUMP, INVERTER_DUMP, OUTPUTS_DUMP, SAMPLER_DUMP, SLOW_DUMP};
 
 // Dumps under all options of `plain`.
-pub(crate) static DUMPS: [CarriedOut; 6] = [
+pub(crate) static DUMPS: [CarriedOut; 7] = [
     (
         "--bench inv.bench --stimuli inv.stim --horizon 5",
         INVERTER_DUMP,
@@ -28,10 +28,14 @@ pub(crate) static DUMPS: [CarriedOut; 6] = [
         "--bench flop.bench --stimuli flop.stim --period 4 --horizon 9",
         SAMPLER_DUMP,
     ),
+    (
+        "--bench flop.bench --delays clock.delays --stimuli flop.stim --horizon 9",
+        CLOCKED_DUMP,
+    ),
 ];
 
 // Settings first, then the texts in their order; all texts are read before anything is checked.
-pub(crate) static REFUSED_PLAIN: [Refused; 12] = [
+pub(crate) static REFUSED_PLAIN: [Refused; 13] = [
     (
         "--bench inv.bench --delay 0 --period 0 --horizon 10000001",
         1,
@@ -49,6 +53,12 @@ pub(crate) static REFUSED_PLAIN: [Refused; 12] = [
         1,
         "options:0: BadHorizon\n",
         2,
+    ),
+    (
+        "--bench flop.bench --delays bad-clock.delays --stimuli bad.stim --horizon 5",
+        1,
+        "bad-clock.delays:2: BadPhase\n",
+        3,
     ),
     (
         "--bench bad.bench --delays bad.delays --horizon 5",

@@ -1,11 +1,11 @@
 //! Command lines of `run`, with schedules and counts.
 use crate::commanding::{Counted, Refused};
-use worked_examples::dumps::{EDGE_DUMP, INVERTER_DUMP, OUTPUTS_DUMP};
+use worked_examples::dumps::{CLOCKED_DUMP, EDGE_DUMP, INVERTER_DUMP, OUTPUTS_DUMP};
 
 pub(crate) const COUNTS: &str = "events 7 changes 4 nulls 3 rounds 2\n";
 
-// The inverter, with and without counts.
-pub(crate) static INVERTER_RUNS: [Counted; 3] = [
+// The inverter, with and without counts, and a flip-flop with a clock.
+pub(crate) static COUNTED_RUNS: [Counted; 4] = [
     (
         "--bench inv.bench --stimuli inv.stim --horizon 5",
         INVERTER_DUMP,
@@ -20,6 +20,11 @@ pub(crate) static INVERTER_RUNS: [Counted; 3] = [
         "--bench inv.bench --stimuli inv.stim --horizon 5 --show outputs --unit ps --counts",
         OUTPUTS_DUMP,
         COUNTS,
+    ),
+    (
+        "--bench flop.bench --delays clock.delays --stimuli flop.stim --horizon 9 --counts",
+        CLOCKED_DUMP,
+        "events 7 changes 5 nulls 3 rounds 2\n",
     ),
 ];
 

@@ -18,7 +18,7 @@ pub struct SourceOptions<'a> {
     pub stimuli: Option<&'a str>,
     /// The delay in ticks of what the delays don't name: 1 to 1,000,000.
     pub delay: u64,
-    /// The period of all flip-flops in ticks: 1 to 10,000,000.
+    /// The period in ticks of all flip-flops without a clock line: 1 to 10,000,000.
     pub period: u64,
     pub picks: PickOptions<'a>,
 }

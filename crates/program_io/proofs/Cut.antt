@@ -2,7 +2,7 @@
 use Rattle.std.proofs.Common.{◌≡◌, ℕ, ◌+◌, ◌<◌, ◌≤◌, nat_lt, if◌then◌else◌, List, [], length, take, Result, Ok, Err, ◌⊎◌, inl, inr, refl, ap, ◌∙◌, arith, length-take}
 use Rattle.std.proofs.lemmas.Bool.{cases_lt, lt-ltb}
 use Rattle.std.proofs.lemmas.List.{take_all}
-use Rattle.text_lines.specs.Text.{◌>>=◌, longest_text}
+use Rattle.text_lines.specs.Text.{◌>>=◌, code_lines, longest_text}
 use Rattle.text_lines.specs.Fold.{fold_text}
 use Rattle.netlist.specs.Netlist.{NetlistView}
 use Rattle.bench_text.specs.NetlistOf.{netlist_of, netlist_of_statements, statements_of}
@@ -15,7 +15,7 @@ use Rattle.design.specs.Build.{design_of}
 use Rattle.design.specs.Circuit.{Circuit}
 use Rattle.design.specs.Design.{DesignView}
 use Rattle.timing_text.specs.Options.{horizon_of, options_of}
-use Rattle.timing_text.specs.Delays.{delays_after, delays_of}
+use Rattle.timing_text.specs.Timings.{properties_in, properties_of}
 use Rattle.timing_text.specs.Stimuli.{stimuli_after, stimuli_of}
 use Rattle.cmb_events.specs.declared.event.Event.{Event}
 use Rattle.cmb_events.specs.declared.schedule_fault.ScheduleFault.{ScheduleFault}
@@ -52,15 +52,15 @@ limited-cut {A = A} fault f text = go (cases_lt longest_text (length text))
 pub netlist_of-cut : (text : List ℕ) → netlist_of (cut text) ≡ netlist_of text
 netlist_of-cut text = limited-cut (Err bench.TooLong) (λ t. statements_of t >>= netlist_of_statements) text
 
-delays_of-cut : (netlist : NetlistView) (text : List ℕ) → delays_of netlist (cut text) ≡ delays_of netlist text
-delays_of-cut netlist text = limited-cut (Err delay.TooLong) (fold_text (delays_after netlist) []) text
+properties_of-cut : (netlist : NetlistView) (text : List ℕ) → properties_of netlist (cut text) ≡ properties_of netlist text
+properties_of-cut netlist text = limited-cut (Err delay.TooLong) (λ t. properties_in netlist (code_lines t)) text
 
 stimuli_of-cut : (netlist : NetlistView) (text : List ℕ) → stimuli_of netlist (cut text) ≡ stimuli_of netlist text
 stimuli_of-cut netlist text = limited-cut (Err stimulus.TooLong) (fold_text (stimuli_after netlist) []) text
 
 design_of-cut : (netlist : NetlistView) (delays stimuli : List ℕ) (default period : ℕ) →
     design_of netlist (cut delays) (cut stimuli) default period ≡ design_of netlist delays stimuli default period
-design_of-cut netlist delays stimuli default period = rw (delays_of-cut netlist delays, stimuli_of-cut netlist stimuli) refl
+design_of-cut netlist delays stimuli default period = rw (properties_of-cut netlist delays, stimuli_of-cut netlist stimuli) refl
 
 -- the horizon and the design, from what the texts give
 abbrev design_by : SourceView → ℕ → Result NetlistView BenchFault → (NetlistView → Result DesignView BuildFault) → Result (ℕ × DesignView) SimFault

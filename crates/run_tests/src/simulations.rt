@@ -8,8 +8,8 @@ use std::process::Abort;
 use timing_text::StimulusFault;
 use vcd_dump::{DumpFault, TimeUnit};
 use worked_examples::dumps::{
-    EDGE_DUMP, INVERTER_DUMP, OSCILLATOR_DUMP, OUTPUTS_DUMP, RING_COUNTER_DUMP, SAMPLER_DUMP,
-    SELF_INVERTER_DUMP, SLOW_DUMP,
+    CLOCKED_DUMP, EDGE_DUMP, INVERTER_DUMP, OSCILLATOR_DUMP, OUTPUTS_DUMP, PRESET_RING_DUMP,
+    RING_COUNTER_DUMP, SAMPLER_DUMP, SELF_INVERTER_DUMP, SLOW_DUMP,
 };
 use worked_examples::{Narrow, Stumbling};
 
@@ -59,6 +59,16 @@ const RING_COUNTER: Source<'static> = Source {
     stimuli: b"",
     period: 3,
     ..INVERTER
+};
+
+const CLOCKED: Source<'static> = Source {
+    delays: b"timing version 2\nclock q 4 1\ninit q 0\n",
+    ..SAMPLER
+};
+
+const PRESET_RING: Source<'static> = Source {
+    delays: b"timing version 2\ninit q 0\n",
+    ..RING_COUNTER
 };
 
 // The events, changes, null messages and rounds.
@@ -125,7 +135,7 @@ const FIFTY: &[u8] = b"advance y\nadvance y\nadvance y\nadvance y\nadvance y\n\
 type Run = (Source<'static>, u64, [u64; 4], [u64; 4], &'static [u8]);
 
 // What is counted and dumped, without schedules and with them.
-static RUNS: [Run; 11] = [
+static RUNS: [Run; 13] = [
     (INVERTER, 5, [0, 0, 0, 0], [7, 4, 3, 2], INVERTER_DUMP),
     (SLOW_INVERTER, 5, [0, 0, 0, 0], [2, 2, 2, 1], SLOW_DUMP),
     (EDGE, 8, [0, 0, 0, 0], [19, 7, 6, 3], EDGE_DUMP),
@@ -145,6 +155,14 @@ static RUNS: [Run; 11] = [
         [0, 0, 0, 0],
         [21, 0, 8, 7],
         RING_COUNTER_DUMP,
+    ),
+    (CLOCKED, 9, [0, 0, 0, 0], [7, 5, 3, 2], CLOCKED_DUMP),
+    (
+        PRESET_RING,
+        10,
+        [0, 0, 0, 0],
+        [27, 7, 7, 7],
+        PRESET_RING_DUMP,
     ),
     // Under schedules.
     (

@@ -86,6 +86,27 @@ const SAMPLED: &[Change] = &[
     },
 ];
 
+// With the phase 1, and begun with 0.
+const FALLEN: &[Change] = &[Change {
+    tick: 6,
+    value: Value::Zero,
+}];
+
+const STARTED: &[Change] = &[
+    Change {
+        tick: 0,
+        value: Value::Zero,
+    },
+    Change {
+        tick: 5,
+        value: Value::One,
+    },
+    Change {
+        tick: 9,
+        value: Value::Zero,
+    },
+];
+
 // The output of the flip-flops' circuit, as reckoned by hand.
 const OUTPUT: &[Change] = &[
     Change {
@@ -142,6 +163,23 @@ const SLOW: Source<'static> = Source {
 
 const OTHER_CLOCK: Source<'static> = Source { period: 10, ..FLOP };
 
+// Clock and init lines that say what holds without them, a phase, and an initial value.
+const SAID: Source<'static> = Source {
+    delays: b"timing version 2\nclock q 4 0\ninit q X\n",
+    period: 10,
+    ..FLOP
+};
+
+const OTHER_PHASE: Source<'static> = Source {
+    delays: b"timing version 2\nclock q 4 1\n",
+    ..FLOP
+};
+
+const OTHER_START: Source<'static> = Source {
+    delays: b"timing version 2\ninit q 0\n",
+    ..FLOP
+};
+
 /// Two sources, the name of the net and the horizon; whether they agree, and the changes that each shows.
 type Compared = (
     Source<'static>,
@@ -154,7 +192,7 @@ type Compared = (
 );
 
 // One net in two runs.
-static COMPARED: [Compared; 12] = [
+static COMPARED: [Compared; 15] = [
     (ONE, OTHER, b"y", 5, true, INVERTED, INVERTED),
     (OTHER, ONE, b"y", 5, true, INVERTED, INVERTED),
     (ONE, OTHER, b"z", 5, false, BOTH, INVERTED),
@@ -167,9 +205,12 @@ static COMPARED: [Compared; 12] = [
     (ONE, SLOW_BESIDE, b"y", 5, true, INVERTED, INVERTED),
     (ONE, UNDRIVEN_BESIDE, b"y", 5, true, INVERTED, INVERTED),
     (S27, PICKED_S27, b"G17", 35, true, OUTPUT, OUTPUT),
-    // A delay and a period do.
+    // A delay, a period, a phase and an initial value do.
     (SLOW, ONE, b"y", 5, false, LATE, INVERTED),
     (FLOP, OTHER_CLOCK, b"q", 9, false, SAMPLED, &[]),
+    (FLOP, SAID, b"q", 9, true, SAMPLED, SAMPLED),
+    (FLOP, OTHER_PHASE, b"q", 9, false, SAMPLED, FALLEN),
+    (OTHER_START, FLOP, b"q", 9, false, STARTED, SAMPLED),
 ];
 
 // The waveform is X before its first change, and has just these changes.

@@ -12,6 +12,7 @@ use Rattle.std.proofs.lemmas.Map.Steps.{length-le_from_distinct_below}
 use Rattle.std.proofs.lemmas.Map.Views.{Contains-from_any}
 use Rattle.std.proofs.lemmas.Option.{slice_get-get_or, slice_get-map}
 use Rattle.logic3.specs.declared.value.Value.{Value}
+use Rattle.logic3.specs.declared.value.Value.TheVariants.{Unknown}
 use Rattle.bench_text.specs.declared.fault.BenchFault.{BenchFault}
 use Rattle.netlist.specs.declared.part.Part.TheVariants.{Input}
 use Rattle.netlist.specs.Name.{IsName}
@@ -42,7 +43,13 @@ use Rattle.runs.proofs.Nets.{length-circuit, All-shown_nets, AllPairs-shown_nets
 -- ---- names of nets
 
 abbrev pub no_net : Net
-no_net = record { name = []; part = Input; pins = []; delay = 0; period = 0; stimuli = [] }
+no_net = record {
+  name = [];
+  part = Input;
+  pins = [];
+  timing = record { delay = 0; period = 0; phase = 0; initial = Unknown };
+  stimuli = [];
+}
 
 module _ (design : DesignView) (ok : IsDesign design) where
   pub name_is : (net : ℕ) → net < length design.circuit → name_of design.circuit net ≡ (get_or design.netlist.nets net (untimed no_net)).name

@@ -24,7 +24,7 @@ pub record IsShown (run : AcceptedRun) (name : List ℕ) (net : ℕ) : Type 0 wh
   pub shown : Contains (shown_nets run.view.show run.run.design.netlist) net
 
 -- runs to one horizon that agree on the fan-in cone that the net of a name has in the first of them: its parts, pins,
--- delays, periods and stimuli up to the horizon; and both show the net, which has these numbers
+-- delays, clocks, initial values and stimuli up to the horizon; and both show the net, which has these numbers
 pub record AgreeingRuns (first second : AcceptedRun) (name : List ℕ) (net other_net : ℕ) : Type 0 where
   pub horizon : first.view.horizon ≡ second.view.horizon
   pub agree : AgreesOn first.run.design second.run.design (InCone first.run.design.netlist (name ∷ [])) first.view.horizon

@@ -9,7 +9,7 @@ pub struct Source<'a> {
     pub stimuli: &'a [u8],
     /// The delay in ticks of what the delay text doesn't name: 1 to 1,000,000.
     pub default_delay: u64,
-    /// The period of all flip-flops in ticks: 1 to 10,000,000.
+    /// The period in ticks of all flip-flops without a clock line: 1 to 10,000,000.
     pub period: u64,
     /// The plain engine doesn't read it.
     pub picks: Picks<'a>,

@@ -56,7 +56,7 @@ impl Side {
 #[derive(Debug, Drop)]
 pub struct TwinAnswer {
     /// Whether the runs agree on the fan-in cone that the net has in the first one: they have the
-    /// same parts, pins, delays, periods and stimuli there, at ticks up to the horizon.
+    /// same parts, pins, timings and stimuli there, at ticks up to the horizon.
     pub agree: bool,
     /// What the net shows in the first run, up to the horizon.
     pub first: Waveform,

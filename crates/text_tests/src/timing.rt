@@ -2,10 +2,11 @@
 use crate::texts::longest;
 use bench_text::read;
 use design::{BuildFault, Design};
+use logic3::Value;
 use std::alloc::Global;
 use std::process::Abort;
 use std::test::Fail;
-use timing_text::{DelayFault, Horizon, OptionFault, StimulusFault, options};
+use timing_text::{DelayFault, Horizon, OptionFault, StimulusFault, Timing, options};
 
 fn build(
     alloc: Global,
@@ -67,18 +68,20 @@ fn gate_has_delay(rt: &impl Abort, built: &Design, delay: u64) {
     assert!(rt; built.nets() == 2);
     assert!(rt; built.delay(1) == delay);
     assert!(rt; built.delay(0) == 0);
-    assert!(rt; built.period(1) == 10);
+    assert!(rt; built.period(1) == 0);
 }
 
 // Delay texts, and what they are refused with.
-static FAULTY_DELAYS: [(&[u8], DelayFault); 8] = [
+static FAULTY_DELAYS: [(&[u8], DelayFault); 9] = [
     (b"y 0", DelayFault::BadTicks { line: 1 }),
     (b"y 1000001", DelayFault::BadTicks { line: 1 }),
     (b"y 2\ny 2", DelayFault::Twice { line: 2 }),
     (b"a 2", DelayFault::IsInput { line: 1 }),
     (b"zz 2\ny", DelayFault::UnknownNet { line: 1 }),
     (b"y", DelayFault::BadLine { line: 1 }),
-    (b"timing version 2", DelayFault::BadLine { line: 1 }),
+    // No header of the second version.
+    (b"timing version 3", DelayFault::BadLine { line: 1 }),
+    (b"timing version 02\ndelay y 2", DelayFault::BadLine { line: 1 }),
     (
         b"y 9999999999999999999999999999999999999999999999999999999999999999999999999999999999999999999999999999",
         DelayFault::BadTicks { line: 1 },
@@ -97,6 +100,94 @@ fn faulty_delays(rt: HostRuntime) -> Result<(), Fail> {
         (b"# y 3".as_slice(), 1),
     ] {
         delays_gate(&rt, rt.alloc(), text, delay)?;
+    }
+    Ok(())
+}
+
+fn build_flop(alloc: Global, lines: &[u8]) -> Result<Result<Design, BuildFault>, Fail> {
+    let mut text = Vec::from_slice(alloc, b"# a flip-flop\n\ttiming version 2 # and its clock\n")?;
+    text.extend_from_slice(lines)?;
+    let netlist = read(alloc, b"INPUT(d)\nq = DFF(d)\n")?;
+    Ok(Design::build(alloc, netlist, &text, b"", 1, 4))
+}
+
+// Lines behind the header, which stands on the second line, and what they are refused with.
+static FAULTY_CLOCKS: [(&[u8], DelayFault); 25] = [
+    (b"clock d 4 1", DelayFault::NotAFlop { line: 3 }),
+    (b"init d 1", DelayFault::NotAFlop { line: 3 }),
+    (b"clock q 4 4", DelayFault::BadPhase { line: 3 }),
+    (b"clock q 0 0", DelayFault::BadPeriod { line: 3 }),
+    (b"clock q 10000001 0", DelayFault::BadPeriod { line: 3 }),
+    (b"init q z", DelayFault::BadValue { line: 3 }),
+    (b"init q 10", DelayFault::BadValue { line: 3 }),
+    (b"delay d 2", DelayFault::IsInput { line: 3 }),
+    (b"delay q 0", DelayFault::BadTicks { line: 3 }),
+    // Of several faults of a line the first one.
+    (b"clock zz 0 9", DelayFault::UnknownNet { line: 3 }),
+    (b"clock d 0 9", DelayFault::NotAFlop { line: 3 }),
+    (b"init d z", DelayFault::NotAFlop { line: 3 }),
+    (b"clock q 0 9", DelayFault::BadPeriod { line: 3 }),
+    (b"clock q 4 1\nclock q 4 4", DelayFault::BadPhase { line: 4 }),
+    (b"clock zz x 1", DelayFault::BadLine { line: 3 }),
+    // Second lines of a kind.
+    (b"clock q 4 1\nclock q 4 1", DelayFault::Twice { line: 4 }),
+    (b"init q 0\ninit q x", DelayFault::Twice { line: 4 }),
+    (b"delay q 2\ninit q 0\nclock q 4 1\ndelay q 2", DelayFault::Twice { line: 6 }),
+    // Lines of no form.
+    (b"timing version 2", DelayFault::BadLine { line: 3 }),
+    (b"q 2", DelayFault::BadLine { line: 3 }),
+    (b"Clock q 4 1", DelayFault::BadLine { line: 3 }),
+    (b"clock q 4", DelayFault::BadLine { line: 3 }),
+    (b"clock q 4 1 1", DelayFault::BadLine { line: 3 }),
+    (b"clock q 4 one", DelayFault::BadLine { line: 3 }),
+    (b"init q 0 \x0B", DelayFault::BadLine { line: 3 }),
+];
+
+fn flop_answers(rt: &impl Abort, alloc: Global, lines: &[u8], fault: DelayFault) -> Result<(), Fail> {
+    let answer = build_flop(alloc, lines)?;
+    assert!(rt; answer.err() == Some(BuildFault::Timing(fault)));
+    Ok(())
+}
+
+#[test]
+fn faulty_clocks(rt: HostRuntime) -> Result<(), Fail> {
+    for &(lines, fault) in &FAULTY_CLOCKS {
+        flop_answers(&rt, rt.alloc(), lines, fault)?;
+    }
+    Ok(())
+}
+
+// With these lines behind the header the flip-flop has this timing.
+fn flop_has(rt: &impl Abort, alloc: Global, lines: &[u8], timing: Timing) -> Result<(), Fail> {
+    let built = build_flop(alloc, lines)?.map_err(|_| "a fault")?;
+    has_timing(rt, &built, timing);
+    Ok(())
+}
+
+fn has_timing(rt: &impl Abort, built: &Design, timing: Timing) {
+    assert!(rt; built.nets() == 2);
+    assert!(rt; built.timing(1) == timing);
+    assert!(rt; built.delay(1) == timing.delay);
+    assert!(rt; built.period(1) == timing.period);
+    assert!(rt; built.phase(1) == timing.phase);
+    assert!(rt; built.init(1) == timing.initial);
+    assert!(rt; built.timing(0) == Timing { delay: 0, period: 0, phase: 0, initial: Value::Unknown });
+}
+
+// Lines behind the header, and the delay, the period, the phase and the initial value that they give.
+static CLOCKS: [(&[u8], [u64; 3], Value); 5] = [
+    (b"", [1, 4, 0], Value::Unknown),
+    (b"clock q 10000000 9999999\ninit q 1", [1, 10_000_000, 9_999_999], Value::One),
+    (b"init q 0\ndelay q 1000000\nclock q 1 0", [1_000_000, 1, 0], Value::Zero),
+    (b"init q X", [1, 4, 0], Value::Unknown),
+    (b"clock q 4 0\ninit q x", [1, 4, 0], Value::Unknown),
+];
+
+#[test]
+fn clocks(rt: HostRuntime) -> Result<(), Fail> {
+    for &(lines, [delay, period, phase], initial) in &CLOCKS {
+        let timing = Timing { delay, period, phase, initial };
+        flop_has(&rt, rt.alloc(), lines, timing)?;
     }
     Ok(())
 }

@@ -1,10 +1,10 @@
 pub mod CallerLemmas
-mod DelayLines
-mod DelaysInRange
-mod GivenDelays
+mod GivenProperties
 mod GivenStimuli
 mod Rising
 mod StimuliInRange
 mod StimuliNamed
 mod StimulusLines
 mod TextRows
+mod TimingLines
+mod TimingsInRange

@@ -1,16 +1,18 @@
 -- Small delay and stimulus texts, by computation.
 use Rattle.std.proofs.Common.{◌≡◌, ℕ, List, [], ◌∷◌, ◌++◌, Result, Ok, Err, refl, codes, replicate}
 use Rattle.std.specs.Result.{result_map_both}
+use Rattle.logic3.specs.declared.value.Value.{Value}
 use Rattle.logic3.specs.declared.value.Value.TheVariants.{Zero, One, Unknown}
 use Rattle.logic3.specs.declared.gates.GateKind.TheVariants.{Not}
 use Rattle.logic3.specs.declared.change.Change.{Change}
-use Rattle.netlist.specs.declared.part.Part.TheVariants.{Input, Gate}
+use Rattle.netlist.specs.declared.part.Part.TheVariants.{Input, Gate, Flop}
 use Rattle.netlist.specs.Netlist.{NetlistView}
 use Rattle.timing_text.specs.declared.fault.DelayFault.{DelayFault}
 use Rattle.timing_text.specs.declared.fault.DelayFault.TheVariants as delay
 use Rattle.timing_text.specs.declared.fault.StimulusFault.{StimulusFault}
 use Rattle.timing_text.specs.declared.fault.StimulusFault.TheVariants as stimulus
-use Rattle.timing_text.specs.Delays.{delays_of, net_delays}
+use Rattle.timing_text.specs.declared.timing.Timing.{Timing}
+use Rattle.timing_text.specs.Timings.{net_timings, properties_of}
 use Rattle.timing_text.specs.Stimuli.{stimuli_of, net_stimuli}
 
 -- an input `a` and a gate `y` that inverts it
@@ -20,10 +22,24 @@ not_gate = record {
   outputs = 1 ∷ [];
 }
 
--- what a delay text gives the two nets, where the default is 7 ticks
-delays_from : List ℕ → Result (List ℕ) DelayFault
-unfolding not_gate
-delays_from text = result_map_both (net_delays not_gate 7) (λ fault. fault) (delays_of not_gate text)
+-- and a flip-flop `q` behind it
+flop_behind : NetlistView
+flop_behind = record {
+  nets = record { name = codes "a"; part = Input; pins = [] } ∷ record { name = codes "y"; part = Gate Not; pins = 0 ∷ [] }
+      ∷ record { name = codes "q"; part = Flop; pins = 1 ∷ [] } ∷ [];
+  outputs = 2 ∷ [];
+}
+
+-- the timings of an input, a gate and a flip-flop
+timings : ℕ → ℕ → ℕ → ℕ → Value → List Timing
+timings gate flop period phase initial =
+    record { delay = 0; period = 0; phase = 0; initial = Unknown } ∷ record { delay = gate; period = 0; phase = 0; initial = Unknown }
+    ∷ record { delay = flop; period = period; phase = phase; initial = initial } ∷ []
+
+-- what a delay text gives the three nets, where the default is 7 ticks and the period 20
+timings_from : List ℕ → Result (List Timing) DelayFault
+unfolding flop_behind
+timings_from text = result_map_both (net_timings flop_behind 7 20) (λ fault. fault) (properties_of flop_behind text)
 
 -- what a stimulus text gives the two nets
 stimuli_from : List ℕ → Result (List (List Change)) StimulusFault
@@ -32,45 +48,135 @@ stimuli_from text = result_map_both (net_stimuli not_gate) (λ fault. fault) (st
 
 -- ---- delays
 
-default_delay : delays_from [] ≡ Ok (0 ∷ 7 ∷ [])
-unfolding delays_from
+default_delay : timings_from [] ≡ Ok (timings 7 7 20 0 Unknown)
+unfolding timings_from timings
 default_delay = refl
 
-longest_delay : delays_from (codes "y 1000000") ≡ Ok (0 ∷ 1_000_000 ∷ [])
-unfolding delays_from
+longest_delay : timings_from (codes "y 1000000") ≡ Ok (timings 1_000_000 7 20 0 Unknown)
+unfolding timings_from timings
 longest_delay = refl
 
-delay_too_long : delays_from (codes "y 1000001") ≡ Err (delay.BadTicks 1)
-unfolding delays_from
+delay_too_long : timings_from (codes "y 1000001") ≡ Err (delay.BadTicks 1)
+unfolding timings_from timings
 delay_too_long = refl
 
-delay_of_no_ticks : delays_from (codes "y 0") ≡ Err (delay.BadTicks 1)
-unfolding delays_from
+delay_of_no_ticks : timings_from (codes "y 0") ≡ Err (delay.BadTicks 1)
+unfolding timings_from timings
 delay_of_no_ticks = refl
 
-delay_given_twice : delays_from (codes "y 2\ny 2") ≡ Err (delay.Twice 2)
-unfolding delays_from
+delay_given_twice : timings_from (codes "y 2\ny 2") ≡ Err (delay.Twice 2)
+unfolding timings_from timings
 delay_given_twice = refl
 
-delay_of_an_input : delays_from (codes "a 2") ≡ Err (delay.IsInput 1)
-unfolding delays_from
+delay_of_an_input : timings_from (codes "a 2") ≡ Err (delay.IsInput 1)
+unfolding timings_from timings
 delay_of_an_input = refl
 
-first_faulty_line : delays_from (codes "zz 2\ny") ≡ Err (delay.UnknownNet 1)
-unfolding delays_from
+first_faulty_line : timings_from (codes "zz 2\ny") ≡ Err (delay.UnknownNet 1)
+unfolding timings_from timings
 first_faulty_line = refl
 
-leading_zeros : delays_from (codes "y 0000000000000000000000000000000002") ≡ Ok (0 ∷ 2 ∷ [])
-unfolding delays_from
+leading_zeros : timings_from (codes "y 0000000000000000000000000000000002") ≡ Ok (timings 2 7 20 0 Unknown)
+unfolding timings_from timings
 leading_zeros = refl
 
-hundred_nines : delays_from (codes "y " ++ replicate 100 57) ≡ Err (delay.BadTicks 1)
-unfolding delays_from
+hundred_nines : timings_from (codes "y " ++ replicate 100 57) ≡ Err (delay.BadTicks 1)
+unfolding timings_from timings
 hundred_nines = refl
 
-name_alone : delays_from (codes "y 2\nq") ≡ Err (delay.BadLine 2)
-unfolding delays_from
+name_alone : timings_from (codes "y 2\nq") ≡ Err (delay.BadLine 2)
+unfolding timings_from timings
 name_alone = refl
+
+-- ---- the second version
+
+header_alone : timings_from (codes "timing version 2") ≡ Ok (timings 7 7 20 0 Unknown)
+unfolding timings_from timings
+header_alone = refl
+
+header_behind_a_comment : timings_from (codes "# later\n\ttiming  version 2 # so\ny 2") ≡ Err (delay.BadLine 3)
+unfolding timings_from timings
+header_behind_a_comment = refl
+
+one_line_of_each_kind : timings_from (codes "timing version 2\ndelay q 3\nclock q 10 9\ninit q 1\ndelay y 2") ≡ Ok (timings 2 3 10 9 One)
+unfolding timings_from timings
+one_line_of_each_kind = refl
+
+second_header : timings_from (codes "timing version 2\ntiming version 2") ≡ Err (delay.BadLine 2)
+unfolding timings_from timings
+second_header = refl
+
+header_of_four_words : timings_from (codes "timing version 2 2") ≡ Err (delay.BadLine 1)
+unfolding timings_from timings
+header_of_four_words = refl
+
+header_of_another_version : timings_from (codes "timing version 3") ≡ Err (delay.BadLine 1)
+unfolding timings_from timings
+header_of_another_version = refl
+
+header_behind_a_line : timings_from (codes "y 2\ntiming version 2") ≡ Err (delay.BadLine 2)
+unfolding timings_from timings
+header_behind_a_line = refl
+
+header_in_capitals : timings_from (codes "TIMING VERSION 2") ≡ Err (delay.BadLine 1)
+unfolding timings_from timings
+header_in_capitals = refl
+
+clock_in_the_first_version : timings_from (codes "clock q 10 9") ≡ Err (delay.BadLine 1)
+unfolding timings_from timings
+clock_in_the_first_version = refl
+
+phase_left_out : timings_from (codes "timing version 2\nclock q 10") ≡ Err (delay.BadLine 2)
+unfolding timings_from timings
+phase_left_out = refl
+
+phase_of_no_digits : timings_from (codes "timing version 2\nclock zz 10 x") ≡ Err (delay.BadLine 2)
+unfolding timings_from timings
+phase_of_no_digits = refl
+
+clock_of_no_net : timings_from (codes "timing version 2\nclock zz 0 9") ≡ Err (delay.UnknownNet 2)
+unfolding timings_from timings
+clock_of_no_net = refl
+
+clock_of_a_gate : timings_from (codes "timing version 2\nclock y 0 9") ≡ Err (delay.NotAFlop 2)
+unfolding timings_from timings
+clock_of_a_gate = refl
+
+period_of_no_ticks : timings_from (codes "timing version 2\nclock q 0 9") ≡ Err (delay.BadPeriod 2)
+unfolding timings_from timings
+period_of_no_ticks = refl
+
+longest_period : timings_from (codes "timing version 2\nclock q 10000000 9999999") ≡ Ok (timings 7 7 10_000_000 9_999_999 Unknown)
+unfolding timings_from timings
+longest_period = refl
+
+period_too_long : timings_from (codes "timing version 2\nclock q 10000001 0") ≡ Err (delay.BadPeriod 2)
+unfolding timings_from timings
+period_too_long = refl
+
+phase_of_a_whole_period : timings_from (codes "timing version 2\nclock q 10 10") ≡ Err (delay.BadPhase 2)
+unfolding timings_from timings
+phase_of_a_whole_period = refl
+
+clock_given_twice : timings_from (codes "timing version 2\nclock q 10 9\nclock q 10 9") ≡ Err (delay.Twice 3)
+unfolding timings_from timings
+clock_given_twice = refl
+
+initial_value_of_a_gate : timings_from (codes "timing version 2\ninit y z") ≡ Err (delay.NotAFlop 2)
+unfolding timings_from timings
+initial_value_of_a_gate = refl
+
+initial_value_of_an_input : timings_from (codes "timing version 2\ninit a 0") ≡ Err (delay.NotAFlop 2)
+unfolding timings_from timings
+initial_value_of_an_input = refl
+
+no_initial_value : timings_from (codes "timing version 2\ninit q z") ≡ Err (delay.BadValue 2)
+unfolding timings_from timings
+no_initial_value = refl
+
+initial_value_given_twice : timings_from (codes "timing version 2\ninit q X\ninit q 0") ≡ Err (delay.Twice 3)
+unfolding timings_from timings
+initial_value_given_twice = refl
 
 -- ---- stimuli
 

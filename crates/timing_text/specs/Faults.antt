@@ -19,6 +19,10 @@ delay_line (delay.UnknownNet line) = line
 delay_line (delay.IsInput line) = line
 delay_line (delay.BadTicks line) = line
 delay_line (delay.Twice line) = line
+delay_line (delay.NotAFlop line) = line
+delay_line (delay.BadPeriod line) = line
+delay_line (delay.BadPhase line) = line
+delay_line (delay.BadValue line) = line
 delay_line other = 0
 
 abbrev pub delay_name : DelayFault → List ℕ
@@ -29,6 +33,10 @@ delay_name (delay.IsInput line) = codes "IsInput"
 delay_name (delay.BadTicks line) = codes "BadTicks"
 delay_name (delay.Twice line) = codes "Twice"
 delay_name delay.Memory = codes "Memory"
+delay_name (delay.NotAFlop line) = codes "NotAFlop"
+delay_name (delay.BadPeriod line) = codes "BadPeriod"
+delay_name (delay.BadPhase line) = codes "BadPhase"
+delay_name (delay.BadValue line) = codes "BadValue"
 
 -- the line that a fault names, and 0 for one without a line
 abbrev pub stimulus_line : StimulusFault → ℕ

@@ -6,6 +6,8 @@ pub use Rattle.text_lines.specs.Fold
 pub use Rattle.netlist.specs.Netlist
 pub mod Ranges
 pub mod Options
-pub mod Delays
+pub mod Words
+pub mod TimingLines
+pub mod Timings
 pub mod Stimuli
 pub mod Faults

@@ -1,9 +1,8 @@
 -- What a stimulus text says of a netlist.
-use Rattle.std.specs.Prelude.{ℕ, ◌||◌, not, nat_lt, nat_le, if◌then◌else◌, List, [], ◌∷◌, ◌++◌, map, filter, option_map, Option, None, Some, Result, Ok, Err, codes, bytes_eq}
+use Rattle.std.specs.Prelude.{ℕ, not, nat_lt, nat_le, if◌then◌else◌, List, [], ◌∷◌, ◌++◌, map, filter, option_map, Option, None, Some, Result, Ok, Err, bytes_eq}
 use Rattle.std.specs.List.{list_any}
 use Rattle.std.specs.Option.{option_map_or}
 use Rattle.logic3.specs.declared.value.Value.{Value}
-use Rattle.logic3.specs.declared.value.Value.TheVariants.{Zero, One, Unknown}
 use Rattle.logic3.specs.declared.change.Change.{Change}
 use Rattle.text_lines.specs.Text.{◌>>=◌, words_of, number_of, is_plain, unless_too_long}
 use Rattle.text_lines.specs.Fold.{fold_text}
@@ -11,7 +10,7 @@ use Rattle.netlist.specs.Netlist.{NetView, NetlistView}
 use Rattle.timing_text.specs.declared.fault.StimulusFault.{StimulusFault}
 use Rattle.timing_text.specs.declared.fault.StimulusFault.TheVariants.{TooLong, BadLine, UnknownNet, NotAnInput, TickTooLarge, BadValue, NotRising}
 use Rattle.timing_text.specs.Ranges.{most_ticks}
-use Rattle.timing_text.specs.Delays.{find_net, is_input}
+use Rattle.timing_text.specs.Words.{find_net, is_input, value_of_word}
 
 -- a line's tick, name and word for a value
 pub record StimulusLine : Type 0 where
@@ -27,14 +26,6 @@ stimulus_of_words _ = None
 
 abbrev pub stimulus_in : List ℕ → Option StimulusLine
 stimulus_in code = if is_plain code then stimulus_of_words (words_of code) else None
-
--- the value that a word means
-abbrev pub value_of_word : List ℕ → Option Value
-value_of_word text =
-    if bytes_eq text (codes "0") then Some Zero
-    else if bytes_eq text (codes "1") then Some One
-    else if bytes_eq text (codes "x") || bytes_eq text (codes "X") then Some Unknown
-    else None
 
 -- a change of the net of this name
 pub record NamedChange : Type 0 where

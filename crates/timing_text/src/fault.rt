@@ -39,26 +39,35 @@ impl fmt::Display for OptionFault {
     }
 }
 
-/// Why a text gives no delays. Lines count from 1.
+/// Why a text gives no timings. Lines count from 1.
 ///
-/// The first faulty line decides, and within a line the order of these variants;
-/// [`TooLong`](Self::TooLong) comes before all else.
+/// The first faulty line decides, and [`TooLong`](Self::TooLong) comes before all else. Within a line
+/// the order is `BadLine`, `UnknownNet`, `IsInput`, `NotAFlop`, `BadTicks`, `BadPeriod`, `BadPhase`,
+/// `BadValue`, `Twice`.
 #[derive(Clone, Copy, Debug, PartialEq, Eq, Error)]
 pub enum DelayFault {
     /// The text has more than 16,777,216 bytes.
     TooLong,
-    /// The line is not a name and a number.
+    /// The line has none of the forms of its version.
     BadLine { line: u64 },
     /// No net has this name.
     UnknownNet { line: u64 },
-    /// The net is an input.
+    /// The net of a delay is an input.
     IsInput { line: u64 },
     /// The delay is 0 or above 1,000,000 ticks.
     BadTicks { line: u64 },
-    /// An earlier line gives this net a delay.
+    /// An earlier line of the same kind is of this net.
     Twice { line: u64 },
     /// A growth was refused.
     Memory,
+    /// The net of a clock or an initial value is no flip-flop.
+    NotAFlop { line: u64 },
+    /// The period is 0 or above 10,000,000 ticks.
+    BadPeriod { line: u64 },
+    /// The phase isn't below the period.
+    BadPhase { line: u64 },
+    /// The initial value is none of `0`, `1`, `x` and `X`.
+    BadValue { line: u64 },
 }
 
 impl DelayFault {
@@ -71,7 +80,11 @@ impl DelayFault {
             | DelayFault::UnknownNet { line }
             | DelayFault::IsInput { line }
             | DelayFault::BadTicks { line }
-            | DelayFault::Twice { line } => line,
+            | DelayFault::Twice { line }
+            | DelayFault::NotAFlop { line }
+            | DelayFault::BadPeriod { line }
+            | DelayFault::BadPhase { line }
+            | DelayFault::BadValue { line } => line,
             DelayFault::TooLong | DelayFault::Memory => 0,
         }
     }
@@ -88,6 +101,10 @@ impl DelayFault {
             DelayFault::BadTicks { .. } => "BadTicks",
             DelayFault::Twice { .. } => "Twice",
             DelayFault::Memory => "Memory",
+            DelayFault::NotAFlop { .. } => "NotAFlop",
+            DelayFault::BadPeriod { .. } => "BadPeriod",
+            DelayFault::BadPhase { .. } => "BadPhase",
+            DelayFault::BadValue { .. } => "BadValue",
         }
     }
 }

@@ -1,15 +1,19 @@
 //! What delay and stimulus texts say of a netlist, and the settings of a run: their ranges and faults.
 #![tactic(auto)]
 
-mod delays;
 mod fault;
 mod horizon;
 mod limits;
+mod line;
 mod settings;
 mod stimuli;
+mod timing;
+mod timings;
+mod words;
 
-pub use delays::read_delays;
 pub use fault::{DelayFault, OptionFault, StimulusFault};
 pub use horizon::Horizon;
 pub use settings::options;
 pub use stimuli::read_stimuli;
+pub use timing::Timing;
+pub use timings::read_timings;

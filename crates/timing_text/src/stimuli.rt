@@ -5,12 +5,12 @@ ghost use Rattle.std.specs.Result.{result_map_both};
 ghost use Rattle.logic3.specs.declared.change.Change.{Change};
 ghost use Rattle.text_lines.specs.Text.{longest_text};
 ghost use Rattle.netlist.specs.Netlist.{net_at};
-ghost use Rattle.timing_text.specs.Stimuli.{StimulusLine, net_stimuli, stimuli_of, stimulus_in, stimulus_or_fault, value_of_word};
+ghost use Rattle.timing_text.specs.Stimuli.{StimulusLine, net_stimuli, stimuli_of, stimulus_in, stimulus_or_fault};
 
-use crate::delays::is_input;
 use crate::fault::StimulusFault;
 use crate::limits::MOST_TICKS;
-use logic3::{Change, Value};
+use crate::words::{is_input, value_of};
+use logic3::Change;
 use netlist::Netlist;
 use std::alloc::{AllocError, Global};
 use text_lines::{LONGEST_TEXT, code_lines, is_plain, number, words_of};
@@ -122,16 +122,4 @@ fn tick_name_and_word(code: &[u8]) -> Option<(u64, &[u8], &[u8])>
         return None;
     };
     Some((number(tick)?, name, value))
-}
-
-/// The value that a word means.
-fn value_of(word: &[u8]) -> Option<Value>
-    ensures { result ≡ value_of_word word.now }
-{
-    match word {
-        b"0" => Some(Value::Zero),
-        b"1" => Some(Value::One),
-        b"x" | b"X" => Some(Value::Unknown),
-        _ => None,
-    }
 }

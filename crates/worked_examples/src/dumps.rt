@@ -32,6 +32,14 @@ pub const OSCILLATOR_DUMP: &[u8] =
 pub const RING_COUNTER_DUMP: &[u8] =
     b"$version nullsim 1 $end\n$timescale 1 ns $end\n$scope module top $end\n$var wire 1 ! q $end\n$var wire 1 \" n $end\n$upscope $end\n$enddefinitions $end\n#0\n$dumpvars\nx!\nx\"\n$end\n#10\n";
 
+/// Of the first flip-flop, sampling at the ticks 1, 5 and 9 and begun with 0, up to tick 9.
+pub const CLOCKED_DUMP: &[u8] =
+    b"$version nullsim 1 $end\n$timescale 1 ns $end\n$scope module top $end\n$var wire 1 ! d $end\n$var wire 1 \" q $end\n$upscope $end\n$enddefinitions $end\n#0\n$dumpvars\nx!\n0\"\n$end\n#2\nx\"\n#4\n1!\n#5\n0!\n#6\n0\"\n#9\n";
+
+/// Of the second one, begun with 0, up to tick 10.
+pub const PRESET_RING_DUMP: &[u8] =
+    b"$version nullsim 1 $end\n$timescale 1 ns $end\n$scope module top $end\n$var wire 1 ! q $end\n$var wire 1 \" n $end\n$upscope $end\n$enddefinitions $end\n#0\n$dumpvars\n0!\nx\"\n$end\n#1\n1\"\n#4\n1!\n#5\n0\"\n#7\n0!\n#8\n1\"\n#10\n1!\n";
+
 /// Of a gate whose two pins cross at tick 4, up to tick 6.
 pub const CROSSING_DUMP: &[u8] =
     b"$version nullsim 1 $end\n$timescale 1 ns $end\n$scope module top $end\n$var wire 1 ! a $end\n$var wire 1 \" b $end\n$var wire 1 # y $end\n$upscope $end\n$enddefinitions $end\n#0\n$dumpvars\n1!\n0\"\nx#\n$end\n#1\n0#\n#4\n0!\n1\"\n#6\n";

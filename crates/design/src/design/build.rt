@@ -9,13 +9,14 @@ use crate::design::Design;
 use crate::fault::BuildFault;
 use netlist::Netlist;
 use std::alloc::{AllocError, Global};
-use timing_text::{options, read_delays, read_stimuli};
+use timing_text::{options, read_stimuli, read_timings};
 
 impl Design {
     /// A netlist with the timing of a delay text and the stimuli of a stimulus text.
     ///
-    /// A gate or a flip-flop that the delay text doesn't name takes the default delay, and the period
-    /// is that of all flip-flops, both in ticks. The netlist is given up on a refusal.
+    /// A gate or a flip-flop that the delay text gives no delay takes the default one, and a flip-flop
+    /// that it gives no clock has this period and phase 0, in ticks. One without an initial value begins
+    /// with X. The netlist is given up on a refusal.
     ///
     /// # Errors
     /// The first fault, in the order default delay, period, delay text, stimulus text, or
@@ -35,15 +36,14 @@ impl Design {
         ensures delays { result ≡ Err BuildFault.Memory → length delays.now ≤ longest_text }
     {
         options(default_delay, period)?;
-        let delays = read_delays(alloc, &netlist, delays, default_delay)?;
+        let timings = read_timings(alloc, &netlist, delays, default_delay, period)?;
         let stimuli = read_stimuli(alloc, &netlist, stimuli)?;
         let first_pins = first_pins(alloc, &netlist)?;
         Ok(Design {
             netlist,
             first_pins,
-            delays,
+            timings,
             stimuli,
-            period,
         })
     }
 }

@@ -1,15 +1,14 @@
 use Rattle.std.proofs.Common.{Some, get_or, ap, ◌∙◌, arith, slice_get}
 use Rattle.std.specs.Option.{option_map_or}
-use Rattle.logic3.specs.declared.value.Value.TheVariants.{Unknown}
 use Rattle.design.specs.Samples.{asked_of_part}
 use Rattle.design.specs.Equations.{signals_in}
-use Rattle.design.proofs.WellFormed.{gate_arity, flop_arity, pins_below, period_some, IsCircuit-from_IsDesign}
+use Rattle.design.proofs.WellFormed.{gate_arity, flop_arity, pins_below, has_timing, IsCircuit-from_IsDesign}
 use Rattle.design.proofs.Parts.{gate_equation, flop_equation}
 use Rattle.design.proofs.plain.net_value.Goals as goal
 
 pub asked_tick-asked-requires : goal.asked_tick-asked-requires
 asked_tick-asked-requires c =
-    period_some c.args.design.now.circuit (IsCircuit-from_IsDesign c.args.design.now c.requires.formed) c.args.net c.timing.result c.timing.ensures
+    has_timing c.args.design.now.circuit (IsCircuit-from_IsDesign c.args.design.now c.requires.formed) c.args.net _ _ c.part-part.ensures c.timing-timing.ensures
 
 pub gate_value-requires-clause-arity : goal.gate_value-requires-clause-arity
 gate_value-requires-clause-arity c =
@@ -30,19 +29,19 @@ sampled_value-requires c =
 
 pub returns-in-Gate : goal.returns-in-Gate
 returns-in-Gate c =
-    let asked = c.asked_tick-asked.ensures ∙ ap (λ part. asked_of_part part c.timing.result c.args.tick) c.in-Gate.is in
+    let asked = c.asked_tick-asked.ensures ∙ ap (λ part. asked_of_part part c.timing-timing.result c.args.tick) c.in-Gate.is in
     rw (
-      ← gate_equation (slice_get c.args.design.now.circuit c.args.net) c.in-Gate.kind c.pins_of-pins.result.now c.timing.result
-          (c.part-part.ensures ∙ ap Some c.in-Gate.is) c.pins_of-pins.ensures c.timing.ensures (signals_in c.args.waves.now) c.args.tick,
+      ← gate_equation (slice_get c.args.design.now.circuit c.args.net) c.in-Gate.kind c.pins_of-pins.result.now c.timing-timing.result
+          (c.part-part.ensures ∙ ap Some c.in-Gate.is) c.pins_of-pins.ensures c.timing-timing.ensures (signals_in c.args.waves.now) c.args.tick,
       ← asked,
     ) c.gate_value.ensures
 
 pub returns-in-Flop : goal.returns-in-Flop
 returns-in-Flop c =
-    let asked = c.asked_tick-asked.ensures ∙ ap (λ part. asked_of_part part c.timing.result c.args.tick) c.in-Flop.is in
+    let asked = c.asked_tick-asked.ensures ∙ ap (λ part. asked_of_part part c.timing-timing.result c.args.tick) c.in-Flop.is in
     c.sampled_value.ensures
-    ∙ ap (λ asked. option_map_or (signals_in c.args.waves.now (get_or c.pins_of-pins.result.now 0 0)) asked Unknown) asked
-    ∙ flop_equation (slice_get c.args.design.now.circuit c.args.net) c.pins_of-pins.result.now c.timing.result
-    (c.part-part.ensures ∙ ap Some c.in-Flop.is) c.pins_of-pins.ensures c.timing.ensures
+    ∙ ap (λ asked. option_map_or (signals_in c.args.waves.now (get_or c.pins_of-pins.result.now 0 0)) asked c.timing-timing.result.initial) asked
+    ∙ flop_equation (slice_get c.args.design.now.circuit c.args.net) c.pins_of-pins.result.now c.timing-timing.result
+    (c.part-part.ensures ∙ ap Some c.in-Flop.is) c.pins_of-pins.ensures c.timing-timing.ensures
     (flop_arity c.args.design.now c.requires.formed c.args.net _ (c.part-part.ensures ∙ ap Some c.in-Flop.is) c.pins_of-pins.ensures)
     (signals_in c.args.waves.now) c.args.tick

@@ -5,23 +5,23 @@ use Rattle.design.proofs.design.Design.build.Goals as goal
 use Rattle.design.proofs.design.Design.build.Goals.{In_ok-stimuli}
 
 given : (c : In_ok-stimuli) → IsGiven c.args.netlist c.args.delays.now c.args.stimuli.now c.args.default_delay c.args.period
-    c.in_ok-delays.delays.items (map (λ v. v.items) c.in_ok-stimuli.stimuli.items)
+    c.in_ok-timings.timings.items (map (λ v. v.items) c.in_ok-stimuli.stimuli.items)
 given c = is_given c.args.netlist c.args.delays.now c.args.stimuli.now c.args.default_delay c.args.period _ _ c.in_ok-options.field-0
-    c.in_ok-options.ensures (c.in_ok-delays.ensures.delays (λ e. (cc))) (c.in_ok-stimuli.ensures.stimuli (λ e. (cc)))
+    c.in_ok-options.ensures (c.in_ok-timings.ensures.timings (λ e. (cc))) (c.in_ok-stimuli.ensures.stimuli (λ e. (cc)))
 
-pub returns-in_err-delays-clause-design : goal.returns-in_err-delays-clause-design
-returns-in_err-delays-clause-design c =
-    let lifted = err_from_is_err_and c.from_residual-in_err-delays.result c.from_residual-in_err-delays.ensures.1 in
+pub returns-in_err-timings-clause-design : goal.returns-in_err-timings-clause-design
+returns-in_err-timings-clause-design c =
+    let lifted = err_from_is_err_and c.from_residual-in_err-timings.result c.from_residual-in_err-timings.ensures.1 in
     rw (lifted.1, lifted.2)
     (λ differs. design_of-timing_fault c.args.netlist c.args.delays.now c.args.stimuli.now c.args.default_delay c.args.period c.in_ok-options.field-0
-    c.in_ok-options.ensures _ (λ other. c.in_err-delays.ensures.delays (λ e. other (cc))) (λ e. differs (ap Err e)))
+    c.in_ok-options.ensures _ (λ other. c.in_err-timings.ensures.timings (λ e. other (cc))) (λ e. differs (ap Err e)))
 
 pub returns-in_err-stimuli-clause-design : goal.returns-in_err-stimuli-clause-design
 returns-in_err-stimuli-clause-design c =
     let lifted = err_from_is_err_and c.from_residual-in_err-stimuli.result c.from_residual-in_err-stimuli.ensures.1 in
     rw (lifted.1, lifted.2)
     (λ differs. design_of-stimulus_fault c.args.netlist c.args.delays.now c.args.stimuli.now c.args.default_delay c.args.period c.in_ok-options.field-0
-    c.in_ok-options.ensures _ _ (c.in_ok-delays.ensures.delays (λ e. (cc))) (λ other. c.in_err-stimuli.ensures.stimuli (λ e. other (cc))) (λ e. differs (ap Err e)))
+    c.in_ok-options.ensures _ _ (c.in_ok-timings.ensures.timings (λ e. (cc))) (λ other. c.in_err-stimuli.ensures.stimuli (λ e. other (cc))) (λ e. differs (ap Err e)))
 
 pub invariant_of-result : goal.invariant_of-result
 invariant_of-result c =

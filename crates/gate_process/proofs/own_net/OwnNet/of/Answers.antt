@@ -9,8 +9,7 @@ own c = record {
   name = c.name.result.now;
   part = c.part.result;
   pins = c.pins_of.result.now;
-  delay = c.timing.result.delay;
-  period = c.timing.result.period;
+  timing = c.timing.result;
   stimuli = c.stimuli.result.now;
 }
 

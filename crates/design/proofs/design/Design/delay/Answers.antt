@@ -1,6 +1,0 @@
-use Rattle.std.proofs.Common.{◌∙◌, sym, ap, Some}
-use Rattle.design.proofs.Stored.{delay_at}
-use Rattle.design.proofs.design.Design.delay.Goals as goal
-
-pub returns : goal.returns
-returns c = delay_at c.self.invariant c.self.view_is c.args.net _ c.requires ∙ ap Some (sym c.index.ensures)

@@ -1,0 +1,28 @@
+-- The equations where all flip-flops have one period, sample at its multiples and begin with X, as in a delay text of version 1.
+use Rattle.std.specs.Prelude.{◌≡◌, ℕ, ◌+◌, ◌-◌, ◌*◌, ◌/◌, nat_lt, if◌then◌else◌, List, map, slice_get, Option, None, Some}
+use Rattle.logic3.specs.declared.value.Value.{Value}
+use Rattle.logic3.specs.declared.value.Value.TheVariants.{Unknown}
+use Rattle.logic3.specs.Gate.{value_of_gate, only_pin}
+use Rattle.logic3.specs.Wave.{value_after}
+use Rattle.netlist.specs.declared.part.Part.{Part}
+use Rattle.netlist.specs.declared.part.Part.TheVariants.{Input, Gate, Flop}
+use Rattle.design.specs.Circuit.{Net, Circuit}
+use Rattle.design.specs.Equations.{values_at}
+
+module _ (period : ℕ) where
+  -- a flip-flop shows the last multiple of the period that is a delay ago, from the first one on
+  abbrev pub periodic_of_part : Part → Net → List (ℕ → Value) → ℕ → Value
+  periodic_of_part Input net signals tick = value_after Unknown net.stimuli tick
+  periodic_of_part (Gate kind) net signals tick =
+      if nat_lt tick net.timing.delay then Unknown else value_of_gate kind (values_at (tick - net.timing.delay) signals)
+  periodic_of_part Flop net signals tick =
+      if nat_lt tick (net.timing.delay + period) then Unknown
+      else only_pin (values_at (period * ((tick - net.timing.delay) / period)) signals)
+
+  abbrev pub periodic_at : Option Net → (ℕ → ℕ → Value) → ℕ → Value
+  periodic_at None signals tick = Unknown
+  periodic_at (Some net) signals tick = periodic_of_part net.part net (map signals net.pins) tick
+
+  -- a family of signals that meets these equations
+  abbrev pub IsPeriodicSolution : Circuit → (ℕ → ℕ → Value) → Type 0
+  IsPeriodicSolution circuit signals = (net tick : ℕ) → signals net tick ≡ periodic_at (slice_get circuit net) signals tick

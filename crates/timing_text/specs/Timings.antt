@@ -1,0 +1,104 @@
+-- What a delay text gives each net of a netlist, in both versions of such texts.
+use Rattle.std.specs.Prelude.{◌≡◌, ℕ, ◌&&◌, Bool, false, if◌then◌else◌, List, [], ◌∷◌, ◌++◌, map, None, Some, Result, Ok, Err, codes, bytes_eq}
+use Rattle.std.specs.List.{fold}
+use Rattle.std.specs.Option.{is_some, unwrap_or}
+use Rattle.logic3.specs.declared.value.Value.TheVariants.{Unknown}
+use Rattle.netlist.specs.declared.part.Part.{Part}
+use Rattle.netlist.specs.declared.part.Part.TheVariants.{Input, Gate, Flop}
+use Rattle.netlist.specs.Netlist.{NetView, NetlistView}
+use Rattle.text_lines.specs.Text.{◌>>=◌, code_lines, unless_too_long, words_of}
+use Rattle.text_lines.specs.Fold.{fold_lines}
+use Rattle.timing_text.specs.declared.fault.DelayFault.{DelayFault}
+use Rattle.timing_text.specs.declared.fault.DelayFault.TheVariants.{TooLong, Twice}
+use Rattle.timing_text.specs.declared.line.Properties.{Properties}
+use Rattle.timing_text.specs.declared.line.Property.{Property}
+use Rattle.timing_text.specs.declared.line.Property.TheVariants.{Delay, Clock, Initial}
+use Rattle.timing_text.specs.declared.line.Version.{Version}
+use Rattle.timing_text.specs.declared.line.Version.TheVariants.{First, Second}
+use Rattle.timing_text.specs.declared.timing.Timing.{Timing}
+use Rattle.timing_text.specs.TimingLines.{NetProperty, property_or_fault}
+
+-- ---- what lines give a net
+
+-- nothing yet
+abbrev pub no_properties : Properties
+no_properties = record { delay = None; clock = None; initial = None }
+
+-- whether a net was given a property of this kind
+abbrev pub has_kind : Properties → Property → Bool
+has_kind given (Delay ticks) = is_some given.delay
+has_kind given (Clock clock) = is_some given.clock
+has_kind given (Initial value) = is_some given.initial
+
+abbrev pub with_property : Properties → Property → Properties
+with_property given (Delay ticks) = record given { delay = Some ticks }
+with_property given (Clock clock) = record given { clock = Some clock }
+with_property given (Initial value) = record given { initial = Some value }
+
+-- what lines give the net of this name
+abbrev pub properties_named : List NetProperty → List ℕ → Properties
+properties_named lines name =
+    fold (λ (given : Properties) (line : NetProperty). if bytes_eq line.name name then with_property given line.property else given) no_properties lines
+
+-- ---- line after line
+
+-- earlier lines and then that of this number, unless one of them gave the same net a property of its kind
+abbrev pub unless_twice : List NetProperty → ℕ → NetProperty → Result (List NetProperty) DelayFault
+unless_twice earlier line given =
+    if has_kind (properties_named earlier given.name) given.property then Err (Twice line) else Ok (earlier ++ given ∷ [])
+
+-- what earlier lines give and then this line, or its first fault
+abbrev pub properties_after : Version → NetlistView → List NetProperty → ℕ × List ℕ → Result (List NetProperty) DelayFault
+properties_after version netlist earlier line = property_or_fault version netlist line >>= unless_twice earlier line.0
+
+-- ---- the whole text
+
+-- just the words `timing version 2`
+abbrev pub are_header : List (List ℕ) → Bool
+are_header (first ∷ second ∷ third ∷ []) =
+    bytes_eq first (codes "timing") && (bytes_eq second (codes "version") && bytes_eq third (codes "2"))
+are_header _ = false
+
+-- the version of a text with these lines that say something
+abbrev pub version_of : List (ℕ × List ℕ) → Version
+version_of [] = First
+version_of (first ∷ lines) = if are_header (words_of first.1) then Second else First
+
+-- the lines that are of a net: all but a header
+abbrev pub net_lines : List (ℕ × List ℕ) → List (ℕ × List ℕ)
+net_lines [] = []
+net_lines (first ∷ lines) = if are_header (words_of first.1) then lines else first ∷ lines
+
+-- what the lines give that say something, or the first fault
+abbrev pub properties_in : NetlistView → List (ℕ × List ℕ) → Result (List NetProperty) DelayFault
+properties_in netlist lines = fold_lines (properties_after (version_of lines) netlist) [] (net_lines lines)
+
+abbrev pub properties_of : NetlistView → List ℕ → Result (List NetProperty) DelayFault
+properties_of netlist text = unless_too_long TooLong (λ all. properties_in netlist (code_lines all)) text
+
+-- a text without a header
+abbrev pub IsFirstVersion : List ℕ → Type 0
+IsFirstVersion text = version_of (code_lines text) ≡ First
+
+-- what lines give each net, in order
+abbrev pub net_properties : NetlistView → List NetProperty → List Properties
+net_properties netlist lines = map (λ (net : NetView). properties_named lines net.name) netlist.nets
+
+-- ---- the timing of each net
+
+-- from what lines give a net of this part: a flip-flop without a clock line has this period and phase 0
+abbrev pub timing_of_part : ℕ → ℕ → Properties → Part → Timing
+timing_of_part default period given Input = record { delay = 0; period = 0; phase = 0; initial = Unknown }
+timing_of_part default period given (Gate kind) =
+    record { delay = unwrap_or given.delay default; period = 0; phase = 0; initial = Unknown }
+timing_of_part default period given Flop =
+    let clock = unwrap_or given.clock (record { period = period; phase = 0 }) in
+    record { delay = unwrap_or given.delay default; period = clock.period; phase = clock.phase; initial = unwrap_or given.initial Unknown }
+
+-- the timing of a net, where lines give these properties
+abbrev pub timing_of_net : ℕ → ℕ → List NetProperty → NetView → Timing
+timing_of_net default period lines net = timing_of_part default period (properties_named lines net.name) net.part
+
+-- the timing of each net, in order
+abbrev pub net_timings : NetlistView → ℕ → ℕ → List NetProperty → List Timing
+net_timings netlist default period lines = map (timing_of_net default period lines) netlist.nets

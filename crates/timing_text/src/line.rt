@@ -1,0 +1,191 @@
+//! What a line of a delay text says of a net.
+ghost use Rattle.std.specs.Prelude.{◌≡◌, ◌^◌, ◌-◌, option_map};
+ghost use Rattle.text_lines.specs.Text.{words_of};
+ghost use Rattle.timing_text.specs.TimingLines.{cut_line, line_in, line_of_first, line_of_second, property_of_part};
+ghost use Rattle.timing_text.specs.Timings.{has_kind, no_properties, with_property};
+
+use crate::fault::DelayFault;
+use crate::limits::{MOST_DELAY, MOST_TICKS};
+use crate::words::{is_flop, is_input, value_of};
+use logic3::Value;
+use netlist::Part;
+use text_lines::{is_plain, number, words_of};
+
+/// The version of a delay text. One of the second begins with the line `timing version 2`.
+#[derive(Clone, Copy, PartialEq, Eq)]
+pub(crate) enum Version {
+    First,
+    Second,
+}
+
+/// When a flip-flop samples, in ticks.
+#[derive(Clone, Copy)]
+pub(crate) struct Clock {
+    pub(crate) period: u64,
+    pub(crate) phase: u64,
+}
+
+impl Clock {
+    /// That of a net which is no flip-flop.
+    pub(crate) const NONE: Clock = Clock {
+        period: 0,
+        phase: 0,
+    };
+}
+
+/// What a line says of its net, whether or not the net may have it.
+#[derive(Clone, Copy)]
+pub(crate) enum Spelled {
+    Delay(u64),
+    Clock(Clock),
+    /// `None` where the word is no value.
+    Initial(Option<Value>),
+}
+
+/// What a line gives its net.
+#[derive(Clone, Copy)]
+pub(crate) enum Property {
+    /// Ticks, 1 to 1,000,000.
+    Delay(u64),
+    Clock(Clock),
+    Initial(Value),
+}
+
+/// What the lines so far gave a net.
+#[derive(Clone, Copy)]
+pub(crate) struct Properties {
+    pub(crate) delay: Option<u64>,
+    pub(crate) clock: Option<Clock>,
+    pub(crate) initial: Option<Value>,
+}
+
+impl Properties {
+    /// Nothing yet.
+    pub(crate) fn none() -> Properties
+        ensures { result ≡ no_properties }
+    {
+        Properties {
+            delay: None,
+            clock: None,
+            initial: None,
+        }
+    }
+
+    /// Whether a property of this kind was given.
+    pub(crate) fn has_kind(self, property: Property) -> bool
+        ensures { result ≡ has_kind self property }
+    {
+        match property {
+            Property::Delay(_) => self.delay.is_some(),
+            Property::Clock(_) => self.clock.is_some(),
+            Property::Initial(_) => self.initial.is_some(),
+        }
+    }
+
+    /// These, and this property in place of one of its kind.
+    pub(crate) fn with(self, property: Property) -> Properties
+        ensures { result ≡ with_property self property }
+    {
+        match property {
+            Property::Delay(ticks) => Properties {
+                delay: Some(ticks),
+                ..self
+            },
+            Property::Clock(clock) => Properties {
+                clock: Some(clock),
+                ..self
+            },
+            Property::Initial(value) => Properties {
+                initial: Some(value),
+                ..self
+            },
+        }
+    }
+}
+
+/// The property on the line of this number, if a net of this part may have it.
+pub(crate) fn property_of_part(
+    line: u64,
+    spelled: Spelled,
+    part: Part,
+) -> Result<Property, DelayFault>
+    ensures { result ≡ property_of_part line spelled part }
+{
+    match spelled {
+        Spelled::Delay(ticks) => {
+            if is_input(part) {
+                return Err(DelayFault::IsInput { line });
+            }
+            if ticks < 1 || ticks > MOST_DELAY {
+                return Err(DelayFault::BadTicks { line });
+            }
+            Ok(Property::Delay(ticks))
+        }
+        Spelled::Clock(clock) => {
+            if !is_flop(part) {
+                return Err(DelayFault::NotAFlop { line });
+            }
+            if clock.period < 1 || clock.period > MOST_TICKS {
+                return Err(DelayFault::BadPeriod { line });
+            }
+            if clock.phase >= clock.period {
+                return Err(DelayFault::BadPhase { line });
+            }
+            Ok(Property::Clock(clock))
+        }
+        Spelled::Initial(value) => {
+            if !is_flop(part) {
+                return Err(DelayFault::NotAFlop { line });
+            }
+            let Some(value) = value else {
+                return Err(DelayFault::BadValue { line });
+            };
+            Ok(Property::Initial(value))
+        }
+    }
+}
+
+/// The name on a line and what the line says of its net, if it has a form of this version.
+pub(crate) fn spelled_line(version: Version, code: &[u8]) -> Option<(&[u8], Spelled)>
+    ensures { option_map (λ found. record { name = found.0.now; spelled = found.1 }) result
+        ≡ option_map (cut_line (2 ^ 64 - 1)) (line_in version code.now) }
+{
+    if !is_plain(code) {
+        return None;
+    }
+    match version {
+        Version::First => line_of_first(code),
+        Version::Second => line_of_second(code),
+    }
+}
+
+/// The same for a line `NAME TICKS`, whatever bytes it has.
+fn line_of_first(code: &[u8]) -> Option<(&[u8], Spelled)>
+    ensures { option_map (λ found. record { name = found.0.now; spelled = found.1 }) result
+        ≡ option_map (cut_line (2 ^ 64 - 1)) (line_of_first (words_of code.now)) }
+{
+    let mut words = words_of(code);
+    let (Some(name), Some(ticks), None) = (words.next(), words.next(), words.next()) else {
+        return None;
+    };
+    Some((name, Spelled::Delay(number(ticks)?)))
+}
+
+/// The same for a line `delay NAME TICKS`, `init NAME VALUE` or `clock NAME PERIOD PHASE`.
+fn line_of_second(code: &[u8]) -> Option<(&[u8], Spelled)>
+    ensures { option_map (λ found. record { name = found.0.now; spelled = found.1 }) result
+        ≡ option_map (cut_line (2 ^ 64 - 1)) (line_of_second (words_of code.now)) }
+{
+    let mut words = words_of(code);
+    let (first, name, third) = (words.next()?, words.next()?, words.next()?);
+    let spelled = match (words.next(), words.next()) {
+        (None, _) if first == b"delay".as_slice() => Spelled::Delay(number(third)?),
+        (None, _) if first == b"init".as_slice() => Spelled::Initial(value_of(third)),
+        (Some(phase), None) if first == b"clock".as_slice() => Spelled::Clock(Clock {
+            period: number(third)?,
+            phase: number(phase)?,
+        }),
+        _ => return None,
+    };
+    Some((name, spelled))
+}

@@ -1,0 +1,16 @@
+//! The timing of a net.
+use logic3::Value;
+
+/// When a net looks at its pins, and what it shows before, in ticks.
+#[derive(Clone, Copy, Debug, PartialEq, Eq)]
+pub struct Timing {
+    /// 0 for an input, else 1 to 1,000,000.
+    pub delay: u64,
+    /// 1 to 10,000,000 for a flip-flop, else 0.
+    pub period: u64,
+    /// A flip-flop samples at the ticks of at least 1 whose remainder by the period is this. Below the
+    /// period for a flip-flop, else 0.
+    pub phase: u64,
+    /// What a flip-flop shows before its first sample shows; unknown for all others.
+    pub initial: Value,
+}

@@ -1,0 +1,149 @@
+//! The timing of each net, from a delay text.
+ghost use Rattle.std.specs.Prelude.{◌≡◌, ◌≢◌, ◌<◌, length, map, IfOk};
+ghost use Rattle.std.specs.Result.{result_map_both};
+ghost use Rattle.text_lines.specs.Text.{code_lines, longest_text, words_of};
+ghost use Rattle.netlist.specs.Netlist.{net_at};
+ghost use Rattle.timing_text.specs.TimingLines.{property_or_fault};
+ghost use Rattle.timing_text.specs.Timings.{are_header, net_lines, net_properties, net_timings, properties_of, timing_of_part, version_of};
+
+use crate::fault::DelayFault;
+use crate::line::{Clock, Properties, Property, Version, property_of_part, spelled_line};
+use crate::timing::Timing;
+use logic3::Value;
+use netlist::{Netlist, Part};
+use std::alloc::Global;
+use text_lines::{CodeLines, LONGEST_TEXT, code_lines, words_of};
+
+/// The property that a line gives a net.
+#[derive(Clone, Copy)]
+struct GivenProperty {
+    net: u32,
+    property: Property,
+}
+
+/// The timing of each net, by net number: that of its lines, else the default delay, and for a
+/// flip-flop this period, phase 0 and an unknown initial value.
+///
+/// # Errors
+/// The first fault of the text, as [`DelayFault`] says, or [`DelayFault::Memory`] where a growth was
+/// refused. A text that is too long is refused before any memory is taken.
+pub fn read_timings(
+    alloc: Global,
+    netlist: &Netlist,
+    text: &[u8],
+    default_delay: u64,
+    period: u64,
+) -> Result<Vec<Timing>, DelayFault>
+    ensures timings { result ≢ Err DelayFault.Memory →
+        result_map_both (λ timings. timings.items) (λ fault. fault) result
+        ≡ result_map_both (net_timings netlist.now default_delay period) (λ fault. fault) (properties_of netlist.now text.now) }
+    ensures at_once { longest_text < length text.now → result ≡ Err DelayFault.TooLong }
+{
+    let given = properties_given(alloc, netlist, text)?;
+    let mut timings = Vec::new(alloc);
+    for net in 0..netlist.nets() {
+        let part = netlist.part(net);
+        timings.push(timing_of_part(default_delay, period, given[net as usize], part))?;
+    }
+    Ok(timings)
+}
+
+/// The timing of a net of this part that was given these properties.
+fn timing_of_part(default_delay: u64, period: u64, given: Properties, part: Part) -> Timing
+    ensures { result ≡ timing_of_part default_delay period given part }
+{
+    let delay = given.delay.unwrap_or(default_delay);
+    let (delay, clock, initial) = match part {
+        Part::Input => (0, Clock::NONE, Value::Unknown),
+        Part::Gate(_) => (delay, Clock::NONE, Value::Unknown),
+        Part::Flop => (
+            delay,
+            given.clock.unwrap_or(Clock { period, phase: 0 }),
+            given.initial.unwrap_or(Value::Unknown),
+        ),
+    };
+    Timing {
+        delay,
+        period: clock.period,
+        phase: clock.phase,
+        initial,
+    }
+}
+
+/// What the lines of a text give each net, by net number.
+fn properties_given(
+    alloc: Global,
+    netlist: &Netlist,
+    text: &[u8],
+) -> Result<Vec<Properties>, DelayFault>
+    ensures given { result ≢ Err DelayFault.Memory →
+        result_map_both (λ given. given.items) (λ fault. fault) result
+        ≡ result_map_both (net_properties netlist.now) (λ fault. fault) (properties_of netlist.now text.now) }
+    ensures at_once { longest_text < length text.now → result ≡ Err DelayFault.TooLong }
+{
+    if text.len() > LONGEST_TEXT {
+        return Err(DelayFault::TooLong);
+    }
+    let mut given = vec![in alloc; Properties::none(); netlist.nets() as usize]?;
+    let (version, lines) = version_and_lines(text);
+    for (line, code) in lines {
+        let next = given_property(version, netlist, line, code)?;
+        let net = next.net as usize;
+        let had = given[net];
+        if had.has_kind(next.property) {
+            return Err(DelayFault::Twice { line });
+        }
+        given[net] = had.with(next.property);
+    }
+    Ok(given)
+}
+
+/// The version of a text, and its lines without a header.
+fn version_and_lines(text: &[u8]) -> (Version, CodeLines<'_>)
+    ensures version { result.0 ≡ version_of (code_lines text.now) }
+    ensures lines { result.1 ≡ net_lines (code_lines text.now) }
+{
+    let mut lines = code_lines(text);
+    match lines.next() {
+        Some((_, code)) if is_header(code) => (Version::Second, lines),
+        _ => (Version::First, code_lines(text)),
+    }
+}
+
+/// Whether a line is just the words `timing version 2`.
+fn is_header(code: &[u8]) -> bool
+    ensures { result ≡ are_header (words_of code.now) }
+{
+    let mut words = words_of(code);
+    let (Some(first), Some(second), Some(third), None) = (
+        words.next(),
+        words.next(),
+        words.next(),
+        words.next(),
+    ) else {
+        return false;
+    };
+    first == b"timing".as_slice() && second == b"version".as_slice() && third == b"2".as_slice()
+}
+
+/// What the line of this number gives, or its first fault; `code` is the line without its comment.
+fn given_property(
+    version: Version,
+    netlist: &Netlist,
+    line: u64,
+    code: &[u8],
+) -> Result<GivenProperty, DelayFault>
+    ensures net { IfOk result (λ given. given.net < length netlist.now.nets) }
+    ensures property { result_map_both (λ given. record { name = (net_at netlist.now given.net).name; property = given.property })
+        (λ fault. fault) result
+        ≡ property_or_fault version netlist.now (line, code.now) }
+{
+    let Some((name, spelled)) = spelled_line(version, code) else {
+        return Err(DelayFault::BadLine { line });
+    };
+    let Some(net) = netlist.find(name) else {
+        return Err(DelayFault::UnknownNet { line });
+    };
+    let property = property_of_part(line, spelled, netlist.part(net))?;
+    Ok(GivenProperty { net, property })
+}
