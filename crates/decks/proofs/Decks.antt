@@ -98,7 +98,7 @@ WritesPart-Sim (Err fault) old new part = part
 
 DeckEndsBy-or_fault : (answer : Result (List ℕ) SimFault) (old new : Option (List ℕ)) (fault : SimFault) → RunEndsBy answer old new fault →
     DeckEndsBy (or_fault Sim answer) old new (Sim fault)
-DeckEndsBy-or_fault answer old new (Dump fault) ends = IsOkAnd-Sim answer (AppendsPrefix old new) ends
+DeckEndsBy-or_fault answer old new (Dump fault) (failed, part) = (failed, IsOkAnd-Sim answer (AppendsPrefix old new) part)
 DeckEndsBy-or_fault answer old new Memory ends = WritesPart-Sim answer old new ends
 DeckEndsBy-or_fault answer old new _ ends = (ap (or_fault Sim) ends.0, ends.1)
 

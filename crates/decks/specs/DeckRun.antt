@@ -4,6 +4,7 @@ use Rattle.std.specs.Io.KnownBytes.{Keeps}
 use Rattle.text_lines.specs.Text.{◌>>=◌}
 use Rattle.vcd_dump.specs.declared.unit.TimeUnit.TheVariants.{Ns}
 use Rattle.vcd_dump.specs.Bytes.{AppendsPrefix}
+use Rattle.vcd_dump.specs.Faults.{IsFailedWrite}
 use Rattle.deck_text.specs.declared.fault.DeckTextFault.{DeckTextFault}
 use Rattle.deck_text.specs.declared.fault.DeckTextFault.TheVariants as no_deck
 use Rattle.deck_text.specs.Deck.{Sections, sections_of}
@@ -54,7 +55,7 @@ dump_of_deck bytes = dump_in (simulated_deck bytes)
 
 -- a failed write broke the dump off, and a want of memory the run; any other fault is the answer, and nothing went out
 abbrev pub DeckEndsBy : Result (List ℕ) DeckFault → Option (List ℕ) → Option (List ℕ) → DeckFault → Type 0
-DeckEndsBy answer old new (Sim (Dump fault)) = IsOkAnd answer (AppendsPrefix old new)
+DeckEndsBy answer old new (Sim (Dump fault)) = IsFailedWrite fault × IsOkAnd answer (AppendsPrefix old new)
 DeckEndsBy answer old new (Sim Memory) = WritesPart answer old new
 DeckEndsBy answer old new fault = (answer ≡ Err fault) × Keeps old new
 

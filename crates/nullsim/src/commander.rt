@@ -2,6 +2,7 @@
 ghost use Rattle.std.specs.Prelude.{◌≡◌, ◌≢◌, IfErr, OnErr, OnOk};
 ghost use Rattle.std.specs.Io.KnownBytes.{Appends, Keeps};
 ghost use Rattle.vcd_dump.specs.Bytes.{AppendsPrefix};
+ghost use Rattle.vcd_dump.specs.Faults.{IsFailedWrite};
 ghost use Rattle.nullsim.specs.Command.{CommandEnds, Explains, OrderTold, counts_line, line_of_numbers};
 
 use crate::words::order_of_words;
@@ -73,8 +74,7 @@ pub fn answer_order<T: Texts, W: Write, E: Write>(
 pub fn write_counts_line<E: Write>(err: &mut E, counts: Counts) -> Result<(), DumpFault>
     ensures ok { OnOk result (Appends (E.contents err.old) (E.contents err.new) (counts_line counts)) }
     ensures err { OnErr result (AppendsPrefix (E.contents err.old) (E.contents err.new) (counts_line counts)) }
-    ensures no_memory { IfErr result (λ fault. fault ≢ DumpFault.Memory) }
-    ensures fault { IfErr result (λ fault. fault ≢ DumpFault.Failed) }
+    ensures fault { IfErr result IsFailedWrite }
 {
     let (mut events, mut changes) = (Buffer::new(), Buffer::new());
     let (mut nulls, mut rounds) = (Buffer::new(), Buffer::new());
@@ -99,8 +99,7 @@ fn write_numbers<'a, E: Write>(
         (line_of_numbers events.now changes.now nulls.now rounds.now)) }
     ensures err { OnErr result (AppendsPrefix (E.contents err.old) (E.contents err.new)
         (line_of_numbers events.now changes.now nulls.now rounds.now)) }
-    ensures no_memory { IfErr result (λ fault. fault ≢ DumpFault.Memory) }
-    ensures fault { IfErr result (λ fault. fault ≢ DumpFault.Failed) }
+    ensures fault { IfErr result IsFailedWrite }
 {
     let pieces = [
         "events ",

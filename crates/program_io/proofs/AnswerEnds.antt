@@ -70,8 +70,8 @@ module _ (P : Result Answer ProgramFault → Type 0) where
     -- ends by a fault of it
     pub AnswerEndsBy-run : (result : Result A SimFault) → P (answered answer_of result) → (old new : Option (List ℕ)) (fault : SimFault) →
         RunEndsBy (text_in result) old new fault → AnswerEndsBy P old new (fault_of_run First fault)
-    AnswerEndsBy-run (Ok value) is old new (Dump broken) part = (answer_of value, is, part)
-    AnswerEndsBy-run (Err fault) is old new (Dump broken) part = absurd part
+    AnswerEndsBy-run (Ok value) is old new (Dump broken) (failed, part) = (failed, (answer_of value, is, part))
+    AnswerEndsBy-run (Err fault) is old new (Dump broken) (failed, part) = absurd part
     AnswerEndsBy-run (Ok value) is old new Memory part = inr (answer_of value, is, part)
     AnswerEndsBy-run (Err fault) is old new Memory kept = inl kept
     AnswerEndsBy-run result is old new fault ends = (subst (P) (answered-refused result fault ends.0) is, ends.1)
@@ -106,7 +106,7 @@ module _ (P : Result Answer ProgramFault → Type 0) where
     GoesOut-text done = (just text, is, (rw (← same) done, refl))
 
     pub AnswerEndsBy-text : (fault : ProgramFault) → WriteEndsBy old new written fault → AnswerEndsBy P old new fault
-    AnswerEndsBy-text fault (inl (broken, is_output, part)) = rw is_output (just text, is, rw (← same) part)
+    AnswerEndsBy-text fault (inl (broken, is_output, failed, part)) = rw is_output (failed, (just text, is, rw (← same) part))
     AnswerEndsBy-text fault (inr (is_flush, done)) = rw is_flush (just text, is, rw (← same) done)
 
   -- a flush keeps what was written
@@ -125,7 +125,7 @@ fault_of_run-no_read side Memory = tt
 fault_of_run-no_read side fault = tt
 
 pub WriteEndsBy-no_read : (old new : Option (List ℕ)) (text : List ℕ) (fault : ProgramFault) → WriteEndsBy old new text fault → IsNoRead fault
-WriteEndsBy-no_read old new text fault (inl (broken, is, part)) = rw is tt
+WriteEndsBy-no_read old new text fault (inl (broken, is, failed, part)) = rw is tt
 WriteEndsBy-no_read old new text fault (inr (is, done)) = rw is tt
 
 -- ---- an answer of one kind is one of another
@@ -138,7 +138,7 @@ module _ (P Q : Result Answer ProgramFault → Type 0) (turns : (answer : Result
   AnswerEndsBy-weaker (Read name) ends = ends
   AnswerEndsBy-weaker program.Memory (inl kept) = inl kept
   AnswerEndsBy-weaker program.Memory (inr (answer, is, part)) = inr (answer, turns (Ok answer) is, part)
-  AnswerEndsBy-weaker (Output broken) (answer, is, part) = (answer, turns (Ok answer) is, part)
+  AnswerEndsBy-weaker (Output broken) (failed, (answer, is, part)) = (failed, (answer, turns (Ok answer) is, part))
   AnswerEndsBy-weaker Flush (answer, is, done) = (answer, turns (Ok answer) is, done)
   AnswerEndsBy-weaker fault ends = (turns (Err fault) ends.0, ends.1)
 

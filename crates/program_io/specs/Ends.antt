@@ -3,6 +3,7 @@ use Rattle.std.specs.Prelude.{◌≡◌, ◌⊎◌, ℕ, List, Option, Result, O
 use Rattle.std.specs.Io.KnownBytes.{Appends, Keeps}
 use Rattle.vcd_dump.specs.declared.fault.DumpFault.{DumpFault}
 use Rattle.vcd_dump.specs.Bytes.{AppendsPrefix}
+use Rattle.vcd_dump.specs.Faults.{IsFailedWrite}
 use Rattle.program_io.specs.declared.program_fault.ProgramFault.{ProgramFault}
 use Rattle.program_io.specs.declared.program_fault.ProgramFault.TheVariants.{Read, Output, Memory, Flush}
 
@@ -19,11 +20,11 @@ PartWentOut text_of IsAnswer old new = ForAnswer IsAnswer (λ answer. AppendsPre
 abbrev pub ProgramEndsBy : {A : Type 0} → (A → List ℕ) → (Result A ProgramFault → Type 0) → Option (List ℕ) → Option (List ℕ) → ProgramFault → Type 0
 ProgramEndsBy text_of IsAnswer old new (Read name) = Keeps old new
 ProgramEndsBy text_of IsAnswer old new Memory = Keeps old new ⊎ PartWentOut text_of IsAnswer old new
-ProgramEndsBy text_of IsAnswer old new (Output fault) = PartWentOut text_of IsAnswer old new
+ProgramEndsBy text_of IsAnswer old new (Output fault) = IsFailedWrite fault × PartWentOut text_of IsAnswer old new
 ProgramEndsBy text_of IsAnswer old new Flush = ForAnswer IsAnswer (λ answer. Appends old new (text_of answer))
 ProgramEndsBy text_of IsAnswer old new fault = IsAnswer (Err fault) × Keeps old new
 
 -- a write failed behind a first part of a text, or the flush behind the whole of it
 abbrev pub WriteEndsBy : Option (List ℕ) → Option (List ℕ) → List ℕ → ProgramFault → Type 0
 WriteEndsBy old new text fault =
-    ((failed : DumpFault) × (fault ≡ Output failed) × AppendsPrefix old new text) ⊎ ((fault ≡ Flush) × Appends old new text)
+    ((failed : DumpFault) × (fault ≡ Output failed) × IsFailedWrite failed × AppendsPrefix old new text) ⊎ ((fault ≡ Flush) × Appends old new text)

@@ -1,8 +1,9 @@
 //! What the program says and answers where it ended early.
-ghost use Rattle.std.specs.Prelude.{◌≢◌, ◌++◌, IfErr, OnErr, OnOk, codes};
+ghost use Rattle.std.specs.Prelude.{◌++◌, IfErr, OnErr, OnOk, codes};
 ghost use Rattle.std.specs.Io.KnownBytes.{Appends};
 ghost use Rattle.vcd_dump.specs.Bytes.{AppendsPrefix};
 ghost use Rattle.vcd_dump.specs.Dump.{line};
+ghost use Rattle.vcd_dump.specs.Faults.{IsFailedWrite};
 ghost use Rattle.program_io.specs.Place.{called, fault_line};
 ghost use Rattle.program_io.specs.Report.{Reports};
 
@@ -27,8 +28,7 @@ pub fn write_fault_line<E: Write>(
         (fault_line (called names.entry) fault.entry)) }
     ensures err { OnErr result (AppendsPrefix (E.contents err.old) (E.contents err.new)
         (fault_line (called names.entry) fault.entry)) }
-    ensures no_memory { IfErr result (λ fault. fault ≢ DumpFault.Memory) }
-    ensures fault { IfErr result (λ fault. fault ≢ DumpFault.Failed) }
+    ensures fault { IfErr result IsFailedWrite }
 {
     let mut buffer = Buffer::new();
     let number = buffer.format(fault.line());
@@ -46,8 +46,7 @@ fn write_line_of<'a, E: Write>(
         (line (place.now ++ codes ":" ++ number.now ++ codes ": " ++ name.now))) }
     ensures err { OnErr result (AppendsPrefix (E.contents err.old) (E.contents err.new)
         (line (place.now ++ codes ":" ++ number.now ++ codes ": " ++ name.now))) }
-    ensures no_memory { IfErr result (λ fault. fault ≢ DumpFault.Memory) }
-    ensures fault { IfErr result (λ fault. fault ≢ DumpFault.Failed) }
+    ensures fault { IfErr result IsFailedWrite }
 {
     write_pieces(err, &[place, ":", number, ": ", name, "\n"])
 }

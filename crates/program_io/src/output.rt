@@ -1,8 +1,9 @@
 //! Texts that go out whole.
-ghost use Rattle.std.specs.Prelude.{◌≡◌, ◌≢◌, map, IfErr, OnErr, OnOk};
+ghost use Rattle.std.specs.Prelude.{◌≡◌, map, IfErr, OnErr, OnOk};
 ghost use Rattle.std.specs.List.{concat};
 ghost use Rattle.std.specs.Io.KnownBytes.{Appends, Keeps};
 ghost use Rattle.vcd_dump.specs.Bytes.{AppendsPrefix};
+ghost use Rattle.vcd_dump.specs.Faults.{IsFailedWrite};
 ghost use Rattle.program_io.specs.Ends.{WriteEndsBy};
 ghost use Rattle.program_io.specs.declared.program_fault.ProgramFault.TheVariants.{Flush};
 
@@ -33,8 +34,7 @@ pub fn write_pieces<W: Write>(out: &mut W, pieces: &[&str]) -> Result<(), DumpFa
         (concat (map (λ piece. piece.now) pieces.now))) }
     ensures err { OnErr result (AppendsPrefix (W.contents out.old) (W.contents out.new)
         (concat (map (λ piece. piece.now) pieces.now))) }
-    ensures no_memory { IfErr result (λ fault. fault ≢ DumpFault.Memory) }
-    ensures fault { IfErr result (λ fault. fault ≢ DumpFault.Failed) }
+    ensures fault { IfErr result IsFailedWrite }
 {
     for piece in pieces {
         write_all_bytes(out, piece.as_bytes())?;

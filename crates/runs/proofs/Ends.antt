@@ -1,5 +1,5 @@
 -- How a run ends, from how its parts do.
-use Rattle.std.proofs.Common.{ℕ, List, length, take, Option, Result, Ok, Err, IsOkAnd, OnOk, ◌≡◌, sym, subst, arith}
+use Rattle.std.proofs.Common.{ℕ, List, length, take, Option, Result, Ok, Err, IsOkAnd, OnOk, ◌≡◌, ◌≢◌, refl, sym, subst, arith}
 use Rattle.std.specs.Io.KnownBytes.{Appends, Keeps}
 use Rattle.std.proofs.KnownBytes.{Appends-nil, Appends-kept, Keeps-refl}
 use Rattle.std.proofs.lemmas.List.{take_all}
@@ -11,11 +11,13 @@ use Rattle.runs.specs.declared.fault.SimFault.TheVariants.{Dump, Memory}
 use Rattle.runs.specs.Faults.{sim_of_dump}
 use Rattle.runs.specs.Ends.{BreaksOff, RunEndsBy, IsRefusal, WritesPart}
 
--- a fault of the dump breaks the answer off
-pub BreaksOff-dump : (old new : Option (List ℕ)) (text : List ℕ) (fault : DumpFault) → AppendsPrefix old new text →
+-- a fault of the dump breaks the answer off, unless it only tells of an earlier one
+pub BreaksOff-dump : (old new : Option (List ℕ)) (text : List ℕ) (fault : DumpFault) → fault ≢ dump.Failed → AppendsPrefix old new text →
     BreaksOff old new text (sim_of_dump fault)
-BreaksOff-dump old new text dump.Memory part = part
-BreaksOff-dump old new text _ part = part
+BreaksOff-dump old new text dump.Write first part = (tt, part)
+BreaksOff-dump old new text dump.WroteNothing first part = (tt, part)
+BreaksOff-dump old new text dump.Memory first part = part
+BreaksOff-dump old new text dump.Failed first part = absurd (first refl)
 
 -- an answer that breaks off ends so
 pub RunEndsBy-BreaksOff : (old new : Option (List ℕ)) (text : List ℕ) (fault : SimFault) → BreaksOff old new text fault → RunEndsBy (Ok text) old new fault

@@ -1,5 +1,5 @@
 -- A run's dump, span by span.
-use Rattle.std.proofs.Common.{◌≡◌, ℕ, ◌+◌, ◌≤◌, List, ◌++◌, Option, ap, sym, subst, ◌∙◌, arith, append-nil, append_assoc}
+use Rattle.std.proofs.Common.{◌≡◌, ◌≢◌, ℕ, ◌+◌, ◌≤◌, List, ◌++◌, Option, ap, sym, subst, ◌∙◌, arith, append-nil, append_assoc}
 use Rattle.std.specs.Io.KnownBytes.{Appends}
 use Rattle.std.proofs.KnownBytes.{Appends-trans}
 use Rattle.logic3.specs.declared.value.Value.{Value}
@@ -7,6 +7,7 @@ use Rattle.design.specs.Circuit.{Circuit}
 use Rattle.design.specs.Equations.{value_of}
 use Rattle.vcd_dump.specs.declared.unit.TimeUnit.{TimeUnit}
 use Rattle.vcd_dump.specs.declared.fault.DumpFault.{DumpFault}
+use Rattle.vcd_dump.specs.declared.fault.DumpFault.TheVariants.{Failed}
 use Rattle.vcd_dump.specs.Bytes.{AppendsPrefix}
 use Rattle.vcd_dump.specs.Dump.{declarations, dump_text}
 use Rattle.vcd_dump.specs.Spans.{StreamView, last_text, parts_of, span_text, stream_at}
@@ -25,14 +26,15 @@ use Rattle.runs.specs.Source.{signals_of}
 -- behind a text that went out
 pub BreaksOff-after : (old mid new : Option (List ℕ)) (text more : List ℕ) (fault : SimFault) → Appends old mid text → BreaksOff mid new more fault →
     BreaksOff old new (text ++ more) fault
-BreaksOff-after old mid new text more (Dump fault) went part = AppendsPrefix-after old mid new text more went part
+BreaksOff-after old mid new text more (Dump fault) went (failed, part) = (failed, AppendsPrefix-after old mid new text more went part)
 BreaksOff-after old mid new text more Memory went part = AppendsPrefix-after old mid new text more went part
 BreaksOff-after old mid new text more _ went part = absurd part
 
 -- in the first part of a text
 pub BreaksOff-longer : (old new : Option (List ℕ)) (text rest whole : List ℕ) (fault : SimFault) → text ++ rest ≡ whole → BreaksOff old new text fault →
     BreaksOff old new whole fault
-BreaksOff-longer old new text rest whole (Dump fault) is part = subst (AppendsPrefix old new) is (AppendsPrefix-longer old new text rest part)
+BreaksOff-longer old new text rest whole (Dump fault) is (failed, part) =
+    (failed, subst (AppendsPrefix old new) is (AppendsPrefix-longer old new text rest part))
 BreaksOff-longer old new text rest whole Memory is part = subst (AppendsPrefix old new) is (AppendsPrefix-longer old new text rest part)
 BreaksOff-longer old new text rest whole _ is part = absurd part
 
@@ -84,12 +86,12 @@ module _ (unit : TimeUnit) (horizon : ℕ) (circuit : Circuit) (nets : List ℕ)
   -- ---- steps of a stream, from what a writer held at first
 
   -- the declarations broke off
-  pub breaks_at_first : (first now : Option (List ℕ)) (fault : DumpFault) → AppendsPrefix first now (declarations unit (named circuit nets)) →
+  pub breaks_at_first : (first now : Option (List ℕ)) (fault : DumpFault) → fault ≢ Failed → AppendsPrefix first now (declarations unit (named circuit nets)) →
       BreaksOff first now whole (sim_of_dump fault)
-  breaks_at_first first now fault part =
+  breaks_at_first first now fault new part =
       BreaksOff-longer first now (declarations unit (named circuit nets)) (text_from 0) whole (sim_of_dump fault)
       (ap (λ text. text ++ text_from 0) text_begins ∙ text_whole 0 (omega arith))
-      (BreaksOff-dump first now (declarations unit (named circuit nets)) fault part)
+      (BreaksOff-dump first now (declarations unit (named circuit nets)) fault new part)
 
   module _ (first held : Option (List ℕ)) (from : ℕ) (went : Appends first held (text_before from)) where
     -- a span more
@@ -123,8 +125,8 @@ module _ (unit : TimeUnit) (horizon : ℕ) (circuit : Circuit) (nets : List ℕ)
     ends now stream here at last =
         subst (Appends first now) (text_end stream here at) (Appends-trans first held now (text_before from) (last_text stream) went last)
 
-    pub breaks_at_end : (now : Option (List ℕ)) (stream : StreamView) (fault : DumpFault) → from ≡ horizon + 1 → stream ≡ stream_at values horizon from →
+    pub breaks_at_end : (now : Option (List ℕ)) (stream : StreamView) (fault : DumpFault) → fault ≢ Failed → from ≡ horizon + 1 → stream ≡ stream_at values horizon from →
         AppendsPrefix held now (last_text stream) → BreaksOff first now whole (sim_of_dump fault)
-    breaks_at_end now stream fault here at part =
-        BreaksOff-dump first now whole fault
+    breaks_at_end now stream fault new here at part =
+        BreaksOff-dump first now whole fault new
         (subst (AppendsPrefix first now) (text_end stream here at) (AppendsPrefix-after first held now (text_before from) (last_text stream) went part))

@@ -2,6 +2,7 @@
 use Rattle.std.specs.Prelude.{◌≡◌, ℕ, List, Option, Result, Ok, Err, IsOkAnd}
 use Rattle.std.specs.Io.KnownBytes.{Keeps}
 use Rattle.vcd_dump.specs.Bytes.{AppendsPrefix}
+use Rattle.vcd_dump.specs.Faults.{IsFailedWrite}
 use Rattle.runs.specs.declared.fault.SimFault.{SimFault}
 use Rattle.runs.specs.declared.fault.SimFault.TheVariants.{Dump, Memory}
 
@@ -12,7 +13,7 @@ WritesPart (Err fault) old new = Keeps old new
 
 -- a failed write broke the dump off, and a want of memory the run; any other fault is the answer, and nothing went out
 abbrev pub RunEndsBy : Result (List ℕ) SimFault → Option (List ℕ) → Option (List ℕ) → SimFault → Type 0
-RunEndsBy answer old new (Dump fault) = IsOkAnd answer (AppendsPrefix old new)
+RunEndsBy answer old new (Dump fault) = IsFailedWrite fault × IsOkAnd answer (AppendsPrefix old new)
 RunEndsBy answer old new Memory = WritesPart answer old new
 RunEndsBy answer old new fault = (answer ≡ Err fault) × Keeps old new
 
@@ -24,6 +25,6 @@ IsRefusal answer fault = answer ≡ Err fault
 
 -- behind that: a write failed or memory was wanting, when a first part of the text had gone out
 abbrev pub BreaksOff : Option (List ℕ) → Option (List ℕ) → List ℕ → SimFault → Type 0
-BreaksOff old new text (Dump fault) = AppendsPrefix old new text
+BreaksOff old new text (Dump fault) = IsFailedWrite fault × AppendsPrefix old new text
 BreaksOff old new text Memory = AppendsPrefix old new text
 BreaksOff old new text fault = ⊥

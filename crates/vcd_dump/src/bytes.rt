@@ -1,6 +1,7 @@
-ghost use Rattle.std.specs.Prelude.{◌≢◌, ◌<◌, length, OnOk, OnErr, IfErr};
+ghost use Rattle.std.specs.Prelude.{◌<◌, length, OnOk, OnErr, IfErr};
 ghost use Rattle.std.specs.Io.KnownBytes.{Appends};
 ghost use Rattle.vcd_dump.specs.Bytes.{AppendsPrefix};
+ghost use Rattle.vcd_dump.specs.Faults.{IsFailedWrite};
 
 use crate::fault::DumpFault;
 use std::io::Write;
@@ -14,8 +15,7 @@ pub fn write_all_bytes<W: Write>(out: &mut W, text: &[u8]) -> Result<(), DumpFau
     ensures ok { OnOk result (Appends (W.contents out.old) (W.contents out.new) text.now) }
     ensures err { OnErr result (AppendsPrefix (W.contents out.old) (W.contents out.new) text.now) }
     ensures some { OnErr result (0 < length text.now) }
-    ensures no_memory { IfErr result (λ fault. fault ≢ DumpFault.Memory) }
-    ensures fault { IfErr result (λ fault. fault ≢ DumpFault.Failed) }
+    ensures fault { IfErr result IsFailedWrite }
 {
     let mut at = 0;
     while at < text.len() {

@@ -23,7 +23,7 @@ pub returns-in_err-dump-clause-err : goal.returns-in_err-dump-clause-err
 returns-in_err-dump-clause-err g c =
     let p = err_from_is_err_and c.from_residual.result c.from_residual.ensures.1 in
     let text = dump_of_design-waves c.args.view.now c.args.horizon c.args.design.now c.args.nets.now c.args.waves.now c.requires.nets c.requires.waves in
-    rw (p.1, p.2) (BreaksOff-dump _ _ _ _ (subst (AppendsPrefix _ _) text c.in_err-dump.ensures.err))
+    rw (p.1, p.2) (BreaksOff-dump _ _ _ _ c.in_err-dump.ensures.fault (subst (AppendsPrefix _ _) text c.in_err-dump.ensures.err))
 
 pub returns-clause-ok : goal.returns-clause-ok
 returns-clause-ok g c =

@@ -1,4 +1,4 @@
-use Rattle.std.proofs.Common.{◌≡◌, ℕ, ◌+◌, List, ap, sym, subst, ◌∙◌, arith, length}
+use Rattle.std.proofs.Common.{◌≡◌, ◌≢◌, ℕ, ◌+◌, List, Err, false, ap, sym, subst, ◌∙◌, arith, length}
 use Rattle.std.specs.Io.KnownBytes.{Appends}
 use Rattle.std.proofs.lemmas.List.{length-map}
 use Rattle.std.proofs.lemmas.Result.{err_from_is_err_and}
@@ -6,6 +6,7 @@ use Rattle.design.specs.Circuit.{Circuit, IsCircuit}
 use Rattle.design.specs.Equations.{value_of}
 use Rattle.design.proofs.CallerLemmas.{IsCircuit-from_IsDesign}
 use Rattle.cmb_kernel.specs.State.{KernelView}
+use Rattle.vcd_dump.specs.declared.fault.DumpFault.TheVariants.{Failed}
 use Rattle.vcd_dump.specs.Spans.{StreamView, begun, parts_of, span_text, stream_at}
 use Rattle.vcd_dump.proofs.CallerLemmas.{stream_at-begun}
 use Rattle.runs.specs.Drained.{values_of}
@@ -41,7 +42,7 @@ pub returns-in_err-stream-clause-err : goal.returns-in_err-stream-clause-err
 returns-in_err-stream-clause-err g c =
     let p = err_from_is_err_and c.from_residual-in_err-stream.result c.from_residual-in_err-stream.ensures.1 in
     rw (p.1, p.2)
-    (breaks_at_first c.args.unit c.args.run.now.horizon c.args.run.now.design.circuit c.args.nets.now (g.W.Write.contents c.args.out.now) (g.W.Write.contents c.begin.new.out) c.in_err-stream.field-0.0 c.in_err-stream.ensures.err)
+    (breaks_at_first c.args.unit c.args.run.now.horizon c.args.run.now.design.circuit c.args.nets.now (g.W.Write.contents c.args.out.now) (g.W.Write.contents c.begin.new.out) c.in_err-stream.field-0.0 c.in_err-stream.ensures.fault c.in_err-stream.ensures.err)
 
 pub loop-stream-init : goal.loop-stream-init
 loop-stream-init g c =
@@ -107,8 +108,10 @@ returns-in_err-finish-clause-err g c =
     let to = c.least_frontier-known.result in
     let went = goes_on c.args.unit c.args.run.now.horizon c.args.run.now.design.circuit c.args.nets.now (g.W.Write.contents c.args.out.now) (g.W.Write.contents c.loop-stream.out) from inv.text (g.W.Write.contents c.write_known.new.out) to (ahead_of inv.streamed.ahead c.least_frontier-known.ensures)
     (subst (λ cs. Appends (g.W.Write.contents c.loop-stream.out) (g.W.Write.contents c.write_known.new.out) (span_text from to (parts_of (values_of cs c.args.nets.now) from to))) circuit c.in_ok-write_known.ensures.ok) in
+    let fresh : c.write_known.new.stream.failed ≡ false = ap (λ (s : StreamView). s.failed) next in
+    let first : c.in_err-finish.field-0.0 ≢ Failed = λ same. let told = c.in_err-finish.ensures.only (ap Err same) in (cc) in
     rw (p.1, p.2)
-    (breaks_at_end c.args.unit c.args.run.now.horizon c.args.run.now.design.circuit c.args.nets.now (g.W.Write.contents c.args.out.now) (g.W.Write.contents c.write_known.new.out) to went (g.W.Write.contents c.finish.new.out) c.write_known.new.stream c.in_err-finish.field-0.0
+    (breaks_at_end c.args.unit c.args.run.now.horizon c.args.run.now.design.circuit c.args.nets.now (g.W.Write.contents c.args.out.now) (g.W.Write.contents c.write_known.new.out) to went (g.W.Write.contents c.finish.new.out) c.write_known.new.stream c.in_err-finish.field-0.0 first
     all next c.in_err-finish.ensures.err)
 
 pub returns-then-known-end-clause-counts : goal.returns-then-known-end-clause-counts

@@ -1,10 +1,11 @@
-use Rattle.std.proofs.Common.{◌≡◌, ◌<◌, length, All, ap, sym, subst, ◌∙◌, arith, ⊎_elim}
+use Rattle.std.proofs.Common.{◌≡◌, ◌≢◌, ◌<◌, Err, false, length, All, ap, sym, subst, ◌∙◌, arith, ⊎_elim}
 use Rattle.std.specs.Io.KnownBytes.{Appends}
 use Rattle.std.proofs.lemmas.List.{length-map}
 use Rattle.std.proofs.lemmas.List.Elements.{All-contains}
 use Rattle.std.proofs.lemmas.Result.{err_from_is_err_and}
 use Rattle.design.specs.Equations.{value_of}
 use Rattle.cmb_kernel.specs.State.{KernelView, floor_at}
+use Rattle.vcd_dump.specs.declared.fault.DumpFault.TheVariants.{Failed}
 use Rattle.vcd_dump.specs.Bytes.{AppendsPrefix}
 use Rattle.vcd_dump.specs.Spans.{StreamView, CanSpan, lines_text, parts_of, span_text, spanned, stream_at, with_parts}
 use Rattle.vcd_dump.proofs.CallerLemmas.{stream_at-can, stream_at-spanned, with_parts-none}
@@ -65,7 +66,11 @@ text_is g c = ap (λ (s : StreamView). lines_text s.written c.args.known s.lines
 pub returns-in_err-span-clause-err : goal.returns-in_err-span-clause-err
 returns-in_err-span-clause-err g c =
     let p = err_from_is_err_and c.from_residual-in_err-span.result c.from_residual-in_err-span.ensures.1 in
-    rw (p.1, p.2) (BreaksOff-dump _ _ _ _ (subst (AppendsPrefix _ _) (text_is g (goal.at.returns-in_err-span-clause-err g c).In_ok-give_parts) c.in_err-span.ensures.err))
+    let given = given_is g (goal.at.returns-in_err-span-clause-err g c).In_ok-give_parts in
+    let fresh : c.give_parts.new.stream.failed ≡ false = ap (λ (s : StreamView). s.failed) given in
+    let first : c.in_err-span.field-0.0 ≢ Failed = λ same. let told = c.in_err-span.ensures.only (ap Err same) in (cc) in
+    rw (p.1, p.2)
+    (BreaksOff-dump _ _ _ _ first (subst (AppendsPrefix _ _) (text_is g (goal.at.returns-in_err-span-clause-err g c).In_ok-give_parts) c.in_err-span.ensures.err))
 
 pub returns-clause-drains : goal.returns-clause-drains
 returns-clause-drains g c =
