@@ -2,8 +2,8 @@
 ghost use Rattle.std.specs.Prelude.{◌≡◌, OnOk};
 
 use crate::circuits::{
-    CLOCKED, Circuit, GATED_OSCILLATOR, INVERTER, LATE_PIN, PRESET_RING, RING_COUNTER, SAMPLER, SELF_INVERTER,
-    SLOW_INVERTER,
+    CLOCKED, Circuit, GATED_OSCILLATOR, INVERTER, LATE_PIN, PRESET_RING, RING_COUNTER, SAMPLER,
+    SELF_INVERTER, SLOW_INVERTER,
 };
 use Event::{Advance, Deliver};
 use cmb_channels::{Fabric, Logs, Queues};

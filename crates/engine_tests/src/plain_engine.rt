@@ -99,11 +99,20 @@ static CLOCKS: [(&[u8], &[(u32, Value)]); 7] = [
     (b"timing version 2\nclock q 1 0", &[(5, One), (6, Zero)]),
     // The last phase of a period.
     (b"timing version 2\nclock q 4 3", &[(8, Zero)]),
-    (b"timing version 2\nclock q 4 3\ninit q 0", &[(0, Zero), (4, Unknown), (8, Zero)]),
+    (
+        b"timing version 2\nclock q 4 3\ninit q 0",
+        &[(0, Zero), (4, Unknown), (8, Zero)],
+    ),
     // No sample up to the horizon: the period is longer, or the phase is past it.
-    (b"timing version 2\nclock q 10000000 0\ninit q 1", &[(0, One)]),
+    (
+        b"timing version 2\nclock q 10000000 0\ninit q 1",
+        &[(0, One)],
+    ),
     (b"timing version 2\nclock q 100 50\ninit q 1", &[(0, One)]),
-    (b"timing version 2\nclock q 10000000 9999999\ninit q 0", &[(0, Zero)]),
+    (
+        b"timing version 2\nclock q 10000000 9999999\ninit q 0",
+        &[(0, Zero)],
+    ),
     // The first sample at the horizon shows a delay later.
     (b"timing version 2\nclock q 100 9\ninit q 1", &[(0, One)]),
 ];
@@ -121,7 +130,12 @@ fn clocks(rt: HostRuntime) -> Result<(), Fail> {
 fn clocks_and_initial_values(rt: HostRuntime) -> Result<(), Fail> {
     let rings = [(0, Zero), (4, One), (7, Zero), (10, One)];
     for (circuit, horizon, net, changes) in [
-        (CLOCKED, 9, b"q", [(0, Zero), (2, Unknown), (6, Zero)].as_slice()),
+        (
+            CLOCKED,
+            9,
+            b"q",
+            [(0, Zero), (2, Unknown), (6, Zero)].as_slice(),
+        ),
         (PRESET_RING, 10, b"q", rings.as_slice()),
         (PRESET_RING, 10, b"n", &[(1, One), (5, Zero), (8, One)]),
         (TWO_CLOCKS, 14, b"q", &[(3, One), (9, Zero), (12, One)]),

@@ -81,7 +81,10 @@ static FAULTY_DELAYS: [(&[u8], DelayFault); 9] = [
     (b"y", DelayFault::BadLine { line: 1 }),
     // No header of the second version.
     (b"timing version 3", DelayFault::BadLine { line: 1 }),
-    (b"timing version 02\ndelay y 2", DelayFault::BadLine { line: 1 }),
+    (
+        b"timing version 02\ndelay y 2",
+        DelayFault::BadLine { line: 1 },
+    ),
     (
         b"y 9999999999999999999999999999999999999999999999999999999999999999999999999999999999999999999999999999",
         DelayFault::BadTicks { line: 1 },
@@ -105,7 +108,10 @@ fn faulty_delays(rt: HostRuntime) -> Result<(), Fail> {
 }
 
 fn build_flop(alloc: Global, lines: &[u8]) -> Result<Result<Design, BuildFault>, Fail> {
-    let mut text = Vec::from_slice(alloc, b"# a flip-flop\n\ttiming version 2 # and its clock\n")?;
+    let mut text = Vec::from_slice(
+        alloc,
+        b"# a flip-flop\n\ttiming version 2 # and its clock\n",
+    )?;
     text.extend_from_slice(lines)?;
     let netlist = read(alloc, b"INPUT(d)\nq = DFF(d)\n")?;
     Ok(Design::build(alloc, netlist, &text, b"", 1, 4))
@@ -127,12 +133,18 @@ static FAULTY_CLOCKS: [(&[u8], DelayFault); 25] = [
     (b"clock d 0 9", DelayFault::NotAFlop { line: 3 }),
     (b"init d z", DelayFault::NotAFlop { line: 3 }),
     (b"clock q 0 9", DelayFault::BadPeriod { line: 3 }),
-    (b"clock q 4 1\nclock q 4 4", DelayFault::BadPhase { line: 4 }),
+    (
+        b"clock q 4 1\nclock q 4 4",
+        DelayFault::BadPhase { line: 4 },
+    ),
     (b"clock zz x 1", DelayFault::BadLine { line: 3 }),
     // Second lines of a kind.
     (b"clock q 4 1\nclock q 4 1", DelayFault::Twice { line: 4 }),
     (b"init q 0\ninit q x", DelayFault::Twice { line: 4 }),
-    (b"delay q 2\ninit q 0\nclock q 4 1\ndelay q 2", DelayFault::Twice { line: 6 }),
+    (
+        b"delay q 2\ninit q 0\nclock q 4 1\ndelay q 2",
+        DelayFault::Twice { line: 6 },
+    ),
     // Lines of no form.
     (b"timing version 2", DelayFault::BadLine { line: 3 }),
     (b"q 2", DelayFault::BadLine { line: 3 }),
@@ -143,7 +155,12 @@ static FAULTY_CLOCKS: [(&[u8], DelayFault); 25] = [
     (b"init q 0 \x0B", DelayFault::BadLine { line: 3 }),
 ];
 
-fn flop_answers(rt: &impl Abort, alloc: Global, lines: &[u8], fault: DelayFault) -> Result<(), Fail> {
+fn flop_answers(
+    rt: &impl Abort,
+    alloc: Global,
+    lines: &[u8],
+    fault: DelayFault,
+) -> Result<(), Fail> {
     let answer = build_flop(alloc, lines)?;
     assert!(rt; answer.err() == Some(BuildFault::Timing(fault)));
     Ok(())
@@ -171,14 +188,30 @@ fn has_timing(rt: &impl Abort, built: &Design, timing: Timing) {
     assert!(rt; built.period(1) == timing.period);
     assert!(rt; built.phase(1) == timing.phase);
     assert!(rt; built.init(1) == timing.initial);
-    assert!(rt; built.timing(0) == Timing { delay: 0, period: 0, phase: 0, initial: Value::Unknown });
+    assert!(rt;
+        built.timing(0)
+            == Timing {
+                delay: 0,
+                period: 0,
+                phase: 0,
+                initial: Value::Unknown
+            }
+    );
 }
 
 // Lines behind the header, and the delay, the period, the phase and the initial value that they give.
 static CLOCKS: [(&[u8], [u64; 3], Value); 5] = [
     (b"", [1, 4, 0], Value::Unknown),
-    (b"clock q 10000000 9999999\ninit q 1", [1, 10_000_000, 9_999_999], Value::One),
-    (b"init q 0\ndelay q 1000000\nclock q 1 0", [1_000_000, 1, 0], Value::Zero),
+    (
+        b"clock q 10000000 9999999\ninit q 1",
+        [1, 10_000_000, 9_999_999],
+        Value::One,
+    ),
+    (
+        b"init q 0\ndelay q 1000000\nclock q 1 0",
+        [1_000_000, 1, 0],
+        Value::Zero,
+    ),
     (b"init q X", [1, 4, 0], Value::Unknown),
     (b"clock q 4 0\ninit q x", [1, 4, 0], Value::Unknown),
 ];
@@ -186,7 +219,12 @@ static CLOCKS: [(&[u8], [u64; 3], Value); 5] = [
 #[test]
 fn clocks(rt: HostRuntime) -> Result<(), Fail> {
     for &(lines, [delay, period, phase], initial) in &CLOCKS {
-        let timing = Timing { delay, period, phase, initial };
+        let timing = Timing {
+            delay,
+            period,
+            phase,
+            initial,
+        };
         flop_has(&rt, rt.alloc(), lines, timing)?;
     }
     Ok(())
