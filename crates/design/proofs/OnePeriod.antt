@@ -1,6 +1,6 @@
 -- A delay text of version 1 gives the equations of one period.
 use Rattle.std.proofs.Common.{◌≡◌, ℕ, ◌+◌, ◌-◌, ◌*◌, ◌/◌, nat_lt, Bool, true, false, cond, List, map, get_or, slice_get, Option, None, Some, Result, Ok, Err, All, refl, ap, sym, ◌∙◌, subst, arith}
-use Rattle.std.specs.Option.{option_map_or, unwrap_or}
+use Rattle.std.specs.Option.{option_map_or}
 use Rattle.std.specs.Result.{result_map_both}
 use Rattle.std.proofs.lemmas.List.Elements.{All-map}
 use Rattle.logic3.specs.declared.value.Value.{Value}
@@ -19,7 +19,6 @@ use Rattle.timing_text.specs.Stimuli.{NamedChange, stimuli_of}
 use Rattle.timing_text.specs.TimingLines.{NetProperty}
 use Rattle.timing_text.specs.Timings.{IsFirstVersion, properties_of, timing_of_net}
 use Rattle.timing_text.proofs.CallerLemmas.{no_clocks-first_version}
-use Rattle.design.specs.declared.fault.BuildFault.{BuildFault}
 use Rattle.design.specs.declared.fault.BuildFault.TheVariants as build
 use Rattle.design.specs.Build.{circuit_of, circuit_with}
 use Rattle.design.specs.Circuit.{Net, Circuit, IsCircuit}

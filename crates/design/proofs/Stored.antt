@@ -1,9 +1,8 @@
 -- What a design's stored parts say of it.
-use Rattle.std.proofs.Common.{◌≡◌, ℕ, ◌+◌, ◌<◌, ◌≤◌, List, [], ◌∷◌, length, map, get_or, option_map, None, Some, slice_get, ◌⊎◌, inl, inr, All, refl, ap, sym, ◌∙◌, subst, arith}
+use Rattle.std.proofs.Common.{◌≡◌, ℕ, ◌+◌, ◌<◌, ◌≤◌, List, [], ◌∷◌, length, map, get_or, option_map, Some, slice_get, refl, ap, sym, ◌∙◌, subst, arith}
 use Rattle.std.specs.List.{sum_by}
 use Rattle.std.proofs.lemmas.List.{length-map}
 use Rattle.std.proofs.lemmas.List.Sums.{sum_by-cons}
-use Rattle.std.proofs.lemmas.Option.{slice_get_cases}
 use Rattle.std.proofs.lemmas.Simd.{map-map}
 use Rattle.logic3.specs.declared.change.Change.{Change}
 use Rattle.netlist.specs.Netlist.{NetView, NetlistView}
@@ -14,7 +13,6 @@ use Rattle.design.specs.Joined.{design_view, starts_from, IsJoined}
 use Rattle.design.specs.Pins.{first_pin}
 use Rattle.design.proofs.Joined.{get_part, timings-timed_nets, stimuli-timed_nets}
 use Rattle.design.proofs.Starts.{length-starts_from, get_or-starts_from}
-use Rattle.design.proofs.WellFormed.{All-slice_get}
 
 -- ---- of any design
 

@@ -9,8 +9,7 @@ use Rattle.logic3.specs.Rising.{TicksRise}
 use Rattle.text_lines.specs.Text.{is_empty}
 use Rattle.vcd_dump.specs.declared.line.Line.{Line}
 use Rattle.vcd_dump.specs.Codes.{code_at}
-use Rattle.vcd_dump.specs.declared.unit.TimeUnit.{TimeUnit}
-use Rattle.vcd_dump.specs.Dump.{Variable, Trace, declarations, line, change_text, time_line, time_line_after}
+use Rattle.vcd_dump.specs.Dump.{Trace, line, change_text, time_line, time_line_after}
 
 -- ---- lines
 

@@ -1,4 +1,4 @@
-use Rattle.std.proofs.Common.{◌≡◌, ℕ, ◌+◌, ◌-◌, ◌*◌, ◌/◌, max, ap, ◌∙◌, arith}
+use Rattle.std.proofs.Common.{◌≡◌, ◌+◌, ◌-◌, ◌*◌, ◌/◌, max, ap, ◌∙◌, arith}
 use Rattle.std.proofs.Math.Nat.{mul_comm}
 use Rattle.design.proofs.SampleTicks.{div_ceil-is}
 use Rattle.design.proofs.samples.next_sample.Goals as goal
