@@ -3,8 +3,8 @@
 ghost use Rattle.std.specs.Prelude.{◌≡◌, OnOk};
 
 use crate::circuits::{
-    CROSSING, Circuit, GATED_OSCILLATOR, INVERTER, LATE_PIN, RING_COUNTER, S27, SAMPLER,
-    SELF_INVERTER,
+    CLOCKED, CROSSING, Circuit, GATED_OSCILLATOR, INVERTER, LATE_PIN, PRESET_RING, RING_COUNTER,
+    S27, SAMPLER, SELF_INVERTER, TWO_CLOCKS,
 };
 use cmb_channels::{Fabric, Logs, Queues};
 use cmb_kernel::{Counts, Kernel};
@@ -205,13 +205,16 @@ fn circuit_over_windows(
     run_over_windows(rt, alloc, &design, horizon, width)
 }
 
-static CIRCUITS: [Circuit; 8] = [
+static CIRCUITS: [Circuit; 11] = [
     INVERTER,
     SELF_INVERTER,
     GATED_OSCILLATOR,
     LATE_PIN,
     SAMPLER,
     RING_COUNTER,
+    CLOCKED,
+    PRESET_RING,
+    TWO_CLOCKS,
     CROSSING,
     S27,
 ];
