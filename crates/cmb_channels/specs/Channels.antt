@@ -39,5 +39,5 @@ module _ {A : Type 0} where
   pins_in fed = map (λ pins. pins.items) fed
 
 -- each net feeds the pins whose source it is, of so many
-abbrev pub IsWired : List (List ℕ) → ℕ → Type 0
-IsWired fed pins = fed ≡ all_fed (length fed) (sources_in fed pins)
+abbrev pub AreFed : List (List ℕ) → ℕ → Type 0
+AreFed fed pins = fed ≡ all_fed (length fed) (sources_in fed pins)

@@ -25,7 +25,7 @@ pub struct Queues {
 
 impl Model for Queues {
     ghost use Rattle.std.specs.Prelude.{length};
-    ghost use Rattle.cmb_channels.specs.Channels.{Channels, IsWired, pins_in, sources_in};
+    ghost use Rattle.cmb_channels.specs.Channels.{Channels, AreFed, pins_in, sources_in};
     ghost use Rattle.cmb_channels.specs.Waiting.{lists_in};
 
     ghost Value = { Channels };
@@ -36,7 +36,7 @@ impl Model for Queues {
       nets = length q.fed.items;
     } };
 
-    ghost invariant = { λ q. IsWired (pins_in q.fed.items) (length q.queues.items) };
+    ghost invariant = { λ q. AreFed (pins_in q.fed.items) (length q.queues.items) };
 }
 
 impl Fabric for Queues {

@@ -10,8 +10,8 @@ use Rattle.design.specs.Equations.{value_of}
 use Rattle.cmb_channels.specs.declared.message.Message.{Message}
 use Rattle.design.specs.Pins.{first_pin, net_of_pin, place_of_pin}
 use Rattle.cmb_channels.proofs.CallerLemmas.{map-update, view_at, get_update_same, get_update_other}
-use Rattle.gate_process.specs.Knowledge.{Knowledge, Tells}
-use Rattle.gate_process.specs.Step.{ProcessState, least, frontier_of, advanced, heard}
+use Rattle.gate_process.specs.Knowledge.{Knowledge, seen_pins, Tells}
+use Rattle.gate_process.specs.Step.{ProcessState, least, least_or, seen_by, frontier_of, advanced, heard}
 use Rattle.gate_process.proofs.CallerLemmas.{frontier-mono, get_below}
 use Rattle.cmb_events.specs.declared.event.Event.TheVariants.{Deliver, Advance}
 use Rattle.cmb_kernel.specs.State.{State, started, nets_of, frontier_at, IsComplete}
@@ -74,29 +74,36 @@ advanced_once state from (suc count) number process e a b =
         ∙ ap (λ n. slice_get (step state (Advance n)).processes number) is
         ∙ get_update_same advanced number state.processes process e
 
-same_frontiers : (received : List Knowledge) (pins : List ℕ) (frontier : ℕ → ℕ) → length received ≡ length pins →
+-- the frontiers of sources as they are seen, each later by a wire
+abbrev seen_sources : (ℕ → ℕ) → List ℕ → List ℕ → List ℕ
+seen_sources frontier (wire ∷ wires) (pin ∷ pins) = (frontier pin + wire) ∷ seen_sources frontier wires pins
+seen_sources frontier _ _ = []
+
+same_frontiers : (wires : List ℕ) (received : List Knowledge) (pins : List ℕ) (frontier : ℕ → ℕ) → length received ≡ length pins →
     ((place source : ℕ) (known : Knowledge) → slice_get pins place ≡ Some source → slice_get received place ≡ Some known →
     known.frontier ≡ frontier source) →
-    map (λ (known : Knowledge). known.frontier) received ≡ map frontier pins
-same_frontiers [] [] frontier e h = refl
-same_frontiers [] (pin ∷ pins) frontier e h = absurd (omega arith)
-same_frontiers (known ∷ received) [] frontier e h = absurd (omega arith)
-same_frontiers (known ∷ received) (pin ∷ pins) frontier e h =
+    map (λ (known : Knowledge). known.frontier) (seen_pins wires received) ≡ seen_sources frontier wires pins
+same_frontiers [] received pins frontier e h = refl
+same_frontiers (wire ∷ wires) [] [] frontier e h = refl
+same_frontiers (wire ∷ wires) [] (pin ∷ pins) frontier e h = absurd (omega arith)
+same_frontiers (wire ∷ wires) (known ∷ received) [] frontier e h = absurd (omega arith)
+same_frontiers (wire ∷ wires) (known ∷ received) (pin ∷ pins) frontier e h =
     let first = h 0 pin known refl refl in
-    let rest = same_frontiers received pins frontier (omega arith) (λ place source k a b. h (suc place) source k a b) in cc
+    let rest = same_frontiers wires received pins frontier (omega arith) (λ place source k a b. h (suc place) source k a b) in
+    λ i. (first i + wire) ∷ rest i
 
 -- after a round a net's frontier follows from the frontiers that its sources had before
 pub round_frontier : (circuit : Circuit) → IsCircuit circuit → (last : ℕ) (state : State) → IsSound circuit last state →
     (number : ℕ) (net : Net) → slice_get circuit number ≡ Some net →
-    frontier_at (round_of state) number ≡ frontier_of net last (least last (map (frontier_at state) net.pins))
+    frontier_at (round_of state) number ≡ frontier_of net last (least_or last (seen_sources (frontier_at state) net.wires net.pins))
 round_frontier circuit ok last state sound number net at =
     ap (λ s. frontier_at s number) (steps-append state (deliveries_from 0 state.lists) (map Advance (range_with_len 0 (length state.processes))))
     ∙ view_at (λ (p : ProcessState). p.known.frontier)
     (steps delivered (map Advance (range_with_len 0 (length state.processes)))).processes number (advanced process.0)
     (advanced_once delivered 0 (length state.processes) number process.0 process.1 (omega arith) (omega (arith, within)))
-    ∙ ap (λ ns. frontier_of (process.0).net (process.0).end (least (process.0).end ns)) heard_all
-    ∙ ap (λ n. frontier_of (process.0).net n (least n (map (frontier_at state) (process.0).net.pins))) end
-    ∙ ap (λ (n : Net). frontier_of n last (least last (map (frontier_at state) n.pins))) is
+    ∙ ap (λ ns. frontier_of (process.0).net (process.0).end (least_or (process.0).end ns)) heard_all
+    ∙ ap (λ n. frontier_of (process.0).net n (least_or n (seen_sources (frontier_at state) (process.0).net.wires (process.0).net.pins))) end
+    ∙ ap (λ (n : Net). frontier_of n last (least_or last (seen_sources (frontier_at state) n.wires n.pins))) is
   where
     delivered : State
     delivered = steps state (deliveries_from 0 state.lists)
@@ -123,8 +130,9 @@ round_frontier circuit ok last state sound number net at =
     end : (process.0).end ≡ last
     end = delivered_sound.ends number process.0 process.1
 
-    heard_all : map (λ (known : Knowledge). known.frontier) (process.0).received ≡ map (frontier_at state) (process.0).net.pins
-    heard_all = same_frontiers (process.0).received (process.0).net.pins (frontier_at state)
+    heard_all : map (λ (known : Knowledge). known.frontier) (seen_by process.0)
+        ≡ seen_sources (frontier_at state) (process.0).net.wires (process.0).net.pins
+    heard_all = same_frontiers (process.0).net.wires (process.0).received (process.0).net.pins (frontier_at state)
         (delivered_sound.processes number process.0 process.1).pins
         (λ place source known a b.
         let tells : known.frontier ≡ frontier_at (steps state (deliveries_from 0 state.lists)) source =
@@ -132,11 +140,19 @@ round_frontier circuit ok last state sound number net at =
         (empty (first_pin circuit number + place)) (delivered_sound.waiting number place source process.0 known process.1 a b) in
         tells ∙ deliveries_frontier state 0 state.lists source)
 
-least_map-mono : (low high : ℕ) (pins : List ℕ) (f g : ℕ → ℕ) → low ≤ high → ((pin : ℕ) → f pin ≤ g pin) →
-    least low (map f pins) ≤ least high (map g pins)
-least_map-mono low high [] f g h each = h
-least_map-mono low high (pin ∷ pins) f g h each =
-    let here = each pin in least_map-mono (min low (f pin)) (min high (g pin)) pins f g (omega arith) each
+least_seen-mono : (low high : ℕ) (wires pins : List ℕ) (f g : ℕ → ℕ) → low ≤ high → ((pin : ℕ) → f pin ≤ g pin) →
+    least low (seen_sources f wires pins) ≤ least high (seen_sources g wires pins)
+least_seen-mono low high [] pins f g h each = h
+least_seen-mono low high (wire ∷ wires) [] f g h each = h
+least_seen-mono low high (wire ∷ wires) (pin ∷ pins) f g h each =
+    let here = each pin in least_seen-mono (min low (f pin + wire)) (min high (g pin + wire)) wires pins f g (omega arith) each
+
+safe-mono : (none : ℕ) (wires pins : List ℕ) (f g : ℕ → ℕ) → ((pin : ℕ) → f pin ≤ g pin) →
+    least_or none (seen_sources f wires pins) ≤ least_or none (seen_sources g wires pins)
+safe-mono none [] pins f g each = omega arith
+safe-mono none (wire ∷ wires) [] f g each = omega arith
+safe-mono none (wire ∷ wires) (pin ∷ pins) f g each =
+    let here = each pin in least_seen-mono (f pin + wire) (g pin + wire) wires pins f g (omega arith) each
 
 -- a state that is ahead of another stays ahead by a round
 pub round_ahead : (circuit : Circuit) → IsCircuit circuit → (last : ℕ) (old new : State) → IsSound circuit last old → IsSound circuit last new →
@@ -149,8 +165,10 @@ round_ahead circuit ok last old new sound_old sound_new ahead number = go (cases
         let net = get_below circuit number there in
         let a = round_frontier circuit ok last old sound_old number net.0 net.1 in
         let b = round_frontier circuit ok last new sound_new number net.0 net.1 in
-        let more = frontier-mono net.0 last (least last (map (frontier_at old) (net.0).pins)) (least last (map (frontier_at new) (net.0).pins))
-        (timed_at circuit ok number net.0 net.1).timing.clock (least_map-mono last last (net.0).pins (frontier_at old) (frontier_at new) (omega arith) ahead) in
+        let more = frontier-mono net.0 last (least_or last (seen_sources (frontier_at old) (net.0).wires (net.0).pins))
+        (least_or last (seen_sources (frontier_at new) (net.0).wires (net.0).pins))
+        (timed_at circuit ok number net.0 net.1).timing.clock
+        (safe-mono last (net.0).wires (net.0).pins (frontier_at old) (frontier_at new) ahead) in
         omega arith
     go (inr past) =
         let count = net_count circuit last (round_of old) (round_sound circuit ok last old sound_old) in

@@ -14,7 +14,7 @@ use Rattle.design.specs.Pins.{first_pin, net_of_pin, place_of_pin}
 use Rattle.cmb_channels.proofs.CallerLemmas.{map-update, IsUpdated, get_of_update, view_of_update_same, view_of_update_other, view_at, length-taken, taken_at, taken_elsewhere}
 use Rattle.gate_process.specs.Knowledge.{Knowledge, Tells}
 use Rattle.gate_process.specs.Step.{ProcessState, own_delay, safe_of, next_frontier, extended, advanced, heard}
-use Rattle.gate_process.proofs.CallerLemmas.{frontier-farther, get_below, get_of_kept, get_of_map, least-bound, least-le, least_greatest}
+use Rattle.gate_process.proofs.CallerLemmas.{frontier-farther, get_below, get_of_kept, least-bound, least-le, least_greatest, safe_greatest}
 use Rattle.cmb_events.specs.declared.event.Event.{Event}
 use Rattle.cmb_events.specs.declared.event.Event.TheVariants.{Deliver, Advance}
 use Rattle.cmb_kernel.specs.State.{State, nets_of, frontier_at, least_frontier, least_delay}
@@ -218,10 +218,7 @@ advances_farther circuit last low state net sound ok h know below =
     let end : (mover.0).end ≡ last = sound.ends net mover.0 mover.1 in
     let at : slice_get circuit net ≡ Some (mover.0).net = net_at circuit ok last state sound net mover.0 mover.1 in
     let safe : low ≤ safe_of mover.0 =
-    least_greatest (mover.0).end (map (λ (k : Knowledge). k.frontier) (mover.0).received) low (omega arith) (λ place x e.
-    let known = get_of_map (λ (k : Knowledge). k.frontier) (mover.0).received place x e in
-    let farther = know place mover.0 known.0 mover.1 known.1 in
-    let is = known.2 in omega arith) in
+    safe_greatest mover.0 low (omega arith) (λ place known e. know place mover.0 known mover.1 e) in
     let delay : least_delay last circuit ≤ own_delay (mover.0).net.part last (mover.0).net.timing.delay =
     least-le last (map (λ (n : Net). own_delay n.part last n.timing.delay) circuit) net _
     (slice_get-map (λ (n : Net). own_delay n.part last n.timing.delay) circuit net ∙ ap (option_map (λ (n : Net). own_delay n.part last n.timing.delay)) at) in

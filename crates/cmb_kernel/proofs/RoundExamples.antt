@@ -13,12 +13,13 @@ use Rattle.gate_process.specs.Step.{ProcessState, drained_changes}
 use Rattle.cmb_kernel.specs.State.{State, started, least_frontier, most_rounds}
 use Rattle.cmb_kernel.specs.Step.{after_drain, round_of, rounds}
 
--- a net without stimuli, with the period 3
+-- a net without stimuli, with wires of no ticks and the period 3
 abbrev net_of : Part → List ℕ → ℕ → Net
 net_of part pins delay = record {
   name = [];
   part = part;
   pins = pins;
+  wires = map (λ pin. 0) pins;
   timing = record { delay = delay; period = 3; phase = 0; initial = Unknown };
   stimuli = [];
 }
@@ -82,3 +83,16 @@ drains-second = (refl, refl, refl)
 drains-wave : wave_at (after_drain (round_of drained_state) 0 6) 0 ≡ Some (record { before = One; changes = [] })
 unfolding drained_state inverter
 drains-wave = refl
+
+-- ---- the same where the wire to the inverter takes two ticks: it is known so much farther at first, and changes so much later
+
+wired_inverter : Circuit
+wired_inverter =
+    record (net_of Input [] 0) { stimuli = change 0 Zero ∷ change 3 One ∷ [] }
+    ∷ record (net_of (Gate Not) (0 ∷ []) 1) { wires = 2 ∷ [] }
+    ∷ []
+
+wired-rounds : (least_frontier 9 (round_of (started wired_inverter 9)) ≡ 3)
+    × (wave_at (rounds 2 (started wired_inverter 9)) 1 ≡ Some (record { before = Unknown; changes = change 3 One ∷ change 6 Zero ∷ [] }))
+unfolding wired_inverter
+wired-rounds = (refl, refl)

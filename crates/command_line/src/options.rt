@@ -51,7 +51,8 @@ pub(super) const BENCH: &str =
 
 const DELAYS: &str = "The timing of single gates and flip-flops: lines NAME TICKS, such as\n\
      y 3; or the line timing version 2, and behind it lines such as\n\
-     delay y 3, clock q 4 1 and init q 0; without it there is none";
+     delay y 3, wire y 1 2, clock q 4 1 and init q 0; without it there\n\
+     is none";
 
 const STIMULI: &str = "What drives the inputs: lines TICK NAME VALUE, such as 40 a 1, the\n\
      value being 0, 1 or x; an input is x before its first line";

@@ -17,34 +17,41 @@ use Rattle.timing_text.specs.declared.fault.StimulusFault.TheVariants as stimulu
 use Rattle.design.specs.declared.fault.BuildFault.{BuildFault}
 use Rattle.design.specs.declared.fault.BuildFault.TheVariants.{Setting, Stimulus, Memory}
 use Rattle.design.specs.declared.fault.BuildFault.TheVariants as build
-use Rattle.design.specs.Circuit.{Circuit, IsTimed}
+use Rattle.design.specs.Circuit.{Net, Circuit, IsTimed}
 use Rattle.timing_text.specs.Ranges.{most_delay, most_ticks}
 use Rattle.design.specs.Design.{DesignView, IsDesign, untimed}
 use Rattle.design.specs.Joined.{timed_nets, design_view, first_pins_of, IsJoined}
 use Rattle.timing_text.specs.Options.{is_in_limits, option_fault, options_of}
 use Rattle.timing_text.specs.declared.timing.Timing.{Timing}
 use Rattle.timing_text.specs.TimingLines.{NetProperty}
-use Rattle.timing_text.specs.Timings.{properties_of, net_timings, timing_of_net}
+use Rattle.timing_text.specs.Timings.{properties_of, net_timings, timing_of_net, wires_of_net}
 use Rattle.timing_text.specs.Stimuli.{NamedChange, stimuli_of, net_stimuli, stimuli_named}
 use Rattle.design.specs.Faults.{timing_fault, stimulus_fault}
 use Rattle.design.specs.Build.{circuit_with, circuit_of, design_of}
-use Rattle.timing_text.proofs.CallerLemmas.{HasTiming-properties_of, HasStimuli-stimuli_of}
+use Rattle.timing_text.proofs.CallerLemmas.{HasTiming-properties_of, HasWires-properties_of, HasStimuli-stimuli_of}
 
--- nets without what timed them
-untimed-timed : (timing : NetView → Timing) (stimuli : NetView → List Change) (nets : List NetView) →
-    map untimed (map (λ (net : NetView). record { name = net.name; part = net.part; pins = net.pins; timing = timing net; stimuli = stimuli net }) nets)
-    ≡ nets
-untimed-timed timing stimuli [] = refl
-untimed-timed timing stimuli (net ∷ nets) = ap (λ rest. net ∷ rest) (untimed-timed timing stimuli nets)
+module _ (timing : NetView → Timing) (wires : NetView → List ℕ) (stimuli : NetView → List Change) where
+  -- a net with what times it
+  abbrev with_timing : NetView → Net
+  with_timing net = record {
+    name = net.name;
+    part = net.part;
+    pins = net.pins;
+    wires = wires net;
+    timing = timing net;
+    stimuli = stimuli net;
+  }
 
--- timings and stimuli that were made net by net
-timed_nets-by_net : (timing : NetView → Timing) (stimuli : NetView → List Change) (nets : List NetView) →
-    timed_nets nets (map timing nets) (map stimuli nets)
-    ≡ map (λ (net : NetView). record { name = net.name; part = net.part; pins = net.pins; timing = timing net; stimuli = stimuli net }) nets
-timed_nets-by_net timing stimuli [] = refl
-timed_nets-by_net timing stimuli (net ∷ nets) =
-    ap (λ rest. record { name = net.name; part = net.part; pins = net.pins; timing = timing net; stimuli = stimuli net } ∷ rest)
-    (timed_nets-by_net timing stimuli nets)
+  -- nets without what timed them
+  untimed-timed : (nets : List NetView) → map untimed (map with_timing nets) ≡ nets
+  untimed-timed [] = refl
+  untimed-timed (net ∷ nets) = ap (λ rest. net ∷ rest) (untimed-timed nets)
+
+  -- timings, wires and stimuli that were made net by net
+  timed_nets-by_net : (nets : List NetView) →
+      timed_nets nets (map (λ (net : NetView). (timing net, wires net)) nets) (map stimuli nets) ≡ map with_timing nets
+  timed_nets-by_net [] = refl
+  timed_nets-by_net (net ∷ nets) = ap (λ rest. with_timing net ∷ rest) (timed_nets-by_net nets)
 
 -- ---- what the steps of a build gave
 
@@ -74,7 +81,7 @@ InRange-option_fault default period = go (is_in_limits default most_delay) (is_i
     go false period_in d p e = absurd (cc)
 
 -- timings and stimuli of the nets, as the texts say
-pub record IsGiven (netlist : NetlistView) (delay_text stimulus_text : List ℕ) (default period : ℕ) (timings : List Timing) (stimuli : List (List Change)) : Type 0 where
+pub record IsGiven (netlist : NetlistView) (delay_text stimulus_text : List ℕ) (default period : ℕ) (timings : List (Timing × List ℕ)) (stimuli : List (List Change)) : Type 0 where
   pub lines : List NetProperty
   pub changes : List NamedChange
   pub no_fault : option_fault default period ≡ None
@@ -83,7 +90,7 @@ pub record IsGiven (netlist : NetlistView) (delay_text stimulus_text : List ℕ)
   pub timings_are : timings ≡ net_timings netlist default period lines
   pub stimuli_are : stimuli ≡ net_stimuli netlist changes
 
-pub is_given : (netlist : NetlistView) (delay_text stimulus_text : List ℕ) (default period : ℕ) (timings : List Timing) (stimuli : List (List Change)) (done : Unit {0}) →
+pub is_given : (netlist : NetlistView) (delay_text stimulus_text : List ℕ) (default period : ℕ) (timings : List (Timing × List ℕ)) (stimuli : List (List Change)) (done : Unit {0}) →
     Ok done ≡ options_of default period →
     Ok timings ≡ result_map_both (net_timings netlist default period) (λ fault. fault) (properties_of netlist delay_text) →
     Ok stimuli ≡ result_map_both (net_stimuli netlist) (λ fault. fault) (stimuli_of netlist stimulus_text) →
@@ -103,12 +110,12 @@ is_given netlist delay_text stimulus_text default period timings stimuli done op
 
 -- ---- the design that they make
 
-module _ {netlist : NetlistView} {delay_text stimulus_text : List ℕ} {default period : ℕ} {timings : List Timing} {stimuli : List (List Change)}
+module _ {netlist : NetlistView} {delay_text stimulus_text : List ℕ} {default period : ℕ} {timings : List (Timing × List ℕ)} {stimuli : List (List Change)}
     (given : IsGiven netlist delay_text stimulus_text default period timings stimuli) where
   circuit_is : timed_nets netlist.nets timings stimuli ≡ circuit_with netlist given.lines given.changes default period
   circuit_is =
       (λ i. timed_nets netlist.nets (given.timings_are i) (given.stimuli_are i))
-      ∙ timed_nets-by_net (timing_of_net default period given.lines) (λ (net : NetView). stimuli_named given.changes net.name) netlist.nets
+      ∙ timed_nets-by_net (timing_of_net default period given.lines) (wires_of_net given.lines) (λ (net : NetView). stimuli_named given.changes net.name) netlist.nets
 
   -- it is the one that the definition gives
   pub design_of-given : design_of netlist delay_text stimulus_text default period ≡ Ok (design_view netlist timings stimuli)
@@ -119,9 +126,10 @@ module _ {netlist : NetlistView} {delay_text stimulus_text : List ℕ} {default 
       let range = InRange-option_fault default period given.no_fault in
       let timed = HasTiming-properties_of netlist delay_text default period given.lines given.lines_are range.delay_in_range.0 range.delay_in_range.1
       range.period_in_range.0 range.period_in_range.1 in
+      let wired = HasWires-properties_of netlist delay_text given.lines given.lines_are in
       let stimulated = HasStimuli-stimuli_of netlist stimulus_text given.changes ok.distinct given.changes_are in
       All-map IsTimed _ netlist.nets
-      (λ k d below. record { timing = timed (get_or netlist.nets k d); stimuli = stimulated k d below })
+      (λ k d below. record { timing = timed (get_or netlist.nets k d); wires = wired (get_or netlist.nets k d); stimuli = stimulated k d below })
 
   -- and its parts fit together
   pub IsJoined-given : (first_pins : List ℕ) → IsNetlist netlist → first_pins ≡ first_pins_of netlist → IsJoined netlist first_pins timings stimuli
@@ -131,7 +139,7 @@ module _ {netlist : NetlistView} {delay_text stimulus_text : List ℕ} {default 
     some_stimuli = ap length given.stimuli_are ∙ length-map netlist.nets _;
     well_formed = record {
       netlist = ok;
-      same_nets = ap (map untimed) circuit_is ∙ untimed-timed (timing_of_net default period given.lines) (λ (net : NetView). stimuli_named given.changes net.name) netlist.nets;
+      same_nets = ap (map untimed) circuit_is ∙ untimed-timed (timing_of_net default period given.lines) (wires_of_net given.lines) (λ (net : NetView). stimuli_named given.changes net.name) netlist.nets;
       timed = rw circuit_is (all_timed ok);
     };
   }
@@ -161,7 +169,7 @@ module _ (netlist : NetlistView) (delay_text stimulus_text : List ℕ) (default 
       let lines = refused_by (net_timings netlist default period) (properties_of netlist delay_text) fault (refused other.0) in
       rw (none, lines) (ap Err other.1)
 
-  pub design_of-stimulus_fault : (timings : List Timing) (fault : StimulusFault) →
+  pub design_of-stimulus_fault : (timings : List (Timing × List ℕ)) (fault : StimulusFault) →
       Ok timings ≡ result_map_both (net_timings netlist default period) (λ fault. fault) (properties_of netlist delay_text) →
       (fault ≢ stimulus.Memory → Err fault ≡ result_map_both (net_stimuli netlist) (λ fault. fault) (stimuli_of netlist stimulus_text)) →
       stimulus_fault fault ≢ Memory → Err (stimulus_fault fault) ≡ design_of netlist delay_text stimulus_text default period
@@ -195,7 +203,7 @@ IsDesign-circuit_of netlist delay_text stimulus_text default period circuit ok =
         } in
         record {
           netlist = ok;
-          same_nets = untimed-timed (timing_of_net default period lines) (λ (net : NetView). stimuli_named changes net.name) netlist.nets;
+          same_nets = untimed-timed (timing_of_net default period lines) (wires_of_net lines) (λ (net : NetView). stimuli_named changes net.name) netlist.nets;
           timed = all_timed given ok;
         }
 

@@ -1,8 +1,8 @@
 -- The circuit of a design by the stored parts.
-use Rattle.std.proofs.Common.{◌≡◌, ℕ, ◌<◌, List, length, map, get_or, position, option_map, Some, slice_get, bytes_eq, ap, sym, ◌∙◌, arith}
+use Rattle.std.proofs.Common.{◌≡◌, ℕ, ◌<◌, List, length, map, get_or, position, Option, None, option_map, Some, slice_get, bytes_eq, ap, sym, ◌∙◌, arith}
 use Rattle.std.specs.List.{zip}
 use Rattle.std.proofs.lemmas.List.{length-map}
-use Rattle.std.proofs.lemmas.Option.{slice_get-map, slice_get-get_or}
+use Rattle.std.proofs.lemmas.Option.{slice_get-map, slice_get-get_or, none-some, same_Some}
 use Rattle.std.proofs.lemmas.Simd.{map-map}
 use Rattle.std.proofs.lemmas.Slice.Zip.{length-zip, firsts-zip, seconds-zip}
 use Rattle.logic3.specs.declared.change.Change.{Change}
@@ -20,7 +20,18 @@ get_part part xs ys place d same within =
     let long : length xs ≡ length ys = sym (length-map xs part) ∙ ap length same in
     sym (slice_get-map part xs place) ∙ ap (λ zs. slice_get zs place) same ∙ slice_get-get_or ys place d (omega arith)
 
-module _ (nets : List NetView) (timings : List Timing) (stimuli : List (List Change))
+-- what is known of two parts is known of each
+pub first_part : {A B C : Type 0} (f : A → B) (g : A → C) (place : Option A) (both : B × C) →
+    option_map (λ x. (f x, g x)) place ≡ Some both → option_map f place ≡ Some both.0
+first_part f g None both is = absurd (none-some both is)
+first_part f g (Some x) both is = ap (λ (pair : _ × _). Some pair.0) (same_Some (f x, g x) both is)
+
+pub second_part : {A B C : Type 0} (f : A → B) (g : A → C) (place : Option A) (both : B × C) →
+    option_map (λ x. (f x, g x)) place ≡ Some both → option_map g place ≡ Some both.1
+second_part f g None both is = absurd (none-some both is)
+second_part f g (Some x) both is = ap (λ (pair : _ × _). Some pair.1) (same_Some (f x, g x) both is)
+
+module _ (nets : List NetView) (timings : List (Timing × List ℕ)) (stimuli : List (List Change))
     (some_timing : length timings ≡ length nets) (some_stimuli : length stimuli ≡ length nets) where
   both : length (zip timings stimuli) ≡ length nets
   both = length-zip timings stimuli ∙ omega arith
@@ -28,18 +39,20 @@ module _ (nets : List NetView) (timings : List Timing) (stimuli : List (List Cha
   pub untimed-timed_nets : map untimed (timed_nets nets timings stimuli) ≡ nets
   untimed-timed_nets = map-map untimed timed_net (zip nets (zip timings stimuli)) ∙ firsts-zip nets (zip timings stimuli) both
 
-  pub timings-timed_nets : map (λ (net : Net). net.timing) (timed_nets nets timings stimuli) ≡ timings
+  pub timings-timed_nets : map (λ (net : Net). (net.timing, net.wires)) (timed_nets nets timings stimuli) ≡ timings
   timings-timed_nets =
-      map-map (λ (net : Net). net.timing) timed_net (zip nets (zip timings stimuli))
-      ∙ sym (map-map (λ (t : Timing × List Change). t.0) (λ (t : NetView × (Timing × List Change)). t.1) (zip nets (zip timings stimuli)))
-      ∙ ap (map (λ (t : Timing × List Change). t.0)) (seconds-zip nets (zip timings stimuli) both)
+      map-map (λ (net : Net). (net.timing, net.wires)) timed_net (zip nets (zip timings stimuli))
+      ∙ sym (map-map (λ (t : (Timing × List ℕ) × List Change). t.0) (λ (t : NetView × ((Timing × List ℕ) × List Change)). t.1)
+      (zip nets (zip timings stimuli)))
+      ∙ ap (map (λ (t : (Timing × List ℕ) × List Change). t.0)) (seconds-zip nets (zip timings stimuli) both)
       ∙ firsts-zip timings stimuli (omega arith)
 
   pub stimuli-timed_nets : map (λ (net : Net). net.stimuli) (timed_nets nets timings stimuli) ≡ stimuli
   stimuli-timed_nets =
       map-map (λ (net : Net). net.stimuli) timed_net (zip nets (zip timings stimuli))
-      ∙ sym (map-map (λ (t : Timing × List Change). t.1) (λ (t : NetView × (Timing × List Change)). t.1) (zip nets (zip timings stimuli)))
-      ∙ ap (map (λ (t : Timing × List Change). t.1)) (seconds-zip nets (zip timings stimuli) both)
+      ∙ sym (map-map (λ (t : (Timing × List ℕ) × List Change). t.1) (λ (t : NetView × ((Timing × List ℕ) × List Change)). t.1)
+      (zip nets (zip timings stimuli)))
+      ∙ ap (map (λ (t : (Timing × List ℕ) × List Change). t.1)) (seconds-zip nets (zip timings stimuli) both)
       ∙ seconds-zip timings stimuli (omega arith)
 
 -- a net has the same number in the netlist and in the circuit

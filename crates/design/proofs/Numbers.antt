@@ -5,8 +5,9 @@ use Rattle.std.proofs.lemmas.List.Sums.{sum_by-cons}
 use Rattle.std.specs.Option.{ForSome}
 use Rattle.std.proofs.lemmas.Option.{slice_get_within, slice_get_cases, slice_get-get_or, same_Some}
 use Rattle.std.proofs.lemmas.Bool.{lt-ltb, le-ltb}
-use Rattle.design.specs.Circuit.{Net, Circuit, pin_count}
-use Rattle.design.specs.Pins.{sources_of, first_pin, net_of_pin, place_of_pin}
+use Rattle.design.specs.Circuit.{Net, Circuit, IsCircuit, pin_count}
+use Rattle.design.specs.Pins.{sources_of, wires_of, first_pin, net_of_pin, place_of_pin}
+use Rattle.design.proofs.WellFormed.{timed_at}
 
 get-append_left : {A : Type 0} (xs ys : List A) (place : ℕ) (x : A) → slice_get xs place ≡ Some x → slice_get (xs ++ ys) place ≡ Some x
 get-append_left [] ys place x e = cc
@@ -39,6 +40,22 @@ source_at (first ∷ nets) (suc number) place source net e h =
     (let s : length first.pins + first_pin nets number + place ≡ length first.pins + (first_pin nets number + place) = omega arith in s)
     ∙ get-append_right first.pins (sources_of nets) (first_pin nets number + place)
     ∙ source_at nets number place source net e h
+
+-- the wire of a pin, by its net and place, where each pin has one
+pub wire_of_pin : (circuit : Circuit) → ((number : ℕ) (net : Net) → slice_get circuit number ≡ Some net → length net.wires ≡ length net.pins) →
+    (number place wire : ℕ) (net : Net) → slice_get circuit number ≡ Some net →
+    slice_get net.wires place ≡ Some wire → slice_get (wires_of circuit) (first_pin circuit number + place) ≡ Some wire
+wire_of_pin [] each number place wire net e h = cc
+wire_of_pin (first ∷ nets) each zero place wire net e h =
+    let same : first ≡ net = cc in
+    ap (λ n. slice_get (wires_of (first ∷ nets)) n) (zero-add place)
+    ∙ get-append_left first.wires (wires_of nets) place wire (rw same h)
+wire_of_pin (first ∷ nets) each (suc number) place wire net e h =
+    let long = each 0 first refl in
+    ap (λ n. slice_get (wires_of (first ∷ nets)) n)
+    (let s : length first.pins + first_pin nets number + place ≡ length first.wires + (first_pin nets number + place) = omega arith in s)
+    ∙ get-append_right first.wires (wires_of nets) (first_pin nets number + place)
+    ∙ wire_of_pin nets (λ n. each (suc n)) number place wire net e h
 
 pub pin_below : (circuit : Circuit) (number place source : ℕ) (net : Net) → slice_get circuit number ≡ Some net →
     slice_get net.pins place ≡ Some source → first_pin circuit number + place < pin_count circuit
@@ -153,3 +170,25 @@ stands_at circuit pin number first pins h number_is starts pins_are =
           ∙ source_at circuit (net_of_pin circuit pin) (place_of_pin circuit pin) _ there.net there.at (slice_get-get_or there.net.pins (place_of_pin circuit pin) 0 inside)
           ∙ (λ i. Some (get_or (same i) (sym place i) 0));
     }
+
+-- the wire of a pin, by the first pin and the wires of its net
+pub wire_there : (circuit : Circuit) → IsCircuit circuit → (pin number first : ℕ) (wires : List ℕ) → pin < pin_count circuit →
+    number ≡ net_of_pin circuit pin → first ≡ first_pin circuit number →
+    option_map (λ (net : Net). net.wires) (slice_get circuit number) ≡ Some wires →
+    (pin - first < length wires) × (slice_get (wires_of circuit) pin ≡ Some (get_or wires (pin - first) 0))
+wire_there circuit ok pin number first wires h number_is starts wires_are =
+    let there = pin_is circuit pin h in
+    let own : option_map (λ (net : Net). net.wires) (Some there.net) ≡ Some wires = rw (number_is, there.at) at wires_are in
+    let same : there.net.wires ≡ wires = same_Some _ _ own in
+    let first_there : first ≡ first_pin circuit (net_of_pin circuit pin) = starts ∙ ap (first_pin circuit) number_is in
+    let place : pin - first ≡ place_of_pin circuit pin = (let n = there.number_is in omega arith) in
+    let each : (number : ℕ) (net : Net) → slice_get circuit number ≡ Some net → length net.wires ≡ length net.pins =
+    λ number net at. (timed_at circuit ok number net at).wires.each in
+    let long = each (net_of_pin circuit pin) there.net there.at in
+    let inside : place_of_pin circuit pin < length there.net.wires = (let w = there.within in omega arith) in (
+      (let l = ap length same in omega arith),
+      ap (slice_get (wires_of circuit)) (sym there.number_is)
+          ∙ wire_of_pin circuit each (net_of_pin circuit pin) (place_of_pin circuit pin) _ there.net there.at
+          (slice_get-get_or there.net.wires (place_of_pin circuit pin) 0 inside)
+          ∙ (λ i. Some (get_or (same i) (sym place i) 0)),
+    )

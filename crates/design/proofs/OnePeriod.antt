@@ -1,6 +1,7 @@
 -- A delay text of version 1 gives the equations of one period.
-use Rattle.std.proofs.Common.{◌≡◌, ℕ, ◌+◌, ◌-◌, ◌*◌, ◌/◌, nat_lt, Bool, true, false, cond, List, map, get_or, slice_get, Option, None, Some, Result, Ok, Err, All, refl, ap, sym, ◌∙◌, subst, arith}
-use Rattle.std.specs.Option.{option_map_or}
+use Rattle.std.proofs.Common.{◌≡◌, ℕ, ◌+◌, ◌-◌, ◌*◌, ◌/◌, nat_lt, Bool, true, false, cond, List, length, map, get_or, slice_get, Option, None, Some, Result, Ok, Err, All, refl, ap, sym, ◌∙◌, subst, arith}
+use Rattle.std.specs.Option.{option_map_or, unwrap_or}
+use Rattle.std.specs.List.{range_with_len}
 use Rattle.std.specs.Result.{result_map_both}
 use Rattle.std.proofs.lemmas.List.Elements.{All-map}
 use Rattle.logic3.specs.declared.value.Value.{Value}
@@ -17,17 +18,17 @@ use Rattle.timing_text.specs.declared.timing.Timing.{Timing}
 use Rattle.timing_text.specs.Options.{option_fault}
 use Rattle.timing_text.specs.Stimuli.{NamedChange, stimuli_of}
 use Rattle.timing_text.specs.TimingLines.{NetProperty}
-use Rattle.timing_text.specs.Timings.{IsFirstVersion, properties_of, timing_of_net}
-use Rattle.timing_text.proofs.CallerLemmas.{no_clocks-first_version}
+use Rattle.timing_text.specs.Timings.{IsFirstVersion, properties_of, timing_of_net, wire_named, wires_of_net}
+use Rattle.timing_text.proofs.CallerLemmas.{no_clocks-first_version, no_wires-first_version}
 use Rattle.design.specs.declared.fault.BuildFault.TheVariants as build
 use Rattle.design.specs.Build.{circuit_of, circuit_with}
-use Rattle.design.specs.Circuit.{Net, Circuit, IsCircuit}
+use Rattle.design.specs.Circuit.{Net, Circuit, IsCircuit, IsTimed}
 use Rattle.design.specs.Equations.{equation_of_part, equation_at, values_at, value_of}
 use Rattle.design.specs.OnePeriod.{IsPeriodicSolution, periodic_of_part, periodic_at}
 use Rattle.design.specs.Samples.{first_sample, last_sample}
 use Rattle.design.proofs.Built.{IsDesign-circuit_of}
-use Rattle.design.proofs.Solution.{value_only, value_solves}
-use Rattle.design.proofs.WellFormed.{All-slice_get, IsCircuit-from_IsDesign}
+use Rattle.design.proofs.Solution.{equation_at_once, value_only, value_solves}
+use Rattle.design.proofs.WellFormed.{All-slice_get, IsCircuit-from_IsDesign, timed_at}
 
 -- a flip-flop has this period, no phase and no initial value
 record IsPeriodic (one : ℕ) (timing : Timing) : Type 0 where
@@ -35,8 +36,13 @@ record IsPeriodic (one : ℕ) (timing : Timing) : Type 0 where
   pub phase : timing.phase ≡ 0
   pub initial : timing.initial ≡ Unknown
 
+-- and the wire of no pin takes a tick
+record IsAtOnce (one : ℕ) (net : Net) : Type 0 where
+  pub flop : net.part ≡ Flop → IsPeriodic one net.timing
+  pub wires : All (λ wire. wire ≡ 0) net.wires
+
 abbrev AllPeriodic : ℕ → Circuit → Type 0
-AllPeriodic period circuit = All (λ (net : Net). net.part ≡ Flop → IsPeriodic period net.timing) circuit
+AllPeriodic period circuit = All (IsAtOnce period) circuit
 
 -- what stands where a test tells that nothing is asked for
 tested : {A B : Type 0} (test : Bool) (found : A → B) (at : A) (none : B) →
@@ -76,17 +82,20 @@ periodic_equation period Flop net is signals tick =
     (λ i. sampled net.timing.delay tick signals (told.period i) (told.phase i) (told.initial i))
     ∙ sampled-periodic net.timing.delay tick signals period
 
-periodic_place : (period : ℕ) (place : Option Net) → ((net : Net) → place ≡ Some net → net.part ≡ Flop → IsPeriodic period net.timing) →
+periodic_place : (period : ℕ) (place : Option Net) → ((net : Net) → place ≡ Some net → IsTimed net) →
+    ((net : Net) → place ≡ Some net → IsAtOnce period net) →
     (signals : ℕ → ℕ → Value) (tick : ℕ) → equation_at place signals tick ≡ periodic_at period place signals tick
-periodic_place period None each signals tick = refl
-periodic_place period (Some net) each signals tick = periodic_equation period net.part net (each net refl) (map signals net.pins) tick
+periodic_place period None timed each signals tick = refl
+periodic_place period (Some net) timed each signals tick =
+    equation_at_once net signals tick (timed net refl) (each net refl).wires
+    ∙ periodic_equation period net.part net (each net refl).flop (map signals net.pins) tick
 
-module _ (period : ℕ) (circuit : Circuit) (all : AllPeriodic period circuit) where
+module _ (period : ℕ) (circuit : Circuit) (ok : IsCircuit circuit) (all : AllPeriodic period circuit) where
   at_place : (signals : ℕ → ℕ → Value) (net tick : ℕ) →
       equation_at (slice_get circuit net) signals tick ≡ periodic_at period (slice_get circuit net) signals tick
   at_place signals net tick =
-      periodic_place period (slice_get circuit net)
-      (λ n at. All-slice_get (λ (m : Net). m.part ≡ Flop → IsPeriodic period m.timing) circuit net n all at) signals tick
+      periodic_place period (slice_get circuit net) (timed_at circuit ok net)
+      (λ n at. All-slice_get (IsAtOnce period) circuit net n all at) signals tick
 
 -- ---- the texts
 
@@ -97,10 +106,20 @@ module _ (netlist : NetlistView) (delays stimuli : List ℕ) (default period : �
       let none = no_clocks-first_version netlist delays lines first read net.name in
       rw (is, none.0, none.1) (record { period = refl; phase = refl; initial = refl })
 
+  at_once : (lines : List NetProperty) → properties_of netlist delays ≡ Ok lines → (net : NetView) →
+      All (λ wire. wire ≡ 0) (wires_of_net lines net)
+  at_once lines read net =
+      All-map (λ wire. wire ≡ 0) (λ place. unwrap_or (wire_named lines net.name place) 0) (range_with_len 0 (length net.pins))
+      (λ k d below. ap (λ given. unwrap_or given 0) (no_wires-first_version netlist delays lines first read net.name
+      (get_or (range_with_len 0 (length net.pins)) k d)))
+
   periodic_circuit : (lines : List NetProperty) (changes : List NamedChange) → properties_of netlist delays ≡ Ok lines →
       AllPeriodic period (circuit_with netlist lines changes default period)
   periodic_circuit lines changes read =
-      All-map (λ (net : Net). net.part ≡ Flop → IsPeriodic period net.timing) _ netlist.nets (λ k d below. periodic_net lines read (get_or netlist.nets k d))
+      All-map (IsAtOnce period) _ netlist.nets (λ k d below. record {
+        flop = periodic_net lines read (get_or netlist.nets k d);
+        wires = at_once lines read (get_or netlist.nets k d);
+      })
 
   all_periodic : (circuit : Circuit) → circuit_of netlist delays stimuli default period ≡ Ok circuit → AllPeriodic period circuit
   all_periodic circuit = go (option_fault default period) (properties_of netlist delays) (stimuli_of netlist stimuli) refl
@@ -123,10 +142,10 @@ module _ (netlist : NetlistView) (delays stimuli : List ℕ) (default period : �
 
     pub solves_periodic : IsPeriodicSolution period circuit (value_of circuit)
     solves_periodic = λ net tick.
-        value_solves circuit formed net tick ∙ at_place period circuit (all_periodic circuit made) (value_of circuit) net tick
+        value_solves circuit formed net tick ∙ at_place period circuit formed (all_periodic circuit made) (value_of circuit) net tick
 
     pub only_periodic : (signals : ℕ → ℕ → Value) → IsPeriodicSolution period circuit signals → (net tick : ℕ) →
         signals net tick ≡ value_of circuit net tick
     only_periodic signals solves =
         value_only circuit signals formed
-        (λ net tick. solves net tick ∙ sym (at_place period circuit (all_periodic circuit made) signals net tick))
+        (λ net tick. solves net tick ∙ sym (at_place period circuit formed (all_periodic circuit made) signals net tick))

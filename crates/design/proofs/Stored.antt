@@ -11,7 +11,7 @@ use Rattle.design.specs.Circuit.{Net, Circuit, pin_count}
 use Rattle.design.specs.Design.{DesignView, IsDesign, untimed}
 use Rattle.design.specs.Joined.{design_view, starts_from, IsJoined}
 use Rattle.design.specs.Pins.{first_pin}
-use Rattle.design.proofs.Joined.{get_part, timings-timed_nets, stimuli-timed_nets}
+use Rattle.design.proofs.Joined.{get_part, first_part, second_part, timings-timed_nets, stimuli-timed_nets}
 use Rattle.design.proofs.Starts.{length-starts_from, get_or-starts_from}
 
 -- ---- of any design
@@ -42,7 +42,7 @@ pins_by_net design ok =
 
 -- ---- of the design that parts make
 
-module _ {netlist : NetlistView} {first_pins : List ℕ} {timings : List Timing} {stimuli : List (List Change)} {design : DesignView}
+module _ {netlist : NetlistView} {first_pins : List ℕ} {timings : List (Timing × List ℕ)} {stimuli : List (List Change)} {design : DesignView}
     (joined : IsJoined netlist first_pins timings stimuli) (view : design_view netlist timings stimuli ≡ design) where
   pub well_formed : IsDesign design
   well_formed = subst IsDesign view joined.well_formed
@@ -64,11 +64,23 @@ module _ {netlist : NetlistView} {first_pins : List ℕ} {timings : List Timing}
   length-stimuli =
       joined.some_stimuli ∙ ap (λ (d : DesignView). length d.netlist.nets) view ∙ sym (length-circuit design well_formed)
 
-  pub timing_at : (net : ℕ) (d : Timing) → net < length design.circuit →
-      option_map (λ (n : Net). n.timing) (slice_get design.circuit net) ≡ Some (get_or timings net d)
-  timing_at net d = get_part (λ (n : Net). n.timing) design.circuit timings net d
-      (subst (λ (d : DesignView). map (λ (n : Net). n.timing) d.circuit ≡ timings) view
+  pub length-timings : length timings ≡ length design.circuit
+  length-timings =
+      joined.some_timing ∙ ap (λ (d : DesignView). length d.netlist.nets) view ∙ sym (length-circuit design well_formed)
+
+  both_at : (net : ℕ) (d : Timing × List ℕ) → net < length design.circuit →
+      option_map (λ (n : Net). (n.timing, n.wires)) (slice_get design.circuit net) ≡ Some (get_or timings net d)
+  both_at net d = get_part (λ (n : Net). (n.timing, n.wires)) design.circuit timings net d
+      (subst (λ (d : DesignView). map (λ (n : Net). (n.timing, n.wires)) d.circuit ≡ timings) view
       (timings-timed_nets netlist.nets timings stimuli joined.some_timing joined.some_stimuli))
+
+  pub timing_at : (net : ℕ) (d : Timing × List ℕ) → net < length design.circuit →
+      option_map (λ (n : Net). n.timing) (slice_get design.circuit net) ≡ Some (get_or timings net d).0
+  timing_at net d below = first_part (λ (n : Net). n.timing) (λ (n : Net). n.wires) (slice_get design.circuit net) _ (both_at net d below)
+
+  pub wires_at : (net : ℕ) (d : Timing × List ℕ) → net < length design.circuit →
+      option_map (λ (n : Net). n.wires) (slice_get design.circuit net) ≡ Some (get_or timings net d).1
+  wires_at net d below = second_part (λ (n : Net). n.timing) (λ (n : Net). n.wires) (slice_get design.circuit net) _ (both_at net d below)
 
   pub stimuli_at : (net : ℕ) (d : List Change) → net < length design.circuit →
       option_map (λ (n : Net). n.stimuli) (slice_get design.circuit net) ≡ Some (get_or stimuli net d)

@@ -87,6 +87,16 @@ has_timing circuit ok number part timing part_is timing_is =
     let timed = timed_at circuit ok number found.0 found.1 in
     rw (← found.2, ← same) timed.timing
 
+-- each of its pins has a wire
+pub has_wires : (circuit : Circuit) → IsCircuit circuit → (number : ℕ) (pins wires : List ℕ) →
+    option_map (λ (net : Net). net.pins) (slice_get circuit number) ≡ Some pins →
+    option_map (λ (net : Net). net.wires) (slice_get circuit number) ≡ Some wires → length wires ≡ length pins
+has_wires circuit ok number pins wires pins_are wires_are =
+    let found = net_there (λ (net : Net). net.wires) (slice_get circuit number) wires wires_are in
+    let same : found.0.pins ≡ pins = let e = rw found.1 at pins_are in same_Some found.0.pins pins e in
+    let timed = timed_at circuit ok number found.0 found.1 in
+    rw (← found.2, ← same) timed.wires.each
+
 arity_of : (kind : GateKind) (pins : ℕ) → takes_pins (Gate kind) pins ≡ true → HasArity kind pins
 arity_of Not pins e = eqb-true pins 1 e
 arity_of Buf pins e = eqb-true pins 1 e

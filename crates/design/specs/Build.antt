@@ -10,16 +10,17 @@ use Rattle.design.specs.Circuit.{Circuit}
 use Rattle.design.specs.Design.{DesignView}
 use Rattle.timing_text.specs.Options.{option_fault}
 use Rattle.timing_text.specs.TimingLines.{NetProperty}
-use Rattle.timing_text.specs.Timings.{properties_of, timing_of_net}
+use Rattle.timing_text.specs.Timings.{properties_of, timing_of_net, wires_of_net}
 use Rattle.timing_text.specs.Stimuli.{NamedChange, stimuli_of, stimuli_named}
 
--- each net with its timing and its stimuli
+-- each net with its timing, its wires and its stimuli
 abbrev pub circuit_with : NetlistView → List NetProperty → List NamedChange → ℕ → ℕ → Circuit
 circuit_with netlist lines stimuli default period =
     map (λ (net : NetView). record {
       name = net.name;
       part = net.part;
       pins = net.pins;
+      wires = wires_of_net lines net;
       timing = timing_of_net default period lines net;
       stimuli = stimuli_named stimuli net.name;
     }) netlist.nets

@@ -3,22 +3,25 @@ use Rattle.std.specs.Prelude.{ℕ, ◌<◌, List, length, sum_by, All}
 use Rattle.logic3.specs.declared.change.Change.{Change}
 use Rattle.netlist.specs.declared.part.Part.{Part}
 use Rattle.timing_text.specs.declared.timing.Timing.{Timing}
-use Rattle.timing_text.specs.Ranges.{HasTiming, HasStimuli}
+use Rattle.timing_text.specs.Ranges.{HasTiming, HasWires, HasStimuli}
 
--- a net of a circuit: what drives it, and when
+-- a net of a circuit: what drives it, how many ticks the wire to each pin takes, and when it looks at its pins
 pub record Net : Type 0 where
   pub name : List ℕ
   pub part : Part
   pub pins : List ℕ
+  pub wires : List ℕ
   pub timing : Timing
   pub stimuli : List Change
 
 abbrev pub Circuit : Type 0
 Circuit = List Net
 
--- a gate or a flip-flop takes at least one tick, an input none, and flip-flops alone have a clock; stimuli stand at inputs alone, and their ticks rise strictly
+-- a gate or a flip-flop takes at least one tick, an input none, and flip-flops alone have a clock; each pin has a wire;
+-- stimuli stand at inputs alone, and their ticks rise strictly
 pub record IsTimed (net : Net) : Type 0 where
   pub timing : HasTiming net.part net.timing
+  pub wires : HasWires (length net.pins) net.wires
   pub stimuli : HasStimuli net.part net.stimuli
 
 -- each pin names a net of the circuit, and nothing but an input answers at once

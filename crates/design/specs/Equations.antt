@@ -1,5 +1,5 @@
 -- What the nets of a circuit show: the defining equations.
-use Rattle.std.specs.Prelude.{◌≡◌, ℕ, zero, suc, ◌+◌, List, length, map, slice_get, Option, None, Some}
+use Rattle.std.specs.Prelude.{◌≡◌, ℕ, zero, suc, ◌+◌, List, [], ◌∷◌, length, map, slice_get, Option, None, Some}
 use Rattle.std.specs.List.{range_with_len}
 use Rattle.std.specs.Option.{option_map_or}
 use Rattle.logic3.specs.declared.value.Value.{Value}
@@ -9,7 +9,16 @@ use Rattle.logic3.specs.Wave.{Wave, value_after, value_at, wave_of}
 use Rattle.netlist.specs.declared.part.Part.{Part}
 use Rattle.netlist.specs.declared.part.Part.TheVariants.{Input, Gate, Flop}
 use Rattle.design.specs.Circuit.{Net, Circuit}
-use Rattle.design.specs.Samples.{asked_of_part}
+use Rattle.design.specs.Samples.{asked_of_part, source_tick}
+
+-- what a pin shows: its source's signal, later by the delay of its wire, and X before
+abbrev pub later : ℕ → (ℕ → Value) → ℕ → Value
+later wire signal tick = option_map_or signal (source_tick wire tick) Unknown
+
+-- what the pins of these sources show, each with its wire
+abbrev pub pin_signals : (ℕ → ℕ → Value) → List ℕ → List ℕ → List (ℕ → Value)
+pin_signals signals (pin ∷ pins) (wire ∷ wires) = later wire (signals pin) ∷ pin_signals signals pins wires
+pin_signals signals _ _ = []
 
 -- what signals show at a tick
 abbrev pub values_at : ℕ → List (ℕ → Value) → List Value
@@ -28,7 +37,7 @@ equation net signals tick = equation_of_part net.part net signals tick
 
 abbrev pub equation_at : Option Net → (ℕ → ℕ → Value) → ℕ → Value
 equation_at None signals tick = Unknown
-equation_at (Some net) signals tick = equation net (map signals net.pins) tick
+equation_at (Some net) signals tick = equation net (pin_signals signals net.pins net.wires) tick
 
 -- a family of signals that meets the equation of each net
 abbrev pub IsSolution : Circuit → (ℕ → ℕ → Value) → Type 0

@@ -7,20 +7,21 @@ use Rattle.timing_text.specs.declared.timing.Timing.{Timing}
 use Rattle.design.specs.Circuit.{Net, Circuit}
 use Rattle.design.specs.Design.{DesignView, IsDesign}
 
-abbrev pub timed_net : NetView × (Timing × List Change) → Net
+abbrev pub timed_net : NetView × ((Timing × List ℕ) × List Change) → Net
 timed_net timed = record {
   name = timed.0.name;
   part = timed.0.part;
   pins = timed.0.pins;
-  timing = timed.1.0;
+  wires = timed.1.0.1;
+  timing = timed.1.0.0;
   stimuli = timed.1.1;
 }
 
--- each net with its timing and its stimuli, in order
-abbrev pub timed_nets : List NetView → List Timing → List (List Change) → Circuit
+-- each net with its timing, its wires and its stimuli, in order
+abbrev pub timed_nets : List NetView → List (Timing × List ℕ) → List (List Change) → Circuit
 timed_nets nets timings stimuli = map timed_net (zip nets (zip timings stimuli))
 
-abbrev pub design_view : NetlistView → List Timing → List (List Change) → DesignView
+abbrev pub design_view : NetlistView → List (Timing × List ℕ) → List (List Change) → DesignView
 design_view netlist timings stimuli = record { netlist = netlist; circuit = timed_nets netlist.nets timings stimuli }
 
 -- the first pin of each net, by the pins of all nets, and at the end the first number that is no pin
@@ -32,7 +33,7 @@ abbrev pub first_pins_of : NetlistView → List ℕ
 first_pins_of netlist = starts_from 0 (map (λ (net : NetView). net.pins) netlist.nets)
 
 -- parts that make a design, with a timing, stimuli and a first pin for each net
-pub record IsJoined (netlist : NetlistView) (first_pins : List ℕ) (timings : List Timing) (stimuli : List (List Change)) : Type 0 where
+pub record IsJoined (netlist : NetlistView) (first_pins : List ℕ) (timings : List (Timing × List ℕ)) (stimuli : List (List Change)) : Type 0 where
   pub starts : first_pins ≡ first_pins_of netlist
   pub some_timing : length timings ≡ length netlist.nets
   pub some_stimuli : length stimuli ≡ length netlist.nets

@@ -1,5 +1,5 @@
--- At which tick a net looks at its pins: what its part and its timing mean, and nothing else says so.
-use Rattle.std.specs.Prelude.{◌≡◌, ℕ, ◌+◌, ◌-◌, ◌*◌, ◌/◌, ◌%◌, ◌==◌, ◌≤◌, nat_lt, max, if◌then◌else◌, Option, None, Some}
+-- At which tick a net looks at its pins and their sources: what its part, its timing and its wires mean, and nothing else says so.
+use Rattle.std.specs.Prelude.{◌≡◌, ℕ, ◌+◌, ◌-◌, ◌*◌, ◌/◌, ◌%◌, ◌==◌, ◌≤◌, nat_lt, max, if◌then◌else◌, Option, None, Some, slice_index_or}
 use Rattle.netlist.specs.declared.part.Part.{Part}
 use Rattle.netlist.specs.declared.part.Part.TheVariants.{Input, Gate, Flop}
 use Rattle.timing_text.specs.declared.timing.Timing.{Timing}
@@ -32,6 +32,14 @@ asked_of_part Flop timing tick =
 
 abbrev pub asked_tick : Net → ℕ → Option ℕ
 asked_tick net tick = asked_of_part net.part net.timing tick
+
+-- the tick of its source that a pin shows at a tick, by the delay of its wire; none before that is over
+abbrev pub source_tick : ℕ → ℕ → Option ℕ
+source_tick wire tick = if nat_lt tick wire then None else Some (tick - wire)
+
+-- how many ticks the wire of the pin at a place takes
+abbrev pub wire_at : Net → ℕ → ℕ
+wire_at net place = slice_index_or net.wires place 0
 
 -- the first tick that asks for this tick of the pins or a later one; none for an input
 abbrev pub asker_of_part : Part → Timing → ℕ → Option ℕ

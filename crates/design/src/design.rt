@@ -2,16 +2,16 @@ ghost use Rattle.std.specs.Prelude.{◌≡◌, ℕ, ◌+◌, ◌<◌, length, op
 ghost use Rattle.std.specs.Option.{ForSome};
 ghost use Rattle.netlist.specs.Netlist.{net_named};
 ghost use Rattle.design.specs.Circuit.{Net, pin_count};
-ghost use Rattle.design.specs.Pins.{sources_of, first_pin, net_of_pin};
+ghost use Rattle.design.specs.Pins.{sources_of, wires_of, first_pin, net_of_pin};
 
 mod build;
 
 use logic3::{Change, Value};
 use netlist::{Netlist, Part};
 use std::marker::Model;
-use timing_text::Timing;
+use timing_text::{NetTiming, Timing};
 
-/// A netlist with its timing and stimuli.
+/// A netlist with its timing, its wires and its stimuli.
 ///
 /// Nets are numbered as in the netlist, and the pins of all nets are numbered from 0, net by net. A
 /// method that takes the number of a net asks for one below [`nets`](Self::nets), and one that takes
@@ -21,8 +21,9 @@ pub struct Design {
     netlist: Netlist,
     // The first pin of each net, and at the end how many pins there are.
     first_pins: Vec<u32>,
-    // The timing and the stimuli of each net.
-    timings: Vec<Timing>,
+    // The timing of each net, and the delays of the wires to its pins.
+    timings: Vec<NetTiming>,
+    // The stimuli of each net.
     stimuli: Vec<Vec<Change>>,
 }
 
@@ -32,12 +33,14 @@ impl Model for Design {
 
     ghost Value = { DesignView };
 
+    ghost use Rattle.timing_text.specs.Timings.{seen_timing};
     ghost use Rattle.design.specs.Joined.{design_view, IsJoined};
 
-    ghost view = { λ d. design_view d.netlist d.timings.items (map (λ v. v.items) d.stimuli.items) };
+    ghost view = { λ d.
+        design_view d.netlist (map seen_timing d.timings.items) (map (λ v. v.items) d.stimuli.items) };
 
-    ghost invariant = { λ d.
-        IsJoined d.netlist d.first_pins.items d.timings.items (map (λ v. v.items) d.stimuli.items) };
+    ghost invariant = { λ d. IsJoined d.netlist d.first_pins.items (map seen_timing d.timings.items)
+        (map (λ v. v.items) d.stimuli.items) };
 }
 
 impl Design {
@@ -58,7 +61,7 @@ impl Design {
         self.first_pins[self.netlist.nets() as usize]
     }
 
-    /// The netlist, without timing and stimuli.
+    /// The netlist, without timing, wires and stimuli.
     pub fn netlist(&self) -> &Netlist
         ensures { result.now ≡ self.now.netlist }
     {
@@ -134,7 +137,25 @@ impl Design {
         requires { net < length self.now.circuit }
         ensures { option_map (λ (n : Net). n.timing) (slice_get self.now.circuit net) ≡ Some result }
     {
-        self.timings[net as usize]
+        self.timings[net as usize].timing
+    }
+
+    /// How many ticks the wire to each pin of a net takes, in order: 0 to 1,000,000.
+    pub fn wires_of(&self, net: u32) -> &[u32]
+        requires { net < length self.now.circuit }
+        ensures { option_map (λ (n : Net). n.wires) (slice_get self.now.circuit net) ≡ Some result.now }
+    {
+        self.timings[net as usize].wires.as_slice()
+    }
+
+    /// How many ticks the wire to a pin takes: 0 to 1,000,000. Takes logarithmic time.
+    pub fn wire(&self, pin: u32) -> u64
+        requires { pin < pin_count self.now.circuit }
+        ensures { slice_get (wires_of self.now.circuit) pin ≡ Some result }
+    {
+        let net = self.pin_net(pin);
+        let place = pin - self.first_pins[net as usize];
+        u64::from(self.wires_of(net)[place as usize])
     }
 
     /// The delay of a net in ticks: 0 for an input, else 1 to 1,000,000.

@@ -1,12 +1,13 @@
 //! Facts about the defining equations alone.
-ghost use Rattle.std.specs.Prelude.{◌≡◌, ℕ, ◌+◌, ◌<◌, ◌≤◌, List, Some, Ok};
+ghost use Rattle.std.specs.Prelude.{◌≡◌, ℕ, ◌+◌, ◌<◌, ◌≤◌, List, map, All, Some, Ok};
 ghost use Rattle.logic3.specs.declared.value.Value.{Value};
+ghost use Rattle.logic3.specs.declared.value.Value.TheVariants.{Unknown};
 ghost use Rattle.netlist.specs.Netlist.{NetlistView, IsNetlist};
 ghost use Rattle.timing_text.specs.Timings.{IsFirstVersion};
 ghost use Rattle.design.specs.Build.{circuit_of};
 ghost use Rattle.design.specs.Circuit.{Net, Circuit, IsTimed, IsCircuit};
-ghost use Rattle.design.specs.Samples.{IsSample, first_sample, last_sample, next_sample, asked_tick, first_asker};
-ghost use Rattle.design.specs.Equations.{IsSolution, value_of};
+ghost use Rattle.design.specs.Samples.{IsSample, first_sample, last_sample, next_sample, asked_tick, source_tick, first_asker};
+ghost use Rattle.design.specs.Equations.{later, equation, equation_at, IsSolution, value_of};
 ghost use Rattle.design.specs.OnePeriod.{IsPeriodicSolution};
 
 /// The equations of a circuit have one solution, and no other.
@@ -45,6 +46,17 @@ pub fn samples()
         IsSample period phase (next_sample period phase tick) × (tick ≤ next_sample period phase tick) }
     ensures soonest { (period phase tick sample : ℕ) → phase < period → IsSample period phase sample →
         tick ≤ sample → next_sample period phase tick ≤ sample }
+{}
+
+/// A pin shows what its source showed so many ticks before as its wire takes, and X until then. Where
+/// no wire of a net takes a tick, its equation is that over its sources themselves.
+pub fn wires()
+    ensures source { (wire tick at : ℕ) → source_tick wire tick ≡ Some at → at + wire ≡ tick }
+    ensures shown { (wire at : ℕ) (signal : ℕ → Value) → later wire signal (at + wire) ≡ signal at }
+    ensures before { (wire tick : ℕ) (signal : ℕ → Value) → tick < wire → later wire signal tick ≡ Unknown }
+    ensures at_once { (net : Net) (signals : ℕ → ℕ → Value) (tick : ℕ) → IsTimed net →
+        All (λ wire. wire ≡ 0) net.wires →
+        equation_at (Some net) signals tick ≡ equation net (map signals net.pins) tick }
 {}
 
 /// A net's value asks for its pins at least a delay earlier, and a later value doesn't ask for an

@@ -2,7 +2,7 @@
 //!
 //! It is the second opinion on any other engine, so it does nothing clever: an earlier value is
 //! looked up in the waveforms so far, and nothing else is kept.
-ghost use Rattle.std.specs.Prelude.{◌≡◌, ℕ, ◌+◌, ◌<◌, ◌≤◌, if◌then◌else◌, List, [], ◌∷◌, length, map, slice_get, All, IfOk, OnOk};
+ghost use Rattle.std.specs.Prelude.{◌≡◌, ℕ, ◌+◌, ◌<◌, ◌≤◌, if◌then◌else◌, List, [], ◌∷◌, length, slice_get, All, IfOk, OnOk};
 ghost use Rattle.std.specs.Option.{option_map_or};
 ghost use Rattle.logic3.specs.declared.value.Value.TheVariants.{Unknown};
 ghost use Rattle.logic3.specs.Value.{is_same};
@@ -10,7 +10,7 @@ ghost use Rattle.logic3.specs.Gate.{HasArity, value_of_gate};
 ghost use Rattle.logic3.specs.Wave.{last_value, joined};
 ghost use Rattle.timing_text.specs.Ranges.{most_ticks};
 ghost use Rattle.design.specs.Design.{IsDesign};
-ghost use Rattle.design.specs.Equations.{equation_at, signals_in, waves_of};
+ghost use Rattle.design.specs.Equations.{equation_at, later, pin_signals, signals_in, values_at, waves_of};
 
 use crate::design::Design;
 use crate::samples::asked_tick;
@@ -98,13 +98,14 @@ fn net_value(
         (λ value. value ≡ equation_at (slice_get design.now.circuit net) (signals_in waves.now) tick) }
 {
     let pins = design.pins_of(net);
+    let wires = design.wires_of(net);
     let part = design.part(net);
     let timing = design.timing(net);
     let asked = asked_tick(part, timing, tick);
     match part {
         Part::Input => Ok(value_after(Value::Unknown, design.stimuli(net), tick)),
-        Part::Gate(kind) => gate_value(kind, pins, asked, waves, values),
-        Part::Flop => Ok(sampled_value(pins[0], asked, timing.initial, waves)),
+        Part::Gate(kind) => gate_value(kind, pins, wires, asked, waves, values),
+        Part::Flop => Ok(sampled_value(pins[0], wires[0], asked, timing.initial, waves)),
     }
 }
 
@@ -112,47 +113,68 @@ fn net_value(
 fn gate_value(
     kind: GateKind,
     pins: &[u32],
+    wires: &[u32],
     asked: Option<u64>,
     waves: &[Waveform],
     values: &mut Vec<Value>,
 ) -> Result<Value, AllocError>
     requires arity { HasArity kind (length pins.now) }
     requires pins { All (λ pin. pin < length waves.now) pins.now }
+    requires wires { length wires.now ≡ length pins.now }
     ensures { IfOk result (λ value. value ≡ option_map_or
-        (λ tick. value_of_gate kind (map (λ pin. signals_in waves.now pin tick) pins.now)) asked Unknown) }
+        (λ tick. value_of_gate kind (values_at tick (pin_signals (signals_in waves.now) pins.now wires.now))) asked Unknown) }
 {
     let Some(tick) = asked else {
         return Ok(Value::Unknown);
     };
-    read_pins(pins, waves, tick, values)?;
+    read_pins(pins, wires, waves, tick, values)?;
     Ok(gate(kind, values))
 }
 
 /// Fills the buffer with what the pins show at a tick.
 fn read_pins(
     pins: &[u32],
+    wires: &[u32],
     waves: &[Waveform],
     tick: u64,
     values: &mut Vec<Value>,
 ) -> Result<(), AllocError>
-    requires { All (λ pin. pin < length waves.now) pins.now }
-    ensures { OnOk result (values.new.items ≡ map (λ pin. signals_in waves.now pin tick) pins.now) }
+    requires pins { All (λ pin. pin < length waves.now) pins.now }
+    requires wires { length wires.now ≡ length pins.now }
+    ensures { OnOk result (values.new.items ≡ values_at tick (pin_signals (signals_in waves.now) pins.now wires.now)) }
 {
     values.clear();
-    for pin in pins {
-        values.push(shown(waves, *pin, tick))?;
+    for place in 0..pins.len() {
+        values.push(pin_value(pins[place], wires[place], waves, tick))?;
     }
     Ok(())
 }
 
 /// What a flip-flop shows: its pin at the tick it asks for, its initial value where there is none.
-fn sampled_value(pin: u32, asked: Option<u64>, initial: Value, waves: &[Waveform]) -> Value
+fn sampled_value(
+    pin: u32,
+    wire: u32,
+    asked: Option<u64>,
+    initial: Value,
+    waves: &[Waveform],
+) -> Value
     requires { pin < length waves.now }
-    ensures { result ≡ option_map_or (signals_in waves.now pin) asked initial }
+    ensures { result ≡ option_map_or (later wire (signals_in waves.now pin)) asked initial }
 {
     match asked {
-        Some(tick) => shown(waves, pin, tick),
+        Some(tick) => pin_value(pin, wire, waves, tick),
         None => initial,
+    }
+}
+
+/// What a pin shows at a tick: its source's value, earlier by the delay of its wire, and X before.
+fn pin_value(pin: u32, wire: u32, waves: &[Waveform], tick: u64) -> Value
+    requires { pin < length waves.now }
+    ensures { result ≡ later wire (signals_in waves.now pin) tick }
+{
+    match tick.checked_sub(u64::from(wire)) {
+        Some(earlier) => shown(waves, pin, earlier),
+        None => Value::Unknown,
     }
 }
 

@@ -1,7 +1,7 @@
 //! At which tick a net looks at its pins.
 ghost use Rattle.std.specs.Prelude.{◌≡◌, ◌<◌, ◌≤◌, ◌+◌};
 ghost use Rattle.netlist.specs.declared.part.Part.TheVariants.{Flop};
-ghost use Rattle.timing_text.specs.Ranges.{most_ticks, HasTiming};
+ghost use Rattle.timing_text.specs.Ranges.{most_delay, most_ticks, HasTiming};
 ghost use Rattle.design.specs.Samples.{first_sample, last_sample, next_sample, asked_of_part, asker_of_part};
 
 use netlist::Part;
@@ -38,7 +38,7 @@ fn sampled_tick(timing: Timing, tick: u64) -> Option<u64>
 /// None for an input.
 pub fn first_asker(part: Part, timing: Timing, tick: u64) -> Option<u64>
     requires timing { HasTiming part timing }
-    requires tick { tick ≤ most_ticks + 1 }
+    requires tick { tick ≤ most_ticks + 1 + most_delay }
     ensures { result ≡ asker_of_part part timing tick }
 {
     match part {
@@ -69,7 +69,7 @@ fn next_sample(period: u64, phase: u64, tick: u64) -> u64
     requires some { 0 < period }
     requires most { period ≤ most_ticks }
     requires phase { phase < period }
-    requires tick { tick ≤ most_ticks + 1 }
+    requires tick { tick ≤ most_ticks + 1 + most_delay }
     ensures { result ≡ next_sample period phase tick }
 {
     let periods = tick.saturating_sub(phase).div_ceil(period);

@@ -119,6 +119,42 @@ pub(crate) const TWO_CLOCKS: Circuit = Circuit {
     ..SAMPLER
 };
 
+/// The buffer and the gate that compares its two sides, with a wire to the first side that takes as long as
+/// the buffer.
+pub(crate) const WIRED_XOR: Circuit = Circuit {
+    delays: b"timing version 2\nwire y 0 1\n",
+    ..LATE_PIN
+};
+
+/// The flip-flop, which sees its pin a tick too late to sample its first change.
+pub(crate) const WIRED_FLOP: Circuit = Circuit {
+    delays: b"timing version 2\nwire q 0 1\n",
+    ..SAMPLER
+};
+
+/// The inverter, with a wire that takes longer than most horizons.
+pub(crate) const WIRED_INVERTER: Circuit = Circuit {
+    delays: b"timing version 2\nwire y 0 1000000\n",
+    ..INVERTER
+};
+
+/// A gate that compares its input with what it was two ticks before: each change of the input makes a
+/// pulse.
+pub(crate) const PULSE: Circuit = Circuit {
+    bench: b"INPUT(a)\ny = XOR(a, a)\n",
+    delays: b"timing version 2\nwire y 1 2\n",
+    stimuli: b"0 a 0\n5 a 1\n",
+    ..INVERTER
+};
+
+/// A gate whose third pin is its own net, three ticks later.
+pub(crate) const WIRED_OSCILLATOR: Circuit = Circuit {
+    bench: b"INPUT(e)\ny = NAND(e, e, y)\n",
+    delays: b"timing version 2\nwire y 1 4\nwire y 2 2\n",
+    stimuli: b"0 e 0\n5 e 1\n",
+    ..INVERTER
+};
+
 /// Seventeen nets, three of them flip-flops.
 pub(crate) const S27: Circuit = Circuit {
     bench: S27_BENCH,

@@ -3,7 +3,7 @@ ghost use Rattle.std.specs.Prelude.{◌≡◌, OnOk};
 
 use crate::circuits::{
     CLOCKED, Circuit, GATED_OSCILLATOR, INVERTER, LATE_PIN, PRESET_RING, RING_COUNTER, SAMPLER,
-    SELF_INVERTER, SLOW_INVERTER,
+    SELF_INVERTER, SLOW_INVERTER, WIRED_FLOP, WIRED_INVERTER, WIRED_XOR,
 };
 use Event::{Advance, Deliver};
 use cmb_channels::{Fabric, Logs, Queues};
@@ -127,6 +127,9 @@ fn by_rounds(rt: HostRuntime) -> Result<(), Fail> {
         (CLOCKED, 9, counts(7, 5, 3, 2)),
         (PRESET_RING, 10, counts(27, 7, 7, 7)),
         (SLOW_INVERTER, 5, counts(2, 2, 2, 1)),
+        (WIRED_XOR, 8, counts(19, 5, 6, 3)),
+        (WIRED_FLOP, 9, counts(7, 3, 2, 2)),
+        (WIRED_INVERTER, 5, counts(2, 2, 2, 1)),
     ] {
         let after = (counts(0, 0, 0, 0), 0);
         plays(

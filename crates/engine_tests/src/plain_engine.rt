@@ -1,7 +1,8 @@
 //! The plain engine on worked circuits.
 use crate::circuits::{
     CLOCKED, CONTROLLED_AND, CROSSING, Circuit, GATED_OSCILLATOR, INVERTER, LATE_PIN, PRESET_RING,
-    RING_COUNTER, S27, SAMPLER, SELF_INVERTER, SLOW_INVERTER, TWO_CLOCKS,
+    PULSE, RING_COUNTER, S27, SAMPLER, SELF_INVERTER, SLOW_INVERTER, TWO_CLOCKS, WIRED_FLOP,
+    WIRED_INVERTER, WIRED_OSCILLATOR, WIRED_XOR,
 };
 use Value::{One, Unknown, Zero};
 use design::{Design, plain_waves};
@@ -140,6 +141,27 @@ fn clocks_and_initial_values(rt: HostRuntime) -> Result<(), Fail> {
         (PRESET_RING, 10, b"n", &[(1, One), (5, Zero), (8, One)]),
         (TWO_CLOCKS, 14, b"q", &[(3, One), (9, Zero), (12, One)]),
         (TWO_CLOCKS, 14, b"r", &[(0, Zero), (7, One)]),
+    ] {
+        shows(&rt, rt.alloc(), circuit, horizon, net, changes)?;
+    }
+    Ok(())
+}
+
+#[test]
+fn wires(rt: HostRuntime) -> Result<(), Fail> {
+    for (circuit, horizon, net, changes) in [
+        (WIRED_XOR, 8, b"y", [(2, Zero)].as_slice()),
+        (WIRED_XOR, 8, b"b", &[(1, Zero), (6, One)]),
+        (WIRED_FLOP, 9, b"q", &[(9, Zero)]),
+        (WIRED_INVERTER, 5, b"y", &[]),
+        (PULSE, 9, b"y", &[(3, Zero), (6, One), (8, Zero)]),
+        // Its second pin is 1 from tick 9 on, and then it is the opposite of what it was three ticks before.
+        (
+            WIRED_OSCILLATOR,
+            14,
+            b"y",
+            &[(1, One), (10, Zero), (13, One)],
+        ),
     ] {
         shows(&rt, rt.alloc(), circuit, horizon, net, changes)?;
     }

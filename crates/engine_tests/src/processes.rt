@@ -3,7 +3,7 @@ ghost use Rattle.std.specs.Prelude.{◌≡◌, false, length, option_map, slice_
 ghost use Rattle.logic3.specs.Wave.{last_value};
 ghost use Rattle.gate_process.specs.Knowledge.{Knowledge};
 
-use crate::circuits::{CROSSING, Circuit, INVERTER, SAMPLER};
+use crate::circuits::{CROSSING, Circuit, INVERTER, SAMPLER, WIRED_INVERTER, WIRED_XOR};
 use Message::Null;
 use Step::{Drains, Hears, HearsFar, Keeps, Knows, PinKnows, Shows, Tells, TellsFar};
 use Value::{One, Unknown, Zero};
@@ -276,6 +276,11 @@ const HIGH_1: Change = Change {
     value: One,
 };
 
+const LOW_2: Change = Change {
+    tick: 2,
+    value: Zero,
+};
+
 const HIGH_3: Change = Change {
     tick: 3,
     value: One,
@@ -379,6 +384,37 @@ const OF_A_FLOP: [Step; 10] = [
 #[test]
 fn flop_process(rt: HostRuntime) -> Result<(), Fail> {
     follows(&rt, rt.alloc(), FLOP, b"q", 9, &OF_A_FLOP)
+}
+
+// The first pin is seen a tick later than the second.
+const OF_A_WIRED_GATE: [Step; 12] = [
+    Knows(0, 0),
+    Tells(&[Null(1)]),
+    Hears(1, &[Message::Change(LOW_1), Null(9)]),
+    Knows(1, 1),
+    Tells(&[Null(2)]),
+    Hears(0, &[Message::Change(LOW_0)]),
+    PinKnows(0, 1, Zero),
+    Knows(2, 2),
+    Tells(&[Message::Change(LOW_2)]),
+    Hears(0, &[Null(9)]),
+    Knows(9, 3),
+    Tells(&[Null(9)]),
+];
+
+// The wire takes longer than the run: nothing that its pin is told plays a part.
+const OF_A_FAR_GATE: [Step; 5] = [
+    Knows(1_000_000, 0),
+    Tells(&[Null(6)]),
+    Hears(0, &TOLD),
+    Knows(1_000_006, 6),
+    Tells(&[]),
+];
+
+#[test]
+fn wired_processes(rt: HostRuntime) -> Result<(), Fail> {
+    follows(&rt, rt.alloc(), WIRED_XOR, b"y", 8, &OF_A_WIRED_GATE)?;
+    follows(&rt, rt.alloc(), WIRED_INVERTER, b"y", 5, &OF_A_FAR_GATE)
 }
 
 const FAR_INVERTER: Circuit = Circuit {

@@ -3,8 +3,9 @@
 ghost use Rattle.std.specs.Prelude.{◌≡◌, OnOk};
 
 use crate::circuits::{
-    CLOCKED, CROSSING, Circuit, GATED_OSCILLATOR, INVERTER, LATE_PIN, PRESET_RING, RING_COUNTER,
-    S27, SAMPLER, SELF_INVERTER, TWO_CLOCKS,
+    CLOCKED, CROSSING, Circuit, GATED_OSCILLATOR, INVERTER, LATE_PIN, PRESET_RING, PULSE,
+    RING_COUNTER, S27, SAMPLER, SELF_INVERTER, TWO_CLOCKS, WIRED_FLOP, WIRED_INVERTER,
+    WIRED_OSCILLATOR, WIRED_XOR,
 };
 use cmb_channels::{Fabric, Logs, Queues};
 use cmb_kernel::{Counts, Kernel};
@@ -205,7 +206,7 @@ fn circuit_over_windows(
     run_over_windows(rt, alloc, &design, horizon, width)
 }
 
-static CIRCUITS: [Circuit; 11] = [
+static CIRCUITS: [Circuit; 16] = [
     INVERTER,
     SELF_INVERTER,
     GATED_OSCILLATOR,
@@ -216,6 +217,11 @@ static CIRCUITS: [Circuit; 11] = [
     PRESET_RING,
     TWO_CLOCKS,
     CROSSING,
+    WIRED_XOR,
+    WIRED_FLOP,
+    WIRED_INVERTER,
+    PULSE,
+    WIRED_OSCILLATOR,
     S27,
 ];
 

@@ -16,8 +16,8 @@ use Rattle.design.specs.Circuit.{Net}
 use Rattle.timing_text.specs.Ranges.{HasTiming}
 use Rattle.design.specs.Design.{DesignView, IsDesign}
 use Rattle.design.specs.Samples.{asked_of_part}
-use Rattle.design.specs.Equations.{values_at, equation_of_part, value_within, value_of}
-use Rattle.design.proofs.CallerLemmas.{net_named-circuit, asked-early, same_asked, length-circuit, timed_at, pins_at, IsCircuit-from_IsDesign}
+use Rattle.design.specs.Equations.{pin_signals, values_at, equation_of_part, value_within, value_of}
+use Rattle.design.proofs.CallerLemmas.{net_named-circuit, asked-early, same_asked, same_later, source_tick-is, length-circuit, timed_at, pins_at, IsCircuit-from_IsDesign}
 use Rattle.netlist.proofs.CallerLemmas.{no_net, net_at-named}
 use Rattle.fanin_cone.specs.Cone.{pin_names, IsClosed}
 use Rattle.fanin_cone.specs.Agreement.{net_of, stimuli_to, IsSameNet, AgreesAt, AgreesOn}
@@ -46,8 +46,8 @@ value_after-filter v (change ∷ changes) horizon tick h =
 -- the same signals at each earlier tick give the same value
 same_equation : (part : Part) (x y : Net) (f g : ℕ → ℕ → Value) (horizon tick : ℕ) → HasTiming part x.timing →
     x.timing ≡ y.timing → stimuli_to horizon x.stimuli ≡ stimuli_to horizon y.stimuli → tick ≤ horizon →
-    ((at : ℕ) → at < tick → values_at at (map f x.pins) ≡ values_at at (map g y.pins)) →
-    equation_of_part part x (map f x.pins) tick ≡ equation_of_part part y (map g y.pins) tick
+    ((at : ℕ) → at < tick → values_at at (pin_signals f x.pins x.wires) ≡ values_at at (pin_signals g y.pins y.wires)) →
+    equation_of_part part x (pin_signals f x.pins x.wires) tick ≡ equation_of_part part y (pin_signals g y.pins y.wires) tick
 same_equation Input x y f g horizon tick timed timing stimuli h pins =
     sym (value_after-filter Unknown x.stimuli horizon tick h)
     ∙ ap (λ changes. value_after Unknown changes tick) stimuli
@@ -64,21 +64,24 @@ same_equation Flop x y f g horizon tick timed timing stimuli h pins =
     ap only_pin (pins at (omega arith))))
 
 module _ (a b : DesignView) (ok_a : IsDesign a) (ok_b : IsDesign b) (K : List ℕ → Type 0) where
-  -- pins of the same names show the same
+  -- pins of the same names with the same wires show the same
   same_pins : (f g : ℕ → ℕ → Value) (at : ℕ) →
-      ((name : List ℕ) (m n : ℕ) → K name → net_named a.netlist name ≡ Some m → net_named b.netlist name ≡ Some n → f m at ≡ g n at) →
-      (ps qs : List ℕ) → AllByRecursion (λ pin. pin < length a.circuit) ps → AllByRecursion (λ pin. pin < length b.circuit) qs →
+      ((name : List ℕ) (m n early : ℕ) → K name → net_named a.netlist name ≡ Some m → net_named b.netlist name ≡ Some n → early ≤ at → f m early ≡ g n early) →
+      (ps qs wires : List ℕ) → AllByRecursion (λ pin. pin < length a.circuit) ps → AllByRecursion (λ pin. pin < length b.circuit) qs →
       AllByRecursion K (pin_names a.netlist ps) → pin_names a.netlist ps ≡ pin_names b.netlist qs →
-      values_at at (map f ps) ≡ values_at at (map g qs)
-  same_pins f g at same [] [] u v k e = refl
-  same_pins f g at same [] (q ∷ qs) u v k e = cc
-  same_pins f g at same (p ∷ ps) [] u v k e = cc
-  same_pins f g at same (p ∷ ps) (q ∷ qs) u v k e =
-      let rest = same_pins f g at same ps qs u.1 v.1 k.1 (cc) in
+      values_at at (pin_signals f ps wires) ≡ values_at at (pin_signals g qs wires)
+  same_pins f g at same [] [] wires u v k e = refl
+  same_pins f g at same [] (q ∷ qs) wires u v k e = cc
+  same_pins f g at same (p ∷ ps) [] wires u v k e = cc
+  same_pins f g at same (p ∷ ps) (q ∷ qs) [] u v k e = refl
+  same_pins f g at same (p ∷ ps) (q ∷ qs) (wire ∷ wires) u v k e =
+      let rest = same_pins f g at same ps qs wires u.1 v.1 k.1 (cc) in
       let equal : name_at a.netlist p ≡ name_at b.netlist q = cc in
       let first = own_number a.netlist ok_a.netlist p (omega (arith, u.0, length-circuit a ok_a)) in
       let second = own_number b.netlist ok_b.netlist q (omega (arith, v.0, length-circuit b ok_b)) in
-      let head = same (name_at a.netlist p) p q k.0 first (subst (λ name. net_named b.netlist name ≡ Some q) (sym equal) second) in
+      let head = same_later (f p) (g q) at wire (λ early is.
+      same (name_at a.netlist p) p q early k.0 first (subst (λ name. net_named b.netlist name ≡ Some q) (sym equal) second)
+      (omega (arith, source_tick-is wire at early is))) in
       cc
 
   -- the net of a number, where its name is that of a net
@@ -112,11 +115,12 @@ module _ (a b : DesignView) (ok_a : IsDesign a) (ok_b : IsDesign b) (K : List �
       rw (at_a, at_b)
       (same_equation x.part x y (value_within a.circuit ticks) (value_within b.circuit ticks) horizon tick timed.timing same.timing.timing same.timing.stimuli h
       (λ at early. same_pins (value_within a.circuit ticks) (value_within b.circuit ticks) at
-      (λ other p q k_p at_p at_q. value_agrees_within horizon closed agree ticks other p q at k_p at_p at_q (omega arith) (omega arith))
-      x.pins y.pins
+      (λ other p q past k_p at_p at_q before. value_agrees_within horizon closed agree ticks other p q past k_p at_p at_q (omega arith) (omega arith))
+      x.pins y.pins x.wires
       (recursion_from_All _ x.pins (pins_at a.circuit circuit_a m x at_a)) (recursion_from_All _ y.pins (pins_at b.circuit circuit_b n y at_b))
-      (recursion_from_All K (pin_names a.netlist x.pins) (pins_in closed name m x k found_a at_a)) same.pins)
-      ∙ ap (λ part. equation_of_part part y (map (value_within b.circuit ticks) y.pins) tick) same.part)
+      (recursion_from_All K (pin_names a.netlist x.pins) (pins_in closed name m x k found_a at_a)) same.pins
+      ∙ ap (λ wires. values_at at (pin_signals (value_within b.circuit ticks) y.pins wires)) same.timing.wires)
+      ∙ ap (λ part. equation_of_part part y (pin_signals (value_within b.circuit ticks) y.pins y.wires) tick) same.part)
 
   -- two designs that agree on a closed set show the same there, at every tick up to the horizon
   pub value_agrees : (horizon : ℕ) → IsClosed a.netlist K → AgreesOn a b K horizon → (name : List ℕ) (m n tick : ℕ) → K name →

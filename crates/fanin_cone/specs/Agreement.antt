@@ -19,9 +19,11 @@ HasNet design name = IsSome (net_of design name)
 abbrev pub stimuli_to : ℕ → List Change → List Change
 stimuli_to horizon stimuli = filter (λ (change : Change). nat_le change.tick horizon) stimuli
 
--- the same delay, for a flip-flop the same clock and initial value, and the same stimuli up to the horizon
+-- the same delay, for a flip-flop the same clock and initial value, wires of the same delays at the pins in order, and the same
+-- stimuli up to the horizon
 pub record HasSameTiming (horizon : ℕ) (x y : Net) : Type 0 where
   pub timing : x.timing ≡ y.timing
+  pub wires : x.wires ≡ y.wires
   pub stimuli : stimuli_to horizon x.stimuli ≡ stimuli_to horizon y.stimuli
 
 -- the same part, pin names in order, and timing; numbers play no part

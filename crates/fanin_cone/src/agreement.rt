@@ -17,8 +17,9 @@ use timing_text::Horizon;
 /// name has in the first one; None where one of them has no net of this name.
 ///
 /// They agree where each name of the cone is a net of both, with the same part, the same names at its
-/// pins in order, the same delay, the same period, phase and initial value if it is a flip-flop, and the
-/// same stimuli at ticks up to the horizon. The numbers of nets play no part.
+/// pins in order, the same delay, the same period, phase and initial value if it is a flip-flop, wires of
+/// the same delays at its pins in order, and the same stimuli at ticks up to the horizon. The numbers of
+/// nets play no part.
 ///
 /// # Errors
 /// An `AllocError` where a growth was refused.
@@ -76,6 +77,7 @@ fn is_same_net(first: &Design, net: u32, second: &Design, other: u32, horizon: H
     let same_stimuli = has_same_stimuli(first.stimuli(net), second.stimuli(other), horizon);
     first.part(net) == second.part(other)
         && first.timing(net) == second.timing(other)
+        && first.wires_of(net) == second.wires_of(other)
         && same_names
         && same_stimuli
 }

@@ -1,5 +1,5 @@
 -- What a process knows when it has advanced.
-use Rattle.std.proofs.Common.{◌≡◌, ℕ, zero, suc, ◌<◌, ◌≤◌, List, All, map, refl, ap, sym, subst, ◌∙◌, arith}
+use Rattle.std.proofs.Common.{◌≡◌, ℕ, zero, suc, ◌<◌, ◌≤◌, List, All, length, Some, slice_get, refl, ap, sym, subst, ◌∙◌, arith}
 use Rattle.std.proofs.lemmas.Bool.{lt-ltb}
 use Rattle.logic3.specs.declared.change.Change.{Change}
 use Rattle.logic3.specs.Wave.{Wave, value_at, value_before, last_value, changes_between, wave_of, joined}
@@ -7,7 +7,7 @@ use Rattle.logic3.proofs.CallerLemmas.{last_value-wave_of, All-wave_of, changes_
 use Rattle.gate_process.specs.Knowledge.{Knowledge, keeping}
 use Rattle.gate_process.specs.Step.{ProcessState, next_frontier, oldest_asked, reckoned, extended, advanced}
 use Rattle.gate_process.specs.Truth.{IsProcess}
-use Rattle.gate_process.proofs.Kept.{all_kept-map}
+use Rattle.gate_process.proofs.Kept.{all_kept-each}
 
 module _ (process : ProcessState) (ok : IsProcess process) where
   known_wave : process.known.wave ≡ wave_of (value_at process.known.wave) process.floor process.known.frontier
@@ -44,12 +44,14 @@ module _ (process : ProcessState) (ok : IsProcess process) where
       ∙ joined-wave_of (reckoned process) process.floor process.known.frontier (next_frontier process) ok.floor ok.ahead
 
   -- so a process of these parts has advanced
-  pub advanced_of : (wave : Wave) (frontier oldest : ℕ) (received : List Knowledge) → frontier ≡ next_frontier process →
+  pub advanced_of : (wave : Wave) (frontier : ℕ) (received : List Knowledge) → frontier ≡ next_frontier process →
       wave ≡ joined process.known.wave (changes_between (reckoned process) process.known.frontier frontier) →
-      ((place : ℕ) → oldest ≡ oldest_asked process.net place frontier) → received ≡ map (keeping oldest) process.received →
+      length received ≡ length process.received →
+      ((place : ℕ) (known : Knowledge) → slice_get process.received place ≡ Some known →
+      slice_get received place ≡ Some (keeping (oldest_asked process.net place frontier) known)) →
       record process { known = record { wave = wave; frontier = frontier }; received = received } ≡ advanced process
-  advanced_of wave frontier oldest received to wave_is oldest_is received_is =
-      let all = received_is
-      ∙ all_kept-map (extended process) oldest 0 process.received (λ place. oldest_is place ∙ ap (oldest_asked process.net place) to) in
+  advanced_of wave frontier received to wave_is long each =
+      let all = all_kept-each (extended process) process.received received long (λ place known e.
+      each place known e ∙ ap (λ n. Some (keeping (oldest_asked process.net place n) known)) to) in
       let shown = wave_is ∙ ap (λ n. joined process.known.wave (changes_between (reckoned process) process.known.frontier n)) to ∙ advanced_wave in
       λ i. record process { known = record { wave = shown i; frontier = to i }; received = all i }

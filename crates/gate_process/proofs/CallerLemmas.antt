@@ -6,4 +6,5 @@ pub use Rattle.gate_process.proofs.Heard.{can_hear_change, can_hear_null}
 pub use Rattle.gate_process.proofs.Kept.{get_of_kept, length-all_kept}
 pub use Rattle.gate_process.proofs.Quiet.{no_news}
 pub use Rattle.gate_process.proofs.Reckoned.{news_true}
+pub use Rattle.gate_process.proofs.SeenPins.{safe_greatest}
 pub use Rattle.gate_process.proofs.Told.{HeardTruth, Tells-append, Tells-le, heard_truth, told_all_truth}

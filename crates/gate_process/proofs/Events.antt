@@ -8,11 +8,12 @@ use Rattle.timing_text.specs.Ranges.{most_ticks}
 use Rattle.cmb_channels.specs.declared.message.Message.{Message}
 use Rattle.cmb_channels.proofs.CallerLemmas.{length-update, IsUpdated, get_of_update}
 use Rattle.gate_process.specs.Knowledge.{Knowledge, nothing_known, knowledge_of, told, forgetting, Tells}
-use Rattle.gate_process.specs.Step.{ProcessState, least, safe_of, frontier_of, next_frontier, started_process, reckoned, kept_from, kept, extended, advanced, heard}
+use Rattle.gate_process.specs.Step.{ProcessState, least_or, safe_of, frontier_of, next_frontier, started_process, reckoned, kept_from, kept, extended, advanced, heard}
 use Rattle.gate_process.specs.Truth.{Meets, KnowsTruth, IsNet, IsProcess}
-use Rattle.gate_process.proofs.Kept.{length-all_kept, frontiers-all_kept, get_of_kept, kept_farther}
+use Rattle.gate_process.proofs.Kept.{length-all_kept, get_of_kept, kept_farther}
 use Rattle.gate_process.proofs.Told.{forgetting_truth, kept_truth, HeardTruth, heard_truth}
-use Rattle.gate_process.proofs.Frontiers.{least-update, frontier-mono, asked-kept}
+use Rattle.gate_process.proofs.Frontiers.{frontier-mono, asked-kept}
+use Rattle.gate_process.proofs.SeenPins.{frontiers-seen_kept, safe-update}
 use Rattle.gate_process.proofs.Reckoned.{advanced_true}
 
 pub get_below : {A : Type 0} (xs : List A) (place : ℕ) → place < length xs → (x : A) × (slice_get xs place ≡ Some x)
@@ -27,7 +28,7 @@ get_of_map view (x ∷ xs) zero y e = (x, refl, cc)
 get_of_map view (x ∷ xs) (suc at) y e = get_of_map view xs at y e
 
 pub advanced-safe : (process : ProcessState) → safe_of (advanced process) ≡ safe_of process
-advanced-safe process = ap (λ ns. least process.end ns) (frontiers-all_kept (extended process) 0 process.received)
+advanced-safe process = ap (least_or process.end) (frontiers-seen_kept (extended process) 0 process.net.wires process.received)
 
 -- an Advance keeps the truth
 pub advanced_knows : (signals : ℕ → ℕ → Value) (number : ℕ) (process : ProcessState) → Meets signals number process.net →
@@ -39,7 +40,7 @@ advanced_knows signals number process meets h =
       pins = length-all_kept (extended process) 0 process.received ∙ h.pins;
       floor = omega arith;
       ahead = (let e = ap (λ s. frontier_of process.net process.end s) (advanced-safe process) in omega (arith, e));
-      asked = λ place tick asked a b is. asked-kept process.net process.end (safe_of process) place tick asked meets.timed.timing.clock a b is;
+      asked = λ tick asked a b is. asked-kept process.net process.end (safe_of process) tick asked meets.timed.timing.clock a b is;
       known = advanced_true signals number process meets h;
       heard = λ place source received a b.
           let old = get_of_kept (extended process) process.received place received b in
@@ -63,7 +64,7 @@ heard_knows signals number process place source to received message rest meets h
           (let ahead = h.ahead in
           let later : next_frontier process ≤ next_frontier (heard place message process) =
           frontier-mono process.net process.end (safe_of process) (safe_of (heard place message process)) meets.timed.timing.clock
-          (least-update process.end process.received place change (λ known e.
+          (safe-update process.end process.net.wires process.received place change (λ known e.
           let same : known ≡ received = cc in
           let up : received.frontier < (told received message).frontier = now.raised in
           subst (λ (k : Knowledge). k.frontier ≤ (told k message).frontier) (sym same) (omega arith))) in
@@ -111,7 +112,7 @@ started_is_process end net ok last = record {
   pins = length-map net.pins (λ (pin : ℕ). nothing_known);
   floor = omega arith;
   ahead = omega arith;
-  asked = λ place tick asked a b is. omega arith;
+  asked = λ tick asked a b is. omega arith;
   known = refl;
   heard = λ place received e.
       let nothing : received ≡ nothing_known = (get_of_map (λ (pin : ℕ). nothing_known) net.pins place received e).2 in
@@ -130,7 +131,7 @@ advanced_is_process process h =
       pins = length-all_kept (extended process) 0 process.received ∙ h.pins;
       floor = omega arith;
       ahead = (let e = ap (λ s. frontier_of process.net process.end s) (advanced-safe process) in omega (arith, e));
-      asked = λ place tick asked a b is. asked-kept process.net process.end (safe_of process) place tick asked h.timed.timing.clock a b is;
+      asked = λ tick asked a b is. asked-kept process.net process.end (safe_of process) tick asked h.timed.timing.clock a b is;
       known = sym (forgetting_truth (reckoned process) process.floor process.floor (next_frontier process) (omega arith) (omega arith));
       heard = λ place received b.
           let old = get_of_kept (extended process) process.received place received b in
@@ -151,7 +152,7 @@ heard_is_process process place message h raises =
           (let ahead = h.ahead in
           let later : next_frontier process ≤ next_frontier (heard place message process) =
           frontier-mono process.net process.end (safe_of process) (safe_of (heard place message process)) h.timed.timing.clock
-          (least-update process.end process.received place change raises) in
+          (safe-update process.end process.net.wires process.received place change raises) in
           omega arith);
       asked = h.asked;
       known = h.known;

@@ -1,7 +1,6 @@
 -- How far a process can reckon.
-use Rattle.std.proofs.Common.{◌≡◌, ℕ, zero, suc, ◌+◌, ◌<◌, ◌≤◌, min, List, [], ◌∷◌, ◌++◌, map, length, take, get_or, Option, None, Some, slice_get, refl, ap, sym, ◌∙◌, arith}
+use Rattle.std.proofs.Common.{◌≡◌, ℕ, zero, suc, ◌+◌, ◌<◌, ◌≤◌, min, List, [], ◌∷◌, ◌++◌, Option, None, Some, slice_get, refl, sym, ◌∙◌, arith}
 use Rattle.std.specs.Option.{option_map_or}
-use Rattle.std.proofs.lemmas.List.{map_more}
 use Rattle.std.proofs.lemmas.Option.{none-some, same_Some}
 use Rattle.netlist.specs.declared.part.Part.{Part}
 use Rattle.netlist.specs.declared.part.Part.TheVariants.{Input, Gate, Flop}
@@ -9,9 +8,7 @@ use Rattle.timing_text.specs.Ranges.{HasClock}
 use Rattle.design.specs.Circuit.{Net}
 use Rattle.design.specs.Samples.{asked_tick, asker_of_part, first_asker}
 use Rattle.design.proofs.CallerLemmas.{asked-from, asker-late, asker-mono, asker-none}
-use Rattle.cmb_channels.specs.Lists.{update}
-use Rattle.gate_process.specs.Knowledge.{Knowledge}
-use Rattle.gate_process.specs.Step.{least, frontier_of, oldest_asked, own_delay}
+use Rattle.gate_process.specs.Step.{least, least_or, frontier_of, own_delay}
 
 pub least-bound : (bound : ℕ) (xs : List ℕ) → least bound xs ≤ bound
 least-bound bound [] = omega arith
@@ -20,16 +17,6 @@ least-bound bound (x ∷ xs) = let h = least-bound (min bound x) xs in omega ari
 pub least-more : (bound : ℕ) (xs : List ℕ) (x : ℕ) → least bound (xs ++ x ∷ []) ≡ min (least bound xs) x
 least-more bound [] x = refl
 least-more bound (y ∷ xs) x = least-more (min bound y) xs x
-
--- one pin more
-pub least_frontier-more : (bound : ℕ) (received : List Knowledge) (at : ℕ) (pin : Knowledge) (so_far : ℕ) → at < length received →
-    so_far ≡ least bound (map (λ (known : Knowledge). known.frontier) (take at received)) → pin ≡ get_or received at pin →
-    min so_far pin.frontier ≡ least bound (map (λ (known : Knowledge). known.frontier) (take (at + 1) received))
-least_frontier-more bound received at pin so_far below is this =
-    let more = ap (least bound) (map_more (λ (known : Knowledge). known.frontier) received at pin below)
-    ∙ least-more bound (map (λ (known : Knowledge). known.frontier) (take at received)) (get_or received at pin).frontier in
-    let here = ap (λ (known : Knowledge). known.frontier) this in
-    ap (λ n. min n pin.frontier) is ∙ ap (min (least bound (map (λ (known : Knowledge). known.frontier) (take at received)))) here ∙ sym more
 
 pub least-mono : (low high : ℕ) (xs : List ℕ) → low ≤ high → least low xs ≤ least high xs
 least-mono low high [] h = h
@@ -49,14 +36,14 @@ least_greatest bound (x ∷ xs) low h each =
     let here = each 0 x refl in
     least_greatest (min bound x) xs low (omega arith) (λ place y e. each (suc place) y e)
 
--- where one of the numbers rises, the least doesn't fall
-pub least-update : (bound : ℕ) (xs : List Knowledge) (place : ℕ) (change : Knowledge → Knowledge) →
-    ((known : Knowledge) → slice_get xs place ≡ Some known → known.frontier ≤ (change known).frontier) →
-    least bound (map (λ (known : Knowledge). known.frontier) xs) ≤ least bound (map (λ (known : Knowledge). known.frontier) (update change place xs))
-least-update bound [] place change h = omega arith
-least-update bound (x ∷ xs) zero change h =
-    let raised = h x refl in least-mono (min bound x.frontier) (min bound (change x).frontier) (map (λ (known : Knowledge). known.frontier) xs) (omega arith)
-least-update bound (x ∷ xs) (suc place) change h = least-update (min bound x.frontier) xs place change h
+-- ---- the least of some numbers, and of none what stands for it
+
+pub least_or-le : (none : ℕ) (xs : List ℕ) (place x : ℕ) → slice_get xs place ≡ Some x → least_or none xs ≤ x
+least_or-le none [] place x e = cc
+least_or-le none (y ∷ xs) zero x e =
+    let h = least-bound y xs in
+    let same : y ≡ x = cc in omega arith
+least_or-le none (y ∷ xs) (suc place) x e = least-le y xs place x e
 
 to_end : (end : ℕ) (first : Option ℕ) → option_map_or (min end) first end ≤ end
 to_end end None = omega arith
@@ -77,13 +64,13 @@ frontier-mono net end low high clock h = go (first_asker net low) refl
         farther : (end a b : ℕ) → a ≤ b → min end a ≤ min end b
         farther end a b h = omega arith
 
--- no later value asks for a tick that a pin of this frontier may have forgotten
-pub asked-kept : (net : Net) (end safe place tick asked : ℕ) → HasClock net.part net.timing → frontier_of net end safe ≤ tick → tick < end →
-    asked_tick net tick ≡ Some asked → oldest_asked net place (frontier_of net end safe) ≤ asked
-asked-kept net end safe place tick asked clock after before is = go (first_asker net safe) refl after
+-- no later value asks for a tick of the pins that is more than the delay before the frontier
+pub asked-kept : (net : Net) (end safe tick asked : ℕ) → HasClock net.part net.timing → frontier_of net end safe ≤ tick → tick < end →
+    asked_tick net tick ≡ Some asked → frontier_of net end safe ≤ asked + net.timing.delay
+asked-kept net end safe tick asked clock after before is = go (first_asker net safe) refl after
   where
     go : (first : Option ℕ) → first_asker net safe ≡ first → option_map_or (min end) first end ≤ tick →
-        oldest_asked net place (option_map_or (min end) first end) ≤ asked
+        option_map_or (min end) first end ≤ asked + net.timing.delay
     go None none late = absurd (omega (arith, late, before))
     go (Some first) begins late =
         let from = asked-from net.timing net.part clock safe first tick begins (omega (arith, late, before)) in

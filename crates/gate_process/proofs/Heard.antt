@@ -1,5 +1,5 @@
 -- What a process knows when it heard a message.
-use Rattle.std.proofs.Common.{◌≡◌, ◌≢◌, ℕ, zero, suc, ◌+◌, ◌<◌, ◌≤◌, List, [], ◌∷◌, ◌++◌, length, map, take, drop, get_or, Some, slice_get, slice_set, refl, ap, sym, subst, ◌∙◌, arith, suc-add}
+use Rattle.std.proofs.Common.{◌≡◌, ◌≢◌, ℕ, ◌<◌, ◌≤◌, Some, slice_get, slice_set, refl, ap, sym, subst, ◌∙◌, arith}
 use Rattle.std.proofs.lemmas.Option.{same_Some}
 use Rattle.logic3.specs.declared.value.Value.{Value}
 use Rattle.logic3.specs.declared.value.Value.TheVariants.{Unknown}
@@ -53,20 +53,6 @@ heard_at_is_process process place known message ok at raises =
     (heard_is_process process place message ok (λ k here.
     let same : known ≡ k = cc in
     subst (λ (x : Knowledge). x.frontier ≤ (told x message).frontier) same (omega arith)))
-
--- one place more where a list is changed place by place
-pub mapped-more : {A : Type 0} (change : A → A) (xs : List A) (now : List A) (at : ℕ) (x changed : A) → at < length xs →
-    now ≡ map change (take at xs) ++ drop at xs → x ≡ get_or now at x → changed ≡ change x →
-    slice_set now at changed ≡ map change (take (at + 1) xs) ++ drop (at + 1) xs
-mapped-more {A = A} change xs now at x changed below now_is is changed_is =
-    ap (λ ys. slice_set ys at changed) now_is
-    ∙ go xs at below (is ∙ ap (λ ys. get_or ys at x) now_is)
-  where
-    go : (ys : List A) (k : ℕ) → k < length ys → x ≡ get_or (map change (take k ys) ++ drop k ys) k x →
-        slice_set (map change (take k ys) ++ drop k ys) k changed ≡ map change (take (k + 1) ys) ++ drop (k + 1) ys
-    go [] k low here = absurd (omega arith)
-    go (y ∷ ys) zero low here = ap (λ z. z ∷ ys) (changed_is ∙ ap change here)
-    go (y ∷ ys) (suc k) low here = rw suc-add (ap (λ zs. change y ∷ zs) (go ys k (omega arith) here))
 
 -- also where the net is known farther
 pub nothing_forgotten_farther : (process farther : ProcessState) (place : ℕ) (known : Knowledge) → IsProcess process →

@@ -1,5 +1,6 @@
 mod Advanced
 pub mod CallerLemmas
+mod Delayed
 mod Drained
 mod Early
 mod Events
@@ -13,6 +14,7 @@ mod Quiet
 mod ReadBy
 mod ReadOnce
 mod Reckoned
+mod SeenPins
 mod Starts
 mod Steady
 mod Told

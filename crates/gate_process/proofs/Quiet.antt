@@ -1,9 +1,9 @@
 -- What an advance leaves as it is.
-use Rattle.std.proofs.Common.{◌≡◌, ◌≢◌, ℕ, zero, suc, ◌-◌, Bool, true, false, cond, List, [], ◌∷◌, map, Some, slice_get, slice_set, refl, ap, sym, subst, ◌∙◌, arith, inl, inr, ◌⊎◌, append-nil}
+use Rattle.std.proofs.Common.{◌≡◌, ◌≢◌, ℕ, zero, suc, Bool, true, false, cond, List, [], ◌∷◌, Some, slice_get, slice_set, refl, ap, sym, subst, ◌∙◌, arith, inl, inr, ◌⊎◌, append-nil}
 use Rattle.std.proofs.lemmas.Bool.{eq-eqb}
 use Rattle.std.proofs.lemmas.List.{length-set}
 use Rattle.logic3.specs.Wave.{changes_between, joined}
-use Rattle.gate_process.specs.Knowledge.{keeping, news_of}
+use Rattle.gate_process.specs.Knowledge.{news_of}
 use Rattle.gate_process.specs.Step.{ProcessState, ProcessView, frontier_of, next_frontier, reckoned, advanced, news, drained}
 use Rattle.gate_process.specs.Truth.{IsProcess}
 use Rattle.gate_process.specs.Quiet.{IsQuiet, AreQuiet}
@@ -25,13 +25,6 @@ quiet_frontier process quiet = ap (λ (p : ProcessState). p.known.frontier) quie
 pub quiet_news : (process : ProcessState) → IsQuiet process → news process ≡ []
 quiet_news process quiet = no_news process (quiet_frontier process quiet)
 
-map_same : {A : Type 0} (change : A → A) (xs : List A) → ((place : ℕ) (x : A) → slice_get xs place ≡ Some x → x ≡ change x) → xs ≡ map change xs
-map_same change [] same = refl
-map_same change (x ∷ xs) same =
-    let first = same 0 x refl in
-    let rest = map_same change xs (λ place y e. same (suc place) y e) in
-    λ i. first i ∷ rest i
-
 -- it keeps of its pins what it must, so it is quiet where its frontier stays
 pub quiet_of : (process : ProcessState) → IsProcess process → next_frontier process ≡ process.known.frontier → IsQuiet process
 quiet_of process ok stays =
@@ -39,8 +32,8 @@ quiet_of process ok stays =
     let none = none_between (reckoned process) frontier in
     let wave : process.known.wave ≡ joined process.known.wave (changes_between (reckoned process) frontier frontier) =
     (λ i. record process.known.wave { changes = sym (append-nil process.known.wave.changes) i }) ∙ ap (joined process.known.wave) (sym none) in
-    let received = map_same (keeping (frontier - process.net.timing.delay)) process.received ok.heard in
-    sym (advanced_of process ok process.known.wave frontier (frontier - process.net.timing.delay) process.received (sym stays) wave (λ place. refl) received)
+    sym (advanced_of process ok process.known.wave frontier process.received (sym stays) wave refl
+    (λ place known e. e ∙ ap (λ k. Some k) (ok.heard place known e)))
 
 -- as it is once it has advanced
 pub quiet_advanced : (process : ProcessState) → IsProcess process → IsQuiet (advanced process)

@@ -11,10 +11,12 @@ use Rattle.netlist.specs.Part.{takes_pins}
 use Rattle.cmb_channels.specs.declared.message.Message.{Message}
 use Rattle.design.specs.Circuit.{Net}
 use Rattle.design.specs.Equations.{equation}
-use Rattle.gate_process.specs.Knowledge.{Knowledge, news_of}
+use Rattle.gate_process.specs.Knowledge.{Knowledge, delayed, seen_pins, news_of}
 use Rattle.gate_process.specs.Reading.{read_by_part, read_by, reads_of_part, reads, shown}
 use Rattle.gate_process.specs.Step.{signals_of, continued}
 use Rattle.gate_process.proofs.Steady.{shown_by}
+use Rattle.gate_process.specs.Truth.{IsNet}
+use Rattle.gate_process.proofs.SeenPins.{length-seen_pins}
 use Rattle.gate_process.proofs.Walks.{continued_same}
 
 takes_some : (part : Part) (pins : ℕ) → takes_pins part pins ≡ true → pins < 1 → part ≡ Input
@@ -25,46 +27,79 @@ takes_some (Gate Buf) zero takes none = cc
 takes_some (Gate _) zero takes none = cc
 takes_some _ (suc pins) takes none = absurd (omega arith)
 
+-- ---- what the net sees of its pins
+
+seen_one : (wires : List ℕ) (received : List Knowledge) (pin : Knowledge) → length wires ≡ length received →
+    1 ≤ length received → length received < 2 → pin ≡ get_or received 0 pin →
+    (delayed (get_or wires 0 0) pin.wave ∷ []) ≡ map (λ (known : Knowledge). known.wave) (seen_pins wires received)
+seen_one wires [] pin long some few is = absurd (omega arith)
+seen_one wires (first ∷ second ∷ received) pin long some few is = absurd (omega arith)
+seen_one [] (first ∷ []) pin long some few is = absurd (omega arith)
+seen_one (wire ∷ other ∷ wires) (first ∷ []) pin long some few is = absurd (omega arith)
+seen_one (wire ∷ []) (first ∷ []) pin long some few is = ap (λ (known : Knowledge). delayed wire known.wave ∷ []) is
+
+seen_two : (wires : List ℕ) (received : List Knowledge) (pin other : Knowledge) → length wires ≡ length received →
+    2 ≤ length received → length received < 3 → pin ≡ get_or received 0 pin → other ≡ get_or received 1 other →
+    (delayed (get_or wires 0 0) pin.wave ∷ delayed (get_or wires 1 0) other.wave ∷ [])
+    ≡ map (λ (known : Knowledge). known.wave) (seen_pins wires received)
+seen_two wires [] pin other long some few is other_is = absurd (omega arith)
+seen_two wires (first ∷ []) pin other long some few is other_is = absurd (omega arith)
+seen_two wires (first ∷ second ∷ third ∷ received) pin other long some few is other_is = absurd (omega arith)
+seen_two [] (first ∷ second ∷ []) pin other long some few is other_is = absurd (omega arith)
+seen_two (wire ∷ []) (first ∷ second ∷ []) pin other long some few is other_is = absurd (omega arith)
+seen_two (wire ∷ next ∷ more ∷ wires) (first ∷ second ∷ []) pin other long some few is other_is = absurd (omega arith)
+seen_two (wire ∷ next ∷ []) (first ∷ second ∷ []) pin other long some few is other_is =
+    λ i. delayed wire (is i).wave ∷ delayed next (other_is i).wave ∷ []
+
 -- ---- the waveforms that are read
 
-pub stimuli_read : (net : Net) (received : List Knowledge) → takes_pins net.part (length net.pins) ≡ true →
-    length received ≡ length net.pins → length received < 1 →
-    (record { before = Unknown; changes = net.stimuli } ∷ []) ≡ read_by net received
-stimuli_read net received takes pins none =
-    ap (λ part. read_by_part part net received) (sym (takes_some net.part (length net.pins) takes (omega (arith, pins, none))))
+module _ (net : Net) (received : List Knowledge) (ok : IsNet net) (pins : length received ≡ length net.pins) where
+  each_wire : length net.wires ≡ length received
+  each_wire = ok.timed.wires.each ∙ sym pins
 
-pub pins_read : (net : Net) (received : List Knowledge) → takes_pins net.part (length net.pins) ≡ true →
-    length received ≡ length net.pins → 0 < length received → map (λ (known : Knowledge). known.wave) received ≡ read_by net received
-pins_read net received takes pins some = go net.part takes
-  where
-    go : (part : Part) → takes_pins part (length net.pins) ≡ true →
-        map (λ (known : Knowledge). known.wave) received ≡ read_by_part part net received
-    go Input none = let e = eqb-true (length net.pins) 0 none in absurd (omega (arith, e, pins, some))
-    go (Gate kind) e = refl
-    go Flop e = refl
+  pub stimuli_read : length received < 1 → (record { before = Unknown; changes = net.stimuli } ∷ []) ≡ read_by net (seen_pins net.wires received)
+  stimuli_read none =
+      ap (λ part. read_by_part part net (seen_pins net.wires received))
+      (sym (takes_some net.part (length net.pins) ok.arity (omega (arith, pins, none))))
 
-pub one_read : (received : List Knowledge) (pin : Knowledge) → 1 ≤ length received → length received < 2 → pin ≡ get_or received 0 pin →
-    (pin.wave ∷ []) ≡ map (λ (known : Knowledge). known.wave) received
-one_read [] pin some few is = absurd (omega arith)
-one_read (first ∷ []) pin some few is = ap (λ (known : Knowledge). known.wave ∷ []) is
-one_read (first ∷ second ∷ received) pin some few is = absurd (omega arith)
+  pins_read : 0 < length received → map (λ (known : Knowledge). known.wave) (seen_pins net.wires received) ≡ read_by net (seen_pins net.wires received)
+  pins_read some = go net.part ok.arity
+    where
+      go : (part : Part) → takes_pins part (length net.pins) ≡ true →
+          map (λ (known : Knowledge). known.wave) (seen_pins net.wires received) ≡ read_by_part part net (seen_pins net.wires received)
+      go Input none = let e = eqb-true (length net.pins) 0 none in absurd (omega (arith, e, pins, some))
+      go (Gate kind) e = refl
+      go Flop e = refl
 
-pub two_read : (received : List Knowledge) (pin other : Knowledge) → 2 ≤ length received → length received < 3 → pin ≡ get_or received 0 pin →
-    other ≡ get_or received 1 other → (pin.wave ∷ other.wave ∷ []) ≡ map (λ (known : Knowledge). known.wave) received
-two_read [] pin other some few is other_is = absurd (omega arith)
-two_read (first ∷ []) pin other some few is other_is = absurd (omega arith)
-two_read (first ∷ second ∷ []) pin other some few is other_is = λ i. (is i).wave ∷ (other_is i).wave ∷ []
-two_read (first ∷ second ∷ third ∷ received) pin other some few is other_is = absurd (omega arith)
+  -- there are as many as the net reads
+  pub count_read : (read : List Wave) → read ≡ read_by net (seen_pins net.wires received) → length read ≡ reads net
+  count_read read is = ap length is ∙ go net.part
+    where
+      count : length (map (λ (known : Knowledge). known.wave) (seen_pins net.wires received)) ≡ length net.pins
+      count =
+          length-map (seen_pins net.wires received) (λ (known : Knowledge). known.wave)
+          ∙ length-seen_pins net.wires received each_wire ∙ pins
 
--- there are as many as the net reads
-pub count_read : (net : Net) (received : List Knowledge) (read : List Wave) → length received ≡ length net.pins →
-    read ≡ read_by net received → length read ≡ reads net
-count_read net received read pins is = ap length is ∙ go net.part
-  where
-    go : (part : Part) → length (read_by_part part net received) ≡ reads_of_part part net
-    go Input = refl
-    go (Gate kind) = length-map received (λ (known : Knowledge). known.wave) ∙ pins
-    go Flop = length-map received (λ (known : Knowledge). known.wave) ∙ pins
+      go : (part : Part) → length (read_by_part part net (seen_pins net.wires received)) ≡ reads_of_part part net
+      go Input = refl
+      go (Gate kind) = count
+      go Flop = count
+
+  module _ (wires : List ℕ) (same : wires ≡ net.wires) where
+    pub one_read : (pin : Knowledge) → 1 ≤ length received → length received < 2 → pin ≡ get_or received 0 pin →
+        (delayed (get_or wires 0 0) pin.wave ∷ []) ≡ read_by net (seen_pins net.wires received)
+    one_read pin some few is =
+        ap (λ ws. delayed (get_or ws 0 0) pin.wave ∷ []) same
+        ∙ seen_one net.wires received pin each_wire some few is ∙ pins_read some
+
+    pub two_read : (pin other : Knowledge) → 2 ≤ length received → length received < 3 → pin ≡ get_or received 0 pin → other ≡ get_or received 1 other →
+        (delayed (get_or wires 0 0) pin.wave ∷ delayed (get_or wires 1 0) other.wave ∷ []) ≡ read_by net (seen_pins net.wires received)
+    two_read pin other some few is other_is =
+        ap (λ ws. delayed (get_or ws 0 0) pin.wave ∷ delayed (get_or ws 1 0) other.wave ∷ []) same
+        ∙ seen_two net.wires received pin other each_wire some few is other_is ∙ pins_read (omega (arith, some))
+
+    pub all_read : 0 < length received → map (λ (known : Knowledge). known.wave) (seen_pins wires received) ≡ read_by net (seen_pins net.wires received)
+    all_read some = ap (λ ws. map (λ (known : Knowledge). known.wave) (seen_pins ws received)) same ∙ pins_read some
 
 -- ---- over these it changes where its equation does
 

@@ -1,34 +1,38 @@
 -- A process that knows the truth reckons the truth.
-use Rattle.std.proofs.Common.{◌≡◌, ℕ, zero, suc, ◌<◌, ◌≤◌, ◌==◌, nat_lt, min, Bool, true, false, cond, List, [], ◌∷◌, map, length, Option, None, Some, slice_get, refl, ap, sym, ◌∙◌, arith, ltb-false, ltb-true}
+use Rattle.std.proofs.Common.{◌≡◌, ℕ, zero, suc, ◌+◌, ◌<◌, ◌≤◌, ◌==◌, nat_lt, min, Bool, true, false, cond, List, [], ◌∷◌, map, length, Option, None, Some, slice_get, refl, ap, sym, ◌∙◌, arith, ltb-false, ltb-true}
 use Rattle.std.proofs.lemmas.Bool.{eqb-true, eqb-false}
-use Rattle.std.proofs.lemmas.Option.{none-some, slice_get-map}
+use Rattle.std.proofs.lemmas.Option.{none-some, slice_get-map, get_or_from_slice_get}
 use Rattle.std.specs.Option.{option_map, option_map_or}
 use Rattle.logic3.specs.declared.value.Value.{Value}
 use Rattle.logic3.specs.Wave.{value_at, value_before, changes_between}
 use Rattle.logic3.proofs.CallerLemmas.{value_at-wave_of, changes_between-same}
 use Rattle.timing_text.specs.Ranges.{HasClock}
 use Rattle.design.specs.Circuit.{Net}
-use Rattle.design.specs.Samples.{asked_tick, first_asker}
-use Rattle.design.specs.Equations.{equation}
-use Rattle.design.proofs.CallerLemmas.{asked-before, same_values, unasked}
-use Rattle.gate_process.specs.Knowledge.{Knowledge, knowledge_of, news_of, Tells}
-use Rattle.gate_process.specs.Step.{ProcessState, safe_of, frontier_of, next_frontier, kept_from, reckoned, news}
+use Rattle.design.specs.Samples.{asked_tick, first_asker, wire_at}
+use Rattle.design.specs.Equations.{later, pin_signals, values_at, equation}
+use Rattle.design.proofs.CallerLemmas.{asked-before, same_later, same_values, source_tick-is, unasked}
+use Rattle.gate_process.specs.Knowledge.{Knowledge, seen, seen_pins, knowledge_of, news_of, Tells}
+use Rattle.gate_process.specs.Step.{ProcessState, seen_by, safe_of, frontier_of, next_frontier, oldest_asked, kept_from, signals_of, reckoned, news}
 use Rattle.gate_process.specs.Truth.{Meets, KnowsTruth}
 use Rattle.gate_process.proofs.Told.{before_kept, news_tells}
-use Rattle.gate_process.proofs.Frontiers.{least-le, frontier-end}
+use Rattle.gate_process.proofs.Delayed.{shows_later}
+use Rattle.gate_process.proofs.SeenPins.{seen_pin}
+use Rattle.gate_process.proofs.Frontiers.{least_or-le, frontier-end}
 
--- what is heard at the pins is what their sources show, at one tick
-same_heard : (received : List Knowledge) (pins : List ℕ) (signals : ℕ → ℕ → Value) (at : ℕ) → length received ≡ length pins →
-    ((place source : ℕ) (known : Knowledge) → slice_get pins place ≡ Some source → slice_get received place ≡ Some known →
-    value_at known.wave at ≡ signals source at) →
-    map (λ (signal : ℕ → Value). signal at) (map (λ (known : Knowledge). value_at known.wave) received)
-    ≡ map (λ (signal : ℕ → Value). signal at) (map signals pins)
-same_heard [] [] signals at e h = refl
-same_heard [] (pin ∷ pins) signals at e h = absurd (omega arith)
-same_heard (known ∷ received) [] signals at e h = absurd (omega arith)
-same_heard (known ∷ received) (pin ∷ pins) signals at e h =
-    let first = h 0 pin known refl refl in
-    let rest = same_heard received pins signals at (omega arith) (λ place source k a b. h (suc place) source k a b) in cc
+-- what is seen at the pins is what they show, at one tick
+same_seen : (wires : List ℕ) (received : List Knowledge) (pins : List ℕ) (signals : ℕ → ℕ → Value) (at : ℕ) → length received ≡ length pins →
+    ((place wire source : ℕ) (known : Knowledge) → slice_get wires place ≡ Some wire → slice_get pins place ≡ Some source →
+    slice_get received place ≡ Some known → value_at (seen wire known).wave at ≡ later wire (signals source) at) →
+    values_at at (signals_of (seen_pins wires received)) ≡ values_at at (pin_signals signals pins wires)
+same_seen [] [] [] signals at e h = refl
+same_seen [] (known ∷ received) (pin ∷ pins) signals at e h = refl
+same_seen (wire ∷ wires) [] [] signals at e h = refl
+same_seen wires [] (pin ∷ pins) signals at e h = absurd (omega arith)
+same_seen wires (known ∷ received) [] signals at e h = absurd (omega arith)
+same_seen (wire ∷ wires) (known ∷ received) (pin ∷ pins) signals at e h =
+    let first = h 0 wire pin known refl refl refl in
+    let rest = same_seen wires received pins signals at (omega arith) (λ place w source k a b c. h (suc place) w source k a b c) in
+    λ i. first i ∷ rest i
 
 -- before its new frontier a net asks for ticks at which all its pins are known
 asked_known : (net : Net) (end safe tick asked : ℕ) → HasClock net.part net.timing → tick < frontier_of net end safe → asked_tick net tick ≡ Some asked → asked < safe
@@ -44,21 +48,52 @@ asked_known net end safe tick asked clock below is = go (first_asker net safe) r
 
 module _ (signals : ℕ → ℕ → Value) (number : ℕ) (process : ProcessState) (meets : Meets signals number process.net)
     (h : KnowsTruth signals number process) where
+  -- a pin is seen to show what it does, at a tick that the net may ask for and up to which all pins are known
+  pin_true : (place wire source : ℕ) (known : Knowledge) (at : ℕ) → slice_get process.net.wires place ≡ Some wire →
+      slice_get process.net.pins place ≡ Some source → slice_get process.received place ≡ Some known →
+      process.known.frontier ≤ at + process.net.timing.delay → at < safe_of process →
+      value_at (seen wire known).wave at ≡ later wire (signals source) at
+  pin_true place wire source known at a b c asked safe =
+      shows_later wire known.wave at (λ early.
+      ap (λ (k : Knowledge). k.wave.before) (h.heard place source known b c)
+      ∙ ap (value_before (signals source)) (begins (nothing early)))
+      ∙ same_later (value_at known.wave) (signals source) at wire (λ from is.
+      let there = source_tick-is wire at from is in
+      ap (λ (k : Knowledge). value_at k.wave from) (h.heard place source known b c)
+      ∙ value_at-wave_of (signals source) (kept_from process place known.frontier) known.frontier from
+      (kept there) (omega (arith, there, safe, least_known)))
+    where
+      here : wire_at process.net place ≡ wire
+      here = get_or_from_slice_get process.net.wires place wire 0 a
+
+      oldest : ℕ → Type 0
+      oldest tick = oldest_asked process.net place process.known.frontier ≤ tick
+
+      nothing : at < wire → oldest 0
+      nothing early = omega (arith, here, asked, early)
+
+      begins : oldest 0 → kept_from process place known.frontier ≡ 0
+      begins none = omega (arith, none)
+
+      kept : {from : ℕ} → from + wire ≡ at → kept_from process place known.frontier ≤ from
+      kept there = omega (arith, here, asked, there)
+
+      least_known : safe_of process ≤ known.frontier + wire
+      least_known =
+          least_or-le process.end (map (λ (k : Knowledge). k.frontier) (seen_by process)) place (known.frontier + wire)
+          (slice_get-map (λ (k : Knowledge). k.frontier) (seen_by process) place
+          ∙ ap (option_map (λ (k : Knowledge). k.frontier)) (seen_pin process.net.wires process.received place wire known a c))
+
   -- from its frontier on the equation over what was received gives the signal
   equation_true : (tick : ℕ) → process.known.frontier ≤ tick → tick < next_frontier process →
-      equation process.net (map (λ (known : Knowledge). value_at known.wave) process.received) tick ≡ signals number tick
+      equation process.net (signals_of (seen_by process)) tick ≡ signals number tick
   equation_true tick after below =
-      same_values process.net.part process.net _ (map signals process.net.pins) tick (λ at is.
+      same_values process.net.part process.net _ (pin_signals signals process.net.pins process.net.wires) tick (λ at is.
       let safe = asked_known process.net process.end (safe_of process) tick at meets.timed.timing.clock below is in
-      same_heard process.received process.net.pins signals at h.pins (λ place source known a b.
       let last : next_frontier process ≤ process.end = frontier-end process.net process.end (safe_of process) in
-      let asked = h.asked place tick at after (omega (arith, below, last)) is in
-      let least_known : safe_of process ≤ known.frontier =
-      least-le process.end (map (λ (k : Knowledge). k.frontier) process.received) place known.frontier
-      (slice_get-map (λ (k : Knowledge). k.frontier) process.received place ∙ ap (option_map (λ (k : Knowledge). k.frontier)) b) in
-      ap (λ (k : Knowledge). value_at k.wave at) (h.heard place source known a b)
-      ∙ value_at-wave_of (signals source) (kept_from process place known.frontier) known.frontier at
-      (omega (arith, asked)) (omega (arith, safe, least_known))))
+      let asked = h.asked tick at after (omega (arith, below, last)) is in
+      same_seen process.net.wires process.received process.net.pins signals at h.pins (λ place wire source known a b c.
+      pin_true place wire source known at a b c asked safe))
       ∙ sym (meets.solves tick)
 
   -- an advancing process reckons the signal at every tick from its floor to its next frontier
@@ -67,7 +102,7 @@ module _ (signals : ℕ → ℕ → Value) (number : ℕ) (process : ProcessStat
     where
       go : (early : Bool) → nat_lt tick process.known.frontier ≡ early →
           cond early (value_at process.known.wave tick)
-          (equation process.net (map (λ (known : Knowledge). value_at known.wave) process.received) tick) ≡ signals number tick
+          (equation process.net (signals_of (seen_by process)) tick) ≡ signals number tick
       go true e =
           ap (λ (k : Knowledge). value_at k.wave tick) h.known
           ∙ value_at-wave_of (signals number) process.floor process.known.frontier tick from (ltb-true _ _ e)
@@ -79,7 +114,7 @@ module _ (signals : ℕ → ℕ → Value) (number : ℕ) (process : ProcessStat
     where
       go : (early : Bool) → nat_lt at process.known.frontier ≡ early →
           cond early (value_at process.known.wave at)
-          (equation process.net (map (λ (known : Knowledge). value_at known.wave) process.received) at) ≡ value_at process.known.wave at
+          (equation process.net (signals_of (seen_by process)) at) ≡ value_at process.known.wave at
       go true early = refl
       go false early = absurd (let l = ltb-false at process.known.frontier early in omega arith)
 

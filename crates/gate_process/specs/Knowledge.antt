@@ -1,9 +1,10 @@
 -- What is known of a net, and what messages tell of it.
-use Rattle.std.specs.Prelude.{◌≡◌, ◌==◌, if◌then◌else◌, ℕ, ◌+◌, ◌-◌, ◌<◌, ◌≤◌, min, List, [], ◌∷◌, ◌++◌, All}
+use Rattle.std.specs.Prelude.{◌≡◌, ◌==◌, if◌then◌else◌, ℕ, ◌+◌, ◌-◌, ◌<◌, ◌≤◌, min, List, [], ◌∷◌, ◌++◌, map, All}
 use Rattle.logic3.specs.declared.value.Value.{Value}
 use Rattle.logic3.specs.declared.value.Value.TheVariants.{Unknown}
 use Rattle.logic3.specs.Wave.{Wave, IsWave, value_at, changes_between, wave_of}
 use Rattle.logic3.specs.declared.change.Change.{Change}
+use Rattle.timing_text.specs.Ranges.{most_ticks}
 use Rattle.cmb_channels.specs.declared.message.Message.{Message}
 use Rattle.cmb_channels.specs.declared.message.Message.TheVariants.{Change as Changes, Null}
 
@@ -16,6 +17,27 @@ pub record Knowledge : Type 0 where
 pub record IsKnowledge (known : Knowledge) : Type 0 where
   pub wave : IsWave known.wave
   pub past : All (λ (change : Change). change.tick < known.frontier) known.wave.changes
+
+-- what a pin was told of its source, up to the last tick that a horizon may name
+pub record IsReceived (received : Knowledge) : Type 0 where
+  pub known : IsKnowledge received
+  pub within : received.frontier ≤ most_ticks + 1
+
+-- a waveform, so many ticks later
+abbrev pub delayed : ℕ → Wave → Wave
+delayed ticks wave = record {
+  before = wave.before;
+  changes = map (λ (change : Change). record { tick = change.tick + ticks; value = change.value }) wave.changes;
+}
+
+-- what is known of a pin, as its net sees it: what it was told of its source, later by the delay of its wire
+abbrev pub seen : ℕ → Knowledge → Knowledge
+seen wire known = record { wave = delayed wire known.wave; frontier = known.frontier + wire }
+
+-- the same of all pins, each with its wire
+abbrev pub seen_pins : List ℕ → List Knowledge → List Knowledge
+seen_pins (wire ∷ wires) (known ∷ received) = seen wire known ∷ seen_pins wires received
+seen_pins _ _ = []
 
 -- what is known before anything was told
 abbrev pub nothing_known : Knowledge

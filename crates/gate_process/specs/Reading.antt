@@ -13,7 +13,7 @@ use Rattle.design.specs.Samples.{asked_of_part}
 use Rattle.design.specs.Equations.{values_at}
 use Rattle.gate_process.specs.Knowledge.{Knowledge}
 
--- what a net reads: an input its stimuli, else what its pins were told
+-- what a net reads: an input its stimuli, else what is known of its pins, as it sees them
 abbrev pub read_by_part : Part → Net → List Knowledge → List Wave
 read_by_part Input net received = record { before = Unknown; changes = net.stimuli } ∷ []
 read_by_part (Gate kind) net received = map (λ (known : Knowledge). known.wave) received

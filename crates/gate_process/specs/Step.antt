@@ -7,16 +7,21 @@ use Rattle.logic3.specs.Wave.{Wave, value_at, last_value, changes_between}
 use Rattle.netlist.specs.declared.part.Part.{Part}
 use Rattle.netlist.specs.declared.part.Part.TheVariants.{Input, Gate, Flop}
 use Rattle.design.specs.Circuit.{Net}
-use Rattle.design.specs.Samples.{first_asker}
+use Rattle.design.specs.Samples.{first_asker, wire_at}
 use Rattle.design.specs.Equations.{equation}
 use Rattle.cmb_channels.specs.declared.message.Message.{Message}
 use Rattle.cmb_channels.specs.Lists.{update}
-use Rattle.gate_process.specs.Knowledge.{Knowledge, nothing_known, knowledge_of, told, kept_since, forgetting, news_of}
+use Rattle.gate_process.specs.Knowledge.{Knowledge, nothing_known, knowledge_of, seen_pins, told, kept_since, forgetting, news_of}
 
 -- the least of these and a bound
 abbrev pub least : ℕ → List ℕ → ℕ
 least bound [] = bound
 least bound (x ∷ xs) = least (min bound x) xs
+
+-- the least of some numbers, and of none what stands for it
+abbrev pub least_or : ℕ → List ℕ → ℕ
+least_or none [] = none
+least_or none (x ∷ xs) = least x xs
 
 -- the state of a net's process: what it is, how far it reckons, what it knows of itself and of its pins
 pub record ProcessState : Type 0 where
@@ -53,9 +58,13 @@ pin_frontier process place = option_map (λ (known : Knowledge). known.frontier)
 abbrev pub pin_last : ProcessState → ℕ → Option Value
 pin_last process place = option_map (λ (known : Knowledge). last_value known.wave) (slice_get process.received place)
 
--- up to here all pins are known
+-- what a process knows of its pins, as its net sees them
+abbrev pub seen_by : ProcessState → List Knowledge
+seen_by process = seen_pins process.net.wires process.received
+
+-- up to here all pins are known, as the net sees them
 abbrev pub safe_of : ProcessState → ℕ
-safe_of process = least process.end (map (λ (known : Knowledge). known.frontier) process.received)
+safe_of process = least_or process.end (map (λ (known : Knowledge). known.frontier) (seen_by process))
 
 -- how far a net can be reckoned where its pins are known so far: to the first tick that asks for more, but not past the end
 abbrev pub frontier_of : Net → ℕ → ℕ → ℕ
@@ -64,9 +73,9 @@ frontier_of net end safe = option_map_or (min end) (first_asker net safe) end
 abbrev pub next_frontier : ProcessState → ℕ
 next_frontier process = frontier_of process.net process.end (safe_of process)
 
--- from a frontier on a net asks for no tick of the pin at a place before this one, which is the same at all places
+-- from a frontier on a net asks for no tick of the source of the pin at a place before this one
 abbrev pub oldest_asked : Net → ℕ → ℕ → ℕ
-oldest_asked net place frontier = frontier - net.timing.delay
+oldest_asked net place frontier = frontier - net.timing.delay - wire_at net place
 
 -- of what it received at a place, and knows so far, a process keeps the ticks from this one on
 abbrev pub kept_from : ProcessState → ℕ → ℕ → ℕ
@@ -89,9 +98,9 @@ signals_of received = map (λ (known : Knowledge). value_at known.wave) received
 abbrev pub continued : Wave → ℕ → (ℕ → Value) → ℕ → Value
 continued wave from signal tick = if nat_lt tick from then value_at wave tick else signal tick
 
--- the net's signal as the process reckons it: what it knew, and from its frontier on its equation over what it received
+-- the net's signal as the process reckons it: what it knew, and from its frontier on its equation over what its pins show
 abbrev pub reckoned : ProcessState → ℕ → Value
-reckoned process = continued process.known.wave process.known.frontier (equation process.net (signals_of process.received))
+reckoned process = continued process.known.wave process.known.frontier (equation process.net (signals_of (seen_by process)))
 
 -- the process when it has reckoned its net as far as it can
 abbrev pub extended : ProcessState → ProcessState

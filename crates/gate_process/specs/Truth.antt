@@ -1,30 +1,30 @@
 -- What is true of a process, and of one whose channels tell the truth.
-use Rattle.std.specs.Prelude.{◌≡◌, ◌≢◌, ℕ, ◌+◌, ◌<◌, ◌≤◌, true, List, length, map, slice_get, Some}
+use Rattle.std.specs.Prelude.{◌≡◌, ◌≢◌, ℕ, ◌+◌, ◌<◌, ◌≤◌, true, List, length, slice_get, Some}
 use Rattle.logic3.specs.declared.value.Value.{Value}
 use Rattle.logic3.specs.declared.change.Change.{Change}
 use Rattle.netlist.specs.Part.{takes_pins}
 use Rattle.design.specs.Circuit.{Net, IsTimed}
 use Rattle.timing_text.specs.Ranges.{most_ticks}
 use Rattle.design.specs.Samples.{asked_tick}
-use Rattle.design.specs.Equations.{equation}
+use Rattle.design.specs.Equations.{equation, pin_signals}
 use Rattle.logic3.specs.Wave.{IsWave}
 use Rattle.cmb_channels.specs.declared.message.Message.{Message}
 use Rattle.gate_process.specs.Knowledge.{Knowledge, knowledge_of, told, forgetting, Tells}
-use Rattle.gate_process.specs.Step.{ProcessState, pin_frontier, pin_last, next_frontier, oldest_asked, kept_from, kept}
+use Rattle.gate_process.specs.Step.{ProcessState, pin_frontier, pin_last, next_frontier, kept_from, kept}
 
 -- a signal of a family meets a net's equation, over the others
 pub record Meets (signals : ℕ → ℕ → Value) (number : ℕ) (net : Net) : Type 0 where
   pub timed : IsTimed net
-  pub solves : (tick : ℕ) → signals number tick ≡ equation net (map signals net.pins) tick
+  pub solves : (tick : ℕ) → signals number tick ≡ equation net (pin_signals signals net.pins net.wires) tick
 
 -- what the process of this net and its pins know is true of these signals, one for each net
 pub record KnowsTruth (signals : ℕ → ℕ → Value) (number : ℕ) (process : ProcessState) : Type 0 where
   pub pins : length process.received ≡ length process.net.pins
   pub floor : process.floor ≤ process.known.frontier
   pub ahead : process.known.frontier ≤ next_frontier process
-  -- no value from the frontier on asks for a tick that the pins may have forgotten
-  pub asked : (place tick asked : ℕ) → process.known.frontier ≤ tick → tick < process.end → asked_tick process.net tick ≡ Some asked →
-      oldest_asked process.net place process.known.frontier ≤ asked
+  -- no value from the frontier on asks for a tick of the pins that is more than the delay before it: their sources may have been forgotten there
+  pub asked : (tick asked : ℕ) → process.known.frontier ≤ tick → tick < process.end → asked_tick process.net tick ≡ Some asked →
+      process.known.frontier ≤ asked + process.net.timing.delay
   -- the net is known from its floor up to its frontier
   pub known : process.known ≡ knowledge_of (signals number) process.floor process.known.frontier
   -- the source of each pin is known at the kept ticks below its received frontier
@@ -59,8 +59,8 @@ pub record IsProcess (process : ProcessState) : Type 0 where
   pub pins : length process.received ≡ length process.net.pins
   pub floor : process.floor ≤ process.known.frontier
   pub ahead : process.known.frontier ≤ next_frontier process
-  pub asked : (place tick asked : ℕ) → process.known.frontier ≤ tick → tick < process.end → asked_tick process.net tick ≡ Some asked →
-      oldest_asked process.net place process.known.frontier ≤ asked
+  pub asked : (tick asked : ℕ) → process.known.frontier ≤ tick → tick < process.end → asked_tick process.net tick ≡ Some asked →
+      process.known.frontier ≤ asked + process.net.timing.delay
   -- nothing is known of the net before its floor
   pub known : process.known ≡ forgetting process.floor process.known
   pub heard : (place : ℕ) (received : Knowledge) → slice_get process.received place ≡ Some received →

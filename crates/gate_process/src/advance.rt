@@ -1,13 +1,13 @@
 //! The steps of an advance.
-ghost use Rattle.std.specs.Prelude.{◌≡◌, ℕ, ◌+◌, ◌<◌, ◌≤◌, ◌==◌, if◌then◌else◌, [], All, slice_get, Some, length, map, OnOk, OnErr};
+ghost use Rattle.std.specs.Prelude.{◌≡◌, ℕ, ◌+◌, ◌<◌, ◌≤◌, ◌==◌, if◌then◌else◌, [], All, slice_get, Some, length, OnOk, OnErr};
 ghost use Rattle.logic3.specs.declared.value.Value.TheVariants.{Unknown};
 ghost use Rattle.logic3.specs.declared.change.Change.{Change};
 ghost use Rattle.logic3.specs.Wave.{value_at, value_before, last_value, joined, changes_between};
 ghost use Rattle.timing_text.specs.Ranges.{most_ticks};
 ghost use Rattle.design.specs.Equations.{equation};
-ghost use Rattle.gate_process.specs.Knowledge.{Knowledge, news_of, kept_since, keeping};
+ghost use Rattle.gate_process.specs.Knowledge.{Knowledge, seen_pins, news_of, kept_since, keeping};
 ghost use Rattle.gate_process.specs.Reading.{reads, shown};
-ghost use Rattle.gate_process.specs.Step.{signals_of, continued};
+ghost use Rattle.gate_process.specs.Step.{signals_of, continued, oldest_asked};
 
 use crate::cursor::Cursor;
 use crate::own_net::OwnNet;
@@ -34,28 +34,26 @@ pub fn extend(
     requires end { to ≤ most_ticks + 1 }
     requires past { All (λ (change : Change). change.tick < from) wave.old.changes }
     requires last { last_value wave.old ≡ value_before (value_at wave.old) from }
-    ensures wave { OnOk result (wave.new ≡ joined wave.old
-        (changes_between (continued wave.old from (equation net.now (signals_of received.now))) from to)) }
-    ensures news { OnOk result (messages.new.items ≡ (if to == from then [] else
-        news_of (changes_between (continued wave.old from (equation net.now (signals_of received.now))) from to) to)) }
+    ensures wave { OnOk result (wave.new ≡ joined wave.old (changes_between
+        (continued wave.old from (equation net.now (signals_of (seen_pins net.now.wires received.now)))) from to)) }
+    ensures news { OnOk result (messages.new.items ≡ (if to == from then [] else news_of (changes_between
+        (continued wave.old from (equation net.now (signals_of (seen_pins net.now.wires received.now)))) from to) to)) }
     ensures memory { OnErr result (from < to) }
 {
     if from == to {
         return Ok(());
     }
-    // Asked for what it ensures: that an input, and it alone, has no pins.
-    let pins = net.pins();
-    prove!(received.len() == pins);
-    // Most gates have one pin or two, and these want no list of cursors.
+    let wires = net.wires();
+    // Most gates have one pin or two, and these want no list of cursors. An input alone has none.
     match received {
         [] => walk(net, &mut [net.stimuli()], from, to, wave, messages)?,
-        [pin] => walk(net, &mut [pin.cursor()], from, to, wave, messages)?,
+        [pin] => walk(net, &mut [pin.cursor(wires[0])], from, to, wave, messages)?,
         [first, second] => {
-            let mut cursors = [first.cursor(), second.cursor()];
+            let mut cursors = [first.cursor(wires[0]), second.cursor(wires[1])];
             walk(net, &mut cursors, from, to, wave, messages)?;
         }
         _ => {
-            let mut cursors = cursors_of(*messages.allocator(), received)?;
+            let mut cursors = cursors_of(*messages.allocator(), received, wires)?;
             walk(net, cursors.as_mut_slice(), from, to, wave, messages)?;
         }
     }
@@ -105,13 +103,17 @@ fn walk(
     Ok(())
 }
 
-/// Forgets at each pin what is before the oldest tick that is asked for, but never the last one known.
-pub fn keep_all(received: &mut [Received], oldest: u64)
-    requires { (place : ℕ) (known : Knowledge) → slice_get received.old place ≡ Some known →
-        kept_since oldest known.frontier ≡ 0 → known.wave.before ≡ Unknown }
-    ensures { received.new ≡ map (keeping oldest) received.old }
+/// Forgets at each pin what is before the oldest tick of its source that the net asks for from a frontier
+/// on, but never the last one known.
+pub fn keep_all(net: &OwnNet<'_>, received: &mut [Received], frontier: u64)
+    requires pins { length received.old ≡ length net.now.pins }
+    requires begin { (place : ℕ) (known : Knowledge) → slice_get received.old place ≡ Some known →
+        kept_since (oldest_asked net.now place frontier) known.frontier ≡ 0 → known.wave.before ≡ Unknown }
+    ensures pins { length received.new ≡ length received.old }
+    ensures each { (place : ℕ) (known : Knowledge) → slice_get received.old place ≡ Some known →
+        slice_get received.new place ≡ Some (keeping (oldest_asked net.now place frontier) known) }
 {
-    for pin in received.iter_mut() {
-        pin.keep(oldest);
+    for (place, pin) in received.iter_mut().enumerate() {
+        pin.keep(net.oldest_asked(place, frontier));
     }
 }

@@ -1,9 +1,16 @@
-ghost use Rattle.std.specs.Prelude.{◌≡◌, ◌≤◌, length, nat_le, nat_lt};
+ghost use Rattle.std.specs.Prelude.{◌≡◌, ◌+◌, ◌≤◌, length, nat_le, nat_lt};
 ghost use Rattle.std.specs.List.{prefix_len};
 ghost use Rattle.logic3.specs.declared.change.Change.{Change};
 ghost use Rattle.logic3.specs.Wave.{value_in_the_end};
 
 use logic3::{Change, Value};
+
+/// The tick at which a change is seen, later by the delay of a wire.
+pub fn seen_tick(change: Change, wire: u32) -> u64
+    ensures { result ≡ change.tick + wire }
+{
+    u64::from(change.tick) + u64::from(wire)
+}
 
 /// The value of the last of the changes, else the value before them.
 pub fn last_value(before: Value, changes: &[Change]) -> Value
@@ -12,14 +19,14 @@ pub fn last_value(before: Value, changes: &[Change]) -> Value
     changes.last().map_or(before, |change| change.value)
 }
 
-/// How many changes come first that aren't after a tick. Takes a step for each of them.
-pub fn due_changes(changes: &[Change], tick: u64) -> usize
-    ensures count { result ≡ prefix_len (λ (change : Change). nat_le change.tick tick) changes.now }
+/// How many changes come first that aren't seen after a tick. Takes a step for each of them.
+pub fn due_changes(changes: &[Change], wire: u32, tick: u64) -> usize
+    ensures count { result ≡ prefix_len (λ (change : Change). nat_le (change.tick + wire) tick) changes.now }
     ensures within { result ≤ length changes.now }
 {
     changes
         .iter()
-        .take_while(|change| u64::from(change.tick) <= tick)
+        .take_while(|change| seen_tick(**change, wire) <= tick)
         .count()
 }
 

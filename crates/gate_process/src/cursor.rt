@@ -5,31 +5,36 @@ ghost use Rattle.logic3.specs.Rising.{TicksRise};
 ghost use Rattle.logic3.specs.Summary.{summary_of};
 ghost use Rattle.logic3.specs.Wave.{value_at};
 ghost use Rattle.design.specs.Equations.{values_at};
+ghost use Rattle.gate_process.specs.Knowledge.{delayed};
 
-use crate::changes::{due_changes, last_value};
+use crate::changes::{due_changes, last_value, seen_tick};
 use logic3::{Change, Summary, Value};
 use std::marker::Model;
 
 /// Of so many pins, the most that gates have as a rule, what is read is kept without a list in memory.
 pub const FEW: usize = 4;
 
-/// Where a walk over the ticks has come in some changes: it is seen as the waveform that is left.
+/// Where a walk over the ticks has come in some changes, each of which is seen later by the delay of a
+/// wire: it is seen as the waveform that is left, at the ticks at which its changes are seen.
 ///
 /// A whole walk costs as much as it passes changes.
 #[derive(Debug, Drop)]
 pub struct Cursor<'c> {
     // What is shown before the changes that are left.
     value: Value,
+    // The changes that are left, at their source's ticks.
     later: &'c [Change],
+    wire: u32,
 }
 
 impl<'c> Model for Cursor<'c> {
     ghost use Rattle.logic3.specs.Rising.{TicksRise};
     ghost use Rattle.logic3.specs.Wave.{Wave};
+    ghost use Rattle.gate_process.specs.Knowledge.{delayed};
 
     ghost Value = { Wave };
 
-    ghost view = { λ c. record { before = c.value; changes = c.later.now } };
+    ghost view = { λ c. delayed c.wire (record { before = c.value; changes = c.later.now }) };
 
     ghost invariant = { λ c. TicksRise c.later.now };
 }
@@ -41,19 +46,20 @@ impl<'c> Default for Cursor<'c> {
     ghost is_default = { λ c. c ≡ record { before = Unknown; changes = [] } };
 
     fn default() -> Cursor<'c> {
-        Cursor::new(Value::Unknown, Default::default())
+        Cursor::new(Value::Unknown, Default::default(), 0)
     }
 }
 
 impl<'c> Cursor<'c> {
-    /// Before all of the changes.
-    pub fn new(before: Value, changes: &'c [Change]) -> Cursor<'c>
+    /// Before all of the changes, which are seen later by the delay of the wire.
+    pub fn new(before: Value, changes: &'c [Change], wire: u32) -> Cursor<'c>
         requires { TicksRise changes.now }
-        ensures { result ≡ record { before = before; changes = changes.now } }
+        ensures { result ≡ delayed wire (record { before = before; changes = changes.now }) }
     {
         Cursor {
             value: before,
             later: changes,
+            wire,
         }
     }
 
@@ -63,7 +69,7 @@ impl<'c> Cursor<'c> {
         ensures left { (t : ℕ) → tick ≤ t → value_at self.new t ≡ value_at self.old t }
         ensures passed { All (λ (change : Change). tick < change.tick) self.new.changes }
     {
-        let due = due_changes(self.later, tick);
+        let due = due_changes(self.later, self.wire, tick);
         self.value = last_value(self.value, &self.later[..due]);
         self.later = &self.later[due..];
         self.value
@@ -77,7 +83,7 @@ impl<'c> Cursor<'c> {
         ensures steady { (t : ℕ) → t < result → value_at self.now t ≡ self.now.before }
     {
         match self.later.first() {
-            Some(change) => limit.min(u64::from(change.tick)),
+            Some(change) => limit.min(seen_tick(*change, self.wire)),
             None => limit,
         }
     }

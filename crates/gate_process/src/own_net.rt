@@ -3,7 +3,7 @@ ghost use Rattle.std.specs.Option.{option_map_or};
 ghost use Rattle.logic3.specs.declared.value.Value.{Value};
 ghost use Rattle.logic3.specs.declared.value.Value.TheVariants.{Unknown};
 ghost use Rattle.logic3.specs.Summary.{summary_of};
-ghost use Rattle.timing_text.specs.Ranges.{most_ticks};
+ghost use Rattle.timing_text.specs.Ranges.{most_delay, most_ticks};
 ghost use Rattle.design.specs.Samples.{first_asker};
 ghost use Rattle.gate_process.specs.Reading.{reads, read_tick, made_of, shown};
 ghost use Rattle.gate_process.specs.Step.{frontier_of, oldest_asked};
@@ -29,6 +29,7 @@ pub struct OwnNet<'d> {
     name: &'d [u8],
     part: Part,
     pins: &'d [u32],
+    wires: &'d [u32],
     timing: Timing,
     stimuli: &'d [Change],
 }
@@ -43,6 +44,7 @@ impl<'d> Model for OwnNet<'d> {
       name = n.name.now;
       part = n.part;
       pins = n.pins.now;
+      wires = n.wires.now;
       timing = n.timing;
       stimuli = n.stimuli.now;
     } };
@@ -51,6 +53,7 @@ impl<'d> Model for OwnNet<'d> {
       name = n.name.now;
       part = n.part;
       pins = n.pins.now;
+      wires = n.wires.now;
       timing = n.timing;
       stimuli = n.stimuli.now;
     }) };
@@ -69,6 +72,7 @@ impl<'d> OwnNet<'d> {
             name: design.name(net),
             part: design.part(net),
             pins: design.pins_of(net),
+            wires: design.wires_of(net),
             timing: design.timing(net),
             stimuli: design.stimuli(net),
         }
@@ -82,17 +86,29 @@ impl<'d> OwnNet<'d> {
         self.pins.len()
     }
 
-    /// From this frontier of the net on no tick before this one is asked for at any pin.
-    pub fn oldest_asked(&self, frontier: u64) -> u64
-        ensures { (place : ℕ) → result ≡ oldest_asked self.now place frontier }
+    /// How many ticks the wire to each pin takes, in order.
+    pub fn wires(&self) -> &[u32]
+        ensures wires { result.now ≡ self.now.wires }
+        ensures well_formed { IsNet self.now }
     {
-        frontier.saturating_sub(self.timing.delay)
+        self.wires
     }
 
-    /// How far the net can be reckoned where its pins are known so far.
+    /// From this frontier of the net on no tick before this one is asked for of the source of the pin at
+    /// this place.
+    pub fn oldest_asked(&self, place: usize, frontier: u64) -> u64
+        requires { place < length self.now.pins }
+        ensures { result ≡ oldest_asked self.now place frontier }
+    {
+        frontier
+            .saturating_sub(self.timing.delay)
+            .saturating_sub(u64::from(self.wires[place]))
+    }
+
+    /// How far the net can be reckoned where its pins are known so far, as it sees them.
     pub fn next_frontier(&self, end: u64, safe: u64) -> u64
         requires end { end ≤ most_ticks + 1 }
-        requires safe { safe ≤ end }
+        requires safe { safe ≤ most_ticks + 1 + most_delay }
         ensures { result ≡ frontier_of self.now end safe }
     {
         match first_asker(self.part, self.timing, safe) {
@@ -105,7 +121,7 @@ impl<'d> OwnNet<'d> {
     pub fn stimuli(&self) -> Cursor<'_>
         ensures { result ≡ record { before = Unknown; changes = self.now.stimuli } }
     {
-        Cursor::new(Value::Unknown, self.stimuli)
+        Cursor::new(Value::Unknown, self.stimuli, 0)
     }
 
     /// What the net shows at a tick of what it reads, and up to where it stays, at most up to the limit.

@@ -16,8 +16,10 @@ use timing_text::Horizon;
 
 /// The logical process of a net.
 ///
-/// It shares nothing with other processes: messages tell it what its pins show, and by messages it
-/// tells what its net shows. A frontier is how many ticks of a net are known, from tick 0 on.
+/// It shares nothing with other processes: messages tell it what the sources of its pins show, and by
+/// messages it tells what its net shows. A frontier is how many ticks of a net are known, from tick 0 on.
+/// What it hears of a source it keeps at the source's ticks; its net sees it later, by the delay of the
+/// wire to the pin.
 ///
 /// After [`advance`](Self::advance) ran out of memory it has failed, and only
 /// [`is_failed`](Self::is_failed) may be called.
@@ -30,7 +32,7 @@ pub struct Process<'d> {
     floor: u64,
     wave: Waveform,
     frontier: u64,
-    // What each pin was told, in order.
+    // What each pin was told of its source, in order.
     received: Vec<Received>,
     failed: bool,
 }
@@ -89,9 +91,9 @@ impl<'d> Process<'d> {
 
     /// Hears a message at the pin at this place.
     ///
-    /// The message raises what is known of the pin, but not past the horizon, and a change goes on
-    /// with the waveform that the pin was told. A null message takes no memory. An `AllocError`
-    /// leaves the process as it was.
+    /// The message tells of the pin's source, at the source's ticks. It raises what is known of it, but
+    /// not past the horizon, and a change goes on with the waveform that the pin was told. A null message
+    /// takes no memory. An `AllocError` leaves the process as it was.
     pub fn receive(&mut self, place: u32, message: Message) -> Result<(), AllocError>
         requires running { self.old.failed ≡ false }
         requires place { place < length self.old.state.received }
@@ -102,7 +104,7 @@ impl<'d> Process<'d> {
     {
         let received = &mut self.received[place as usize];
         received.hear(message)?;
-        received.keep(self.net.oldest_asked(self.frontier));
+        received.keep(self.net.oldest_asked(place as usize, self.frontier));
         Ok(())
     }
 
@@ -122,7 +124,7 @@ impl<'d> Process<'d> {
         ensures quiet { OnOk result (IsQuiet self.new.state) }
     {
         messages.clear();
-        let safe = least_frontier(self.end, self.received.as_slice());
+        let safe = least_frontier(self.end, self.received.as_slice(), self.net.wires());
         let to = self.net.next_frontier(self.end, safe);
 
         self.failed = true;
@@ -135,7 +137,7 @@ impl<'d> Process<'d> {
             messages,
         )?;
         self.frontier = to;
-        keep_all(self.received.as_mut_slice(), self.net.oldest_asked(to));
+        keep_all(&self.net, self.received.as_mut_slice(), to);
         self.failed = false;
         Ok(())
     }
@@ -159,13 +161,14 @@ impl<'d> Process<'d> {
         Ok(())
     }
 
-    /// How many ticks are known of all pins: the least of their frontiers, and for an input all
-    /// ticks up to the horizon.
+    /// How many ticks are known of all pins, as the net sees them: the least of their frontiers, each
+    /// later than its source's by the delay of the wire, and for an input all ticks up to the horizon.
+    /// It may be past the horizon by a wire.
     pub fn safe(&self) -> u64
         requires running { self.now.failed ≡ false }
         ensures { result ≡ safe_of self.now.state }
     {
-        least_frontier(self.end, self.received.as_slice())
+        least_frontier(self.end, self.received.as_slice(), self.net.wires())
     }
 
     /// The tick from which on the net's waveform is kept: the latest before which changes were taken out.
@@ -184,7 +187,8 @@ impl<'d> Process<'d> {
         self.frontier
     }
 
-    /// How many ticks are known of the pin at this place among the pins of the net.
+    /// How many ticks are known of the source of the pin at this place among the pins of the net: the
+    /// source's own ticks, whatever the delay of the wire.
     pub fn received(&self, place: u32) -> u64
         requires running { self.now.failed ≡ false }
         requires place { place < length self.now.state.received }
@@ -193,7 +197,8 @@ impl<'d> Process<'d> {
         self.received[place as usize].frontier()
     }
 
-    /// The value of the last change that the pin at this place was told, X where there was none.
+    /// The value of the last change that the pin at this place was told of its source, X where there was
+    /// none.
     pub fn last(&self, place: u32) -> Value
         requires running { self.now.failed ≡ false }
         requires place { place < length self.now.state.received }

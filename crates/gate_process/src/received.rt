@@ -1,10 +1,10 @@
-ghost use Rattle.std.specs.Prelude.{◌≡◌, true, ℕ, ◌+◌, ◌<◌, ◌≤◌, map, replicate, IfOk, OnOk, OnErr};
+ghost use Rattle.std.specs.Prelude.{◌≡◌, true, ℕ, ◌+◌, ◌<◌, ◌≤◌, length, map, replicate, IfOk, OnOk, OnErr};
 ghost use Rattle.logic3.specs.declared.value.Value.TheVariants.{Unknown};
 ghost use Rattle.logic3.specs.Wave.{IsWave, last_value};
-ghost use Rattle.timing_text.specs.Ranges.{most_ticks};
+ghost use Rattle.timing_text.specs.Ranges.{most_delay, most_ticks, HasWires};
 ghost use Rattle.cmb_channels.specs.Kinds.{is_change};
-ghost use Rattle.gate_process.specs.Knowledge.{Knowledge, nothing_known, told, kept_since, forgetting, keeping};
-ghost use Rattle.gate_process.specs.Step.{least};
+ghost use Rattle.gate_process.specs.Knowledge.{Knowledge, delayed, seen_pins, nothing_known, told, kept_since, forgetting, keeping};
+ghost use Rattle.gate_process.specs.Step.{least_or};
 
 use crate::changes::{early_changes, last_value};
 use crate::cursor::{Cursor, FEW};
@@ -14,7 +14,7 @@ use smallvec::SmallVec;
 use std::alloc::{AllocError, Global};
 use std::marker::Model;
 
-/// What a pin was told of its source, as far as it is kept.
+/// What a pin was told of its source, as far as it is kept, at the source's ticks.
 #[derive(Debug, Drop)]
 pub struct Received {
     // The value before the first change that is kept.
@@ -24,14 +24,14 @@ pub struct Received {
 }
 
 impl Model for Received {
-    ghost use Rattle.gate_process.specs.Knowledge.{Knowledge, IsKnowledge};
+    ghost use Rattle.gate_process.specs.Knowledge.{Knowledge, IsReceived};
 
     ghost Value = { Knowledge };
 
     ghost view = { λ r. record { wave = record { before = r.before; changes = r.changes }; frontier = r.frontier } };
 
     ghost invariant = { λ r.
-        IsKnowledge (record { wave = record { before = r.before; changes = r.changes }; frontier = r.frontier }) };
+        IsReceived (record { wave = record { before = r.before; changes = r.changes }; frontier = r.frontier }) };
 }
 
 impl Received {
@@ -48,7 +48,8 @@ impl Received {
 
     /// How many ticks of the source are known, from tick 0 on.
     pub fn frontier(&self) -> u64
-        ensures { result ≡ self.now.frontier }
+        ensures frontier { result ≡ self.now.frontier }
+        ensures within { result ≤ most_ticks + 1 }
     {
         self.frontier
     }
@@ -94,11 +95,11 @@ impl Received {
         self.changes.drop_front(early);
     }
 
-    /// Before all of the changes that are kept.
-    pub fn cursor(&self) -> Cursor<'_>
-        ensures { result ≡ self.now.wave }
+    /// Before all of the changes that are kept, which are seen later by the delay of the wire.
+    pub fn cursor(&self, wire: u32) -> Cursor<'_>
+        ensures { result ≡ delayed wire self.now.wave }
     {
-        Cursor::new(self.before, self.changes.as_slice())
+        Cursor::new(self.before, self.changes.as_slice(), wire)
     }
 
     /// The value of the last change, X where there was none.
@@ -120,27 +121,40 @@ pub fn nothing_received(alloc: Global, pins: usize) -> Result<Vec<Received>, All
     Ok(received)
 }
 
-/// What these pins were told, before any tick. Few pins take no memory.
-pub fn cursors_of(
+/// What these pins were told, each with its wire, before any tick. Few pins take no memory.
+pub fn cursors_of<'r>(
     alloc: Global,
-    received: &[Received],
-) -> Result<SmallVec<Cursor<'_>, FEW>, AllocError>
-    ensures { IfOk result (λ cursors. cursors.items ≡ map (λ (known : Knowledge). known.wave) received.now) }
+    received: &'r [Received],
+    wires: &[u32],
+) -> Result<SmallVec<Cursor<'r>, FEW>, AllocError>
+    requires { length wires.now ≡ length received.now }
+    ensures { IfOk result (λ cursors. cursors.items ≡
+        map (λ (known : Knowledge). known.wave) (seen_pins wires.now received.now)) }
 {
     let mut cursors = SmallVec::new(alloc);
-    for pin in received {
-        cursors.push(pin.cursor())?;
+    for (place, pin) in received.iter().enumerate() {
+        cursors.push(pin.cursor(wires[place]))?;
     }
     Ok(cursors)
 }
 
-/// The least of the pins' frontiers and a bound.
-pub fn least_frontier(bound: u64, received: &[Received]) -> u64
-    ensures { result ≡ least bound (map (λ (known : Knowledge). known.frontier) received.now) }
+/// The least of the pins' frontiers, each seen later by the delay of its wire; of no pins what stands for
+/// it.
+pub fn least_frontier(none: u64, received: &[Received], wires: &[u32]) -> u64
+    requires wires { HasWires (length received.now) wires.now }
+    requires none { none ≤ most_ticks + 1 }
+    ensures least { result ≡ least_or none
+        (map (λ (known : Knowledge). known.frontier) (seen_pins wires.now received.now)) }
+    ensures within { result ≤ most_ticks + 1 + most_delay }
 {
-    let mut least = bound;
-    for pin in received {
-        least = least.min(pin.frontier());
+    let mut least = none;
+    for (place, pin) in received.iter().enumerate() {
+        let frontier = pin.frontier() + u64::from(wires[place]);
+        least = if place == 0 {
+            frontier
+        } else {
+            least.min(frontier)
+        };
     }
     least
 }

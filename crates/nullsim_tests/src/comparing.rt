@@ -113,7 +113,7 @@ pub(crate) static EDGE_TWICE: [CarriedOut; 4] = [
 ];
 
 // The options of each side are its own.
-pub(crate) static INVERTER_TWICE: [CarriedOut; 6] = [
+pub(crate) static INVERTER_TWICE: [CarriedOut; 7] = [
     (
         "--first-delay 2",
         b"agree no\nfirst 2 1\nfirst 5 0\nsecond 1 1\nsecond 4 0\n",
@@ -129,6 +129,10 @@ pub(crate) static INVERTER_TWICE: [CarriedOut; 6] = [
     (
         "--first-delays slow.delays",
         b"agree no\nsecond 1 1\nsecond 4 0\n",
+    ),
+    (
+        "--first-delay 2 --second-delays wire.delays",
+        b"agree no\nfirst 2 1\nfirst 5 0\nsecond 2 1\nsecond 5 0\n",
     ),
     (
         "--second-delays slow.delays",

@@ -1,9 +1,11 @@
 //! Command lines of `plain`.
 use crate::commanding::{CarriedOut, Refused};
-use worked_examples::dumps::{CLOCKED_DUMP, INVERTER_DUMP, OUTPUTS_DUMP, SAMPLER_DUMP, SLOW_DUMP};
+use worked_examples::dumps::{
+    CLOCKED_DUMP, INVERTER_DUMP, OUTPUTS_DUMP, SAMPLER_DUMP, SLOW_DUMP, WIRED_XOR_DUMP,
+};
 
 // Dumps under all options of `plain`.
-pub(crate) static DUMPS: [CarriedOut; 7] = [
+pub(crate) static DUMPS: [CarriedOut; 8] = [
     (
         "--bench inv.bench --stimuli inv.stim --horizon 5",
         INVERTER_DUMP,
@@ -32,10 +34,14 @@ pub(crate) static DUMPS: [CarriedOut; 7] = [
         "--bench flop.bench --delays clock.delays --stimuli flop.stim --horizon 9",
         CLOCKED_DUMP,
     ),
+    (
+        "--bench edge.bench --delays wire.delays --stimuli edge.stim --horizon 8",
+        WIRED_XOR_DUMP,
+    ),
 ];
 
 // Settings first, then the texts in their order; all texts are read before anything is checked.
-pub(crate) static REFUSED_PLAIN: [Refused; 13] = [
+pub(crate) static REFUSED_PLAIN: [Refused; 14] = [
     (
         "--bench inv.bench --delay 0 --period 0 --horizon 10000001",
         1,
@@ -58,6 +64,12 @@ pub(crate) static REFUSED_PLAIN: [Refused; 13] = [
         "--bench flop.bench --delays bad-clock.delays --stimuli bad.stim --horizon 5",
         1,
         "bad-clock.delays:2: BadPhase\n",
+        3,
+    ),
+    (
+        "--bench inv.bench --delays bad-wire.delays --stimuli bad.stim --horizon 5",
+        1,
+        "bad-wire.delays:3: BadPin\n",
         3,
     ),
     (

@@ -1,11 +1,13 @@
 //! Command lines of `run`, with schedules and counts.
 use crate::commanding::{Counted, Refused};
-use worked_examples::dumps::{CLOCKED_DUMP, EDGE_DUMP, INVERTER_DUMP, OUTPUTS_DUMP};
+use worked_examples::dumps::{
+    CLOCKED_DUMP, EDGE_DUMP, INVERTER_DUMP, OUTPUTS_DUMP, WIRED_XOR_DUMP,
+};
 
 pub(crate) const COUNTS: &str = "events 7 changes 4 nulls 3 rounds 2\n";
 
-// The inverter, with and without counts, and a flip-flop with a clock.
-pub(crate) static COUNTED_RUNS: [Counted; 4] = [
+// The inverter, with and without counts, a flip-flop with a clock, and a gate with a wire.
+pub(crate) static COUNTED_RUNS: [Counted; 5] = [
     (
         "--bench inv.bench --stimuli inv.stim --horizon 5",
         INVERTER_DUMP,
@@ -25,6 +27,11 @@ pub(crate) static COUNTED_RUNS: [Counted; 4] = [
         "--bench flop.bench --delays clock.delays --stimuli flop.stim --horizon 9 --counts",
         CLOCKED_DUMP,
         "events 7 changes 5 nulls 3 rounds 2\n",
+    ),
+    (
+        "--bench edge.bench --delays wire.delays --stimuli edge.stim --horizon 8 --counts",
+        WIRED_XOR_DUMP,
+        "events 19 changes 5 nulls 6 rounds 3\n",
     ),
 ];
 

@@ -9,7 +9,8 @@ use timing_text::StimulusFault;
 use vcd_dump::{DumpFault, TimeUnit};
 use worked_examples::dumps::{
     CLOCKED_DUMP, EDGE_DUMP, INVERTER_DUMP, OSCILLATOR_DUMP, OUTPUTS_DUMP, PRESET_RING_DUMP,
-    RING_COUNTER_DUMP, SAMPLER_DUMP, SELF_INVERTER_DUMP, SLOW_DUMP,
+    RING_COUNTER_DUMP, SAMPLER_DUMP, SELF_INVERTER_DUMP, SLOW_DUMP, WIRED_FLOP_DUMP,
+    WIRED_XOR_DUMP,
 };
 use worked_examples::{Narrow, Stumbling};
 
@@ -69,6 +70,22 @@ const CLOCKED: Source<'static> = Source {
 const PRESET_RING: Source<'static> = Source {
     delays: b"timing version 2\ninit q 0\n",
     ..RING_COUNTER
+};
+
+// The wire to the first side of the comparison takes as long as the buffer.
+const WIRED_XOR: Source<'static> = Source {
+    delays: b"timing version 2\nwire y 0 1\n",
+    ..EDGE
+};
+
+const WIRED_FLOP: Source<'static> = Source {
+    delays: b"timing version 2\nwire q 0 1\n",
+    ..SAMPLER
+};
+
+const WIRED_INVERTER: Source<'static> = Source {
+    delays: b"timing version 2\nwire y 0 1000000\n",
+    ..INVERTER
 };
 
 // The events, changes, null messages and rounds.
@@ -135,7 +152,7 @@ const FIFTY: &[u8] = b"advance y\nadvance y\nadvance y\nadvance y\nadvance y\n\
 type Run = (Source<'static>, u64, [u64; 4], [u64; 4], &'static [u8]);
 
 // What is counted and dumped, without schedules and with them.
-static RUNS: [Run; 13] = [
+static RUNS: [Run; 16] = [
     (INVERTER, 5, [0, 0, 0, 0], [7, 4, 3, 2], INVERTER_DUMP),
     (SLOW_INVERTER, 5, [0, 0, 0, 0], [2, 2, 2, 1], SLOW_DUMP),
     (EDGE, 8, [0, 0, 0, 0], [19, 7, 6, 3], EDGE_DUMP),
@@ -164,6 +181,9 @@ static RUNS: [Run; 13] = [
         [27, 7, 7, 7],
         PRESET_RING_DUMP,
     ),
+    (WIRED_XOR, 8, [0, 0, 0, 0], [19, 5, 6, 3], WIRED_XOR_DUMP),
+    (WIRED_FLOP, 9, [0, 0, 0, 0], [7, 3, 2, 2], WIRED_FLOP_DUMP),
+    (WIRED_INVERTER, 5, [0, 0, 0, 0], [2, 2, 2, 1], SLOW_DUMP),
     // Under schedules.
     (
         Source {

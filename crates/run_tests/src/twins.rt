@@ -180,6 +180,17 @@ const OTHER_START: Source<'static> = Source {
     ..FLOP
 };
 
+// A wire to the compared net, and wires beside it and of no ticks.
+const WIRED: Source<'static> = Source {
+    delays: b"timing version 2\nwire y 0 1\n",
+    ..ONE
+};
+
+const WIRED_BESIDE: Source<'static> = Source {
+    delays: b"timing version 2\nwire z 0 1\nwire y 0 0\n",
+    ..ONE
+};
+
 /// Two sources, the name of the net and the horizon; whether they agree, and the changes that each shows.
 type Compared = (
     Source<'static>,
@@ -192,7 +203,7 @@ type Compared = (
 );
 
 // One net in two runs.
-static COMPARED: [Compared; 15] = [
+static COMPARED: [Compared; 18] = [
     (ONE, OTHER, b"y", 5, true, INVERTED, INVERTED),
     (OTHER, ONE, b"y", 5, true, INVERTED, INVERTED),
     (ONE, OTHER, b"z", 5, false, BOTH, INVERTED),
@@ -205,12 +216,15 @@ static COMPARED: [Compared; 15] = [
     (ONE, SLOW_BESIDE, b"y", 5, true, INVERTED, INVERTED),
     (ONE, UNDRIVEN_BESIDE, b"y", 5, true, INVERTED, INVERTED),
     (S27, PICKED_S27, b"G17", 35, true, OUTPUT, OUTPUT),
-    // A delay, a period, a phase and an initial value do.
+    (ONE, WIRED_BESIDE, b"y", 5, true, INVERTED, INVERTED),
+    // A delay, a period, a phase, an initial value and a wire do, even where they show the same.
     (SLOW, ONE, b"y", 5, false, LATE, INVERTED),
     (FLOP, OTHER_CLOCK, b"q", 9, false, SAMPLED, &[]),
     (FLOP, SAID, b"q", 9, true, SAMPLED, SAMPLED),
     (FLOP, OTHER_PHASE, b"q", 9, false, SAMPLED, FALLEN),
     (OTHER_START, FLOP, b"q", 9, false, STARTED, SAMPLED),
+    (WIRED, ONE, b"y", 5, false, LATE, INVERTED),
+    (WIRED, SLOW, b"y", 5, false, LATE, LATE),
 ];
 
 // The waveform is X before its first change, and has just these changes.

@@ -47,6 +47,7 @@ no_net = record {
   name = [];
   part = Input;
   pins = [];
+  wires = [];
   timing = record { delay = 0; period = 0; phase = 0; initial = Unknown };
   stimuli = [];
 }

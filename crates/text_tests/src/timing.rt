@@ -230,6 +230,90 @@ fn clocks(rt: HostRuntime) -> Result<(), Fail> {
     Ok(())
 }
 
+// Lines behind the header, and what they are refused with.
+static FAULTY_WIRES: [(&[u8], DelayFault); 17] = [
+    (b"wire q 1 2", DelayFault::BadPin { line: 3 }),
+    (b"wire d 0 2", DelayFault::BadPin { line: 3 }),
+    (
+        b"wire q 18446744073709551616 2",
+        DelayFault::BadPin { line: 3 },
+    ),
+    (b"wire q 0 1000001", DelayFault::BadTicks { line: 3 }),
+    (
+        b"wire q 0 9999999999999999999999999999999999999999999999999999999999999999999999999999999999999999999999999999",
+        DelayFault::BadTicks { line: 3 },
+    ),
+    // Of several faults of a line the first one.
+    (b"wire zz 1 1000001", DelayFault::UnknownNet { line: 3 }),
+    (b"wire d 0 1000001", DelayFault::BadPin { line: 3 }),
+    (
+        b"wire q 0 1\nwire q 0 1000001",
+        DelayFault::BadTicks { line: 4 },
+    ),
+    (b"wire zz 0 x", DelayFault::BadLine { line: 3 }),
+    // Second lines of a pin, whose place is a number.
+    (b"wire q 0 1\nwire q 0 1", DelayFault::Twice { line: 4 }),
+    (b"wire q 0 0\nwire q 00 2", DelayFault::Twice { line: 4 }),
+    // Lines of no form.
+    (b"wire q 0", DelayFault::BadLine { line: 3 }),
+    (b"wire q 0 1 1", DelayFault::BadLine { line: 3 }),
+    (b"wire q one 1", DelayFault::BadLine { line: 3 }),
+    (b"wire q 0 one", DelayFault::BadLine { line: 3 }),
+    (b"wire q 0 -1", DelayFault::BadLine { line: 3 }),
+    (b"WIRE q 0 1", DelayFault::BadLine { line: 3 }),
+];
+
+#[test]
+fn faulty_wires(rt: HostRuntime) -> Result<(), Fail> {
+    for &(lines, fault) in &FAULTY_WIRES {
+        flop_answers(&rt, rt.alloc(), lines, fault)?;
+    }
+    Ok(())
+}
+
+// In a delay text of the first version there are no wires.
+static WIRES: [(&[u8], [u32; 4]); 4] = [
+    (b"y 3\nwire 2", [0, 0, 0, 0]),
+    (b"timing version 2\nwire y 0 5", [5, 0, 0, 0]),
+    (
+        b"timing version 2\nwire y 2 1000000\ndelay y 7\nwire y 1 3\nwire wire 0 1",
+        [0, 3, 1_000_000, 1],
+    ),
+    (b"timing version 2\nwire y 2 0\nwire y 001 03", [0, 3, 0, 0]),
+];
+
+// The pins of a gate of three pins and of one of one pin, which is called as a line of a wire begins.
+fn pins_have_wires(
+    rt: &impl Abort,
+    alloc: Global,
+    delays: &[u8],
+    wires: &[u32; 4],
+) -> Result<(), Fail> {
+    let netlist = read(alloc, b"INPUT(a)\ny = AND(a, a, a)\nwire = NOT(y)\n")?;
+    let built = Design::build(alloc, netlist, delays, b"", 1, 4)?;
+    has_wires(rt, &built, wires);
+    Ok(())
+}
+
+fn has_wires(rt: &impl Abort, built: &Design, wires: &[u32; 4]) {
+    assert!(rt; built.nets() == 3);
+    assert!(rt; built.pins() == 4);
+    assert!(rt; built.wires_of(0).is_empty());
+    assert!(rt; built.wires_of(1) == &wires[..3]);
+    assert!(rt; built.wires_of(2) == &wires[3..]);
+    for pin in 0..4 {
+        assert!(rt; built.wire(pin) == u64::from(wires[pin as usize]));
+    }
+}
+
+#[test]
+fn wires(rt: HostRuntime) -> Result<(), Fail> {
+    for (delays, wires) in &WIRES {
+        pins_have_wires(&rt, rt.alloc(), delays, wires)?;
+    }
+    Ok(())
+}
+
 fn is_too_long(rt: &impl Abort, alloc: Global, text: &[u8]) -> Result<(), Fail> {
     let of_delays = BuildFault::Timing(DelayFault::TooLong);
     answers(rt, alloc, (text, b"x"), FINE, Some(of_delays))?;

@@ -1,6 +1,7 @@
 pub mod CallerLemmas
 mod GivenProperties
 mod GivenStimuli
+mod NetTimings
 mod Rising
 mod StimuliInRange
 mod StimuliNamed

@@ -23,6 +23,7 @@ delay_line (delay.NotAFlop line) = line
 delay_line (delay.BadPeriod line) = line
 delay_line (delay.BadPhase line) = line
 delay_line (delay.BadValue line) = line
+delay_line (delay.BadPin line) = line
 delay_line other = 0
 
 abbrev pub delay_name : DelayFault → List ℕ
@@ -37,6 +38,7 @@ delay_name (delay.NotAFlop line) = codes "NotAFlop"
 delay_name (delay.BadPeriod line) = codes "BadPeriod"
 delay_name (delay.BadPhase line) = codes "BadPhase"
 delay_name (delay.BadValue line) = codes "BadValue"
+delay_name (delay.BadPin line) = codes "BadPin"
 
 -- the line that a fault names, and 0 for one without a line
 abbrev pub stimulus_line : StimulusFault → ℕ

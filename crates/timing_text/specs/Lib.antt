@@ -9,5 +9,6 @@ pub mod Options
 pub mod Words
 pub mod TimingLines
 pub mod Timings
+pub mod GivenSoFar
 pub mod Stimuli
 pub mod Faults

@@ -1,5 +1,5 @@
 -- The ranges of timings and stimuli, in ticks.
-use Rattle.std.specs.Prelude.{◌≡◌, ℕ, ◌<◌, ◌≤◌, List, [], All}
+use Rattle.std.specs.Prelude.{◌≡◌, ℕ, ◌<◌, ◌≤◌, List, [], All, length}
 use Rattle.logic3.specs.declared.change.Change.{Change}
 use Rattle.logic3.specs.declared.value.Value.TheVariants.{Unknown}
 use Rattle.logic3.specs.Rising.{TicksRise}
@@ -7,7 +7,7 @@ use Rattle.netlist.specs.declared.part.Part.{Part}
 use Rattle.netlist.specs.declared.part.Part.TheVariants.{Input, Flop}
 use Rattle.timing_text.specs.declared.timing.Timing.{Timing}
 
--- the most ticks that a gate or a flip-flop may take
+-- the most ticks that a gate or a flip-flop may take, or the wire of a pin
 abbrev pub most_delay : ℕ
 most_delay = 1_000_000
 
@@ -18,6 +18,11 @@ most_ticks = 10_000_000
 abbrev pub HasDelay : Part → ℕ → Type 0
 HasDelay Input delay = delay ≡ 0
 HasDelay _ delay = (1 ≤ delay) × (delay ≤ most_delay)
+
+-- the wire of each pin takes so many ticks at most
+pub record HasWires (pins : ℕ) (wires : List ℕ) : Type 0 where
+  pub each : length wires ≡ pins
+  pub most : All (λ wire. wire ≤ most_delay) wires
 
 -- a flip-flop samples each period, at its phase; nothing else has a clock or an initial value
 abbrev pub HasClock : Part → Timing → Type 0

@@ -1,11 +1,11 @@
 -- What a line of a delay text says of a net, in both versions of such texts.
-use Rattle.std.specs.Prelude.{ℕ, min, not, nat_lt, if◌then◌else◌, List, [], ◌∷◌, option_map, Option, None, Some, Result, Ok, Err, codes, bytes_eq}
+use Rattle.std.specs.Prelude.{ℕ, ◌<◌, ◌≤◌, min, not, nat_lt, if◌then◌else◌, List, [], ◌∷◌, length, option_map, Option, None, Some, Result, Ok, Err, codes, bytes_eq}
 use Rattle.std.specs.Option.{ok_or, option_and_then, option_map_or}
 use Rattle.netlist.specs.declared.part.Part.{Part}
 use Rattle.netlist.specs.Netlist.{NetView, NetlistView}
 use Rattle.text_lines.specs.Text.{◌>>=◌, words_of, number_of, is_plain}
 use Rattle.timing_text.specs.declared.fault.DelayFault.{DelayFault}
-use Rattle.timing_text.specs.declared.fault.DelayFault.TheVariants.{BadLine, UnknownNet, IsInput, NotAFlop, BadTicks, BadPeriod, BadPhase, BadValue}
+use Rattle.timing_text.specs.declared.fault.DelayFault.TheVariants.{BadLine, UnknownNet, IsInput, NotAFlop, BadPin, BadTicks, BadPeriod, BadPhase, BadValue}
 use Rattle.timing_text.specs.declared.line.Property.{Property}
 use Rattle.timing_text.specs.declared.line.Property.TheVariants as property
 use Rattle.timing_text.specs.declared.line.Spelled.{Spelled}
@@ -32,20 +32,23 @@ clock_said name period phase = record { name = name; spelled = spelled.Clock (re
 abbrev pub initial_said : List ℕ → List ℕ → TimingLine
 initial_said name word = record { name = name; spelled = spelled.Initial (value_of_word word) }
 
+abbrev pub wire_said : List ℕ → ℕ → ℕ → TimingLine
+wire_said name place ticks = record { name = name; spelled = spelled.Wire (record { place = place; ticks = ticks }) }
+
 -- `NAME TICKS`
 abbrev pub line_of_first : List (List ℕ) → Option TimingLine
 line_of_first (name ∷ ticks ∷ []) = option_map (delay_said name) (number_of ticks)
 line_of_first _ = None
 
--- `delay NAME TICKS`, `init NAME VALUE` or `clock NAME PERIOD PHASE`
+-- `delay NAME TICKS`, `init NAME VALUE`, `clock NAME PERIOD PHASE` or `wire NAME PLACE TICKS`
 abbrev pub line_of_second : List (List ℕ) → Option TimingLine
 line_of_second (first ∷ name ∷ third ∷ []) =
     if bytes_eq first (codes "delay") then option_map (delay_said name) (number_of third)
     else if bytes_eq first (codes "init") then Some (initial_said name third)
     else None
-line_of_second (first ∷ name ∷ period ∷ phase ∷ []) =
-    if bytes_eq first (codes "clock")
-    then option_and_then (λ period. option_map (clock_said name period) (number_of phase)) (number_of period)
+line_of_second (first ∷ name ∷ third ∷ fourth ∷ []) =
+    if bytes_eq first (codes "clock") then option_and_then (λ period. option_map (clock_said name period) (number_of fourth)) (number_of third)
+    else if bytes_eq first (codes "wire") then option_and_then (λ place. option_map (wire_said name place) (number_of fourth)) (number_of third)
     else None
 line_of_second _ = None
 
@@ -61,6 +64,7 @@ abbrev pub cut_spelled : ℕ → Spelled → Spelled
 cut_spelled top (spelled.Delay ticks) = spelled.Delay (min top ticks)
 cut_spelled top (spelled.Clock clock) = spelled.Clock (record { period = min top clock.period; phase = min top clock.phase })
 cut_spelled top (spelled.Initial value) = spelled.Initial value
+cut_spelled top (spelled.Wire wire) = spelled.Wire (record { place = min top wire.place; ticks = min top wire.ticks })
 
 abbrev pub cut_line : ℕ → TimingLine → TimingLine
 cut_line top line = record line { spelled = cut_spelled top line.spelled }
@@ -71,26 +75,35 @@ pub record NetProperty : Type 0 where
   pub name : List ℕ
   pub property : Property
 
--- the property on the line of this number, if a net of this part may have it
-abbrev pub property_of_part : ℕ → Spelled → Part → Result Property DelayFault
-property_of_part line (spelled.Delay ticks) part =
+-- the property on the line of this number, if a net of this part with so many pins may have it
+abbrev pub property_of_part : ℕ → Spelled → Part → ℕ → Result Property DelayFault
+property_of_part line (spelled.Delay ticks) part pins =
     if is_input part then Err (IsInput line)
     else if not (is_in_limits ticks most_delay) then Err (BadTicks line)
     else Ok (property.Delay ticks)
-property_of_part line (spelled.Clock clock) part =
+property_of_part line (spelled.Clock clock) part pins =
     if not (is_flop part) then Err (NotAFlop line)
     else if not (is_in_limits clock.period most_ticks) then Err (BadPeriod line)
     else if not (nat_lt clock.phase clock.period) then Err (BadPhase line)
     else Ok (property.Clock clock)
-property_of_part line (spelled.Initial value) part =
+property_of_part line (spelled.Initial value) part pins =
     if not (is_flop part) then Err (NotAFlop line)
     else option_map_or (λ value. Ok (property.Initial value)) value (Err (BadValue line))
+property_of_part line (spelled.Wire wire) part pins =
+    if not (nat_lt wire.place pins) then Err (BadPin line)
+    else if nat_lt most_delay wire.ticks then Err (BadTicks line)
+    else Ok (property.Wire wire)
+
+-- a wire delay is of one of so many pins, and in its limits
+abbrev pub HasPin : ℕ → Property → Type 0
+HasPin pins (property.Wire wire) = (wire.place < pins) × (wire.ticks ≤ most_delay)
+HasPin pins _ = Unit {0}
 
 -- what is said on the line of this number, if its net is there and may have it
 abbrev pub property_at : NetlistView → ℕ → TimingLine → Result NetProperty DelayFault
 property_at netlist line said =
     ok_or (find_net netlist said.name) (UnknownNet line) >>= λ (net : NetView).
-    property_of_part line said.spelled net.part >>= λ property.
+    property_of_part line said.spelled net.part (length net.pins) >>= λ property.
     Ok (record { name = said.name; property = property })
 
 -- what a line gives whatever stands before it, or its first fault

@@ -1,6 +1,6 @@
 -- What a delay text gives each net of a netlist, in both versions of such texts.
-use Rattle.std.specs.Prelude.{◌≡◌, ℕ, ◌&&◌, Bool, false, if◌then◌else◌, List, [], ◌∷◌, ◌++◌, map, None, Some, Result, Ok, Err, codes, bytes_eq}
-use Rattle.std.specs.List.{fold}
+use Rattle.std.specs.Prelude.{◌≡◌, ◌==◌, ℕ, ◌&&◌, Bool, false, if◌then◌else◌, List, [], ◌∷◌, ◌++◌, length, map, Option, None, Some, Result, Ok, Err, codes, bytes_eq}
+use Rattle.std.specs.List.{fold, range_with_len}
 use Rattle.std.specs.Option.{is_some, unwrap_or}
 use Rattle.logic3.specs.declared.value.Value.TheVariants.{Unknown}
 use Rattle.netlist.specs.declared.part.Part.{Part}
@@ -12,9 +12,10 @@ use Rattle.timing_text.specs.declared.fault.DelayFault.{DelayFault}
 use Rattle.timing_text.specs.declared.fault.DelayFault.TheVariants.{TooLong, Twice}
 use Rattle.timing_text.specs.declared.line.Properties.{Properties}
 use Rattle.timing_text.specs.declared.line.Property.{Property}
-use Rattle.timing_text.specs.declared.line.Property.TheVariants.{Delay, Clock, Initial}
+use Rattle.timing_text.specs.declared.line.Property.TheVariants.{Delay, Clock, Initial, Wire}
 use Rattle.timing_text.specs.declared.line.Version.{Version}
 use Rattle.timing_text.specs.declared.line.Version.TheVariants.{First, Second}
+use Rattle.timing_text.specs.declared.timing.NetTiming.{NetTiming}
 use Rattle.timing_text.specs.declared.timing.Timing.{Timing}
 use Rattle.timing_text.specs.TimingLines.{NetProperty, property_or_fault}
 
@@ -24,28 +25,40 @@ use Rattle.timing_text.specs.TimingLines.{NetProperty, property_or_fault}
 abbrev pub no_properties : Properties
 no_properties = record { delay = None; clock = None; initial = None }
 
--- whether a net was given a property of this kind
-abbrev pub has_kind : Properties → Property → Bool
-has_kind given (Delay ticks) = is_some given.delay
-has_kind given (Clock clock) = is_some given.clock
-has_kind given (Initial value) = is_some given.initial
-
 abbrev pub with_property : Properties → Property → Properties
 with_property given (Delay ticks) = record given { delay = Some ticks }
 with_property given (Clock clock) = record given { clock = Some clock }
 with_property given (Initial value) = record given { initial = Some value }
+with_property given (Wire wire) = given
 
 -- what lines give the net of this name
 abbrev pub properties_named : List NetProperty → List ℕ → Properties
 properties_named lines name =
     fold (λ (given : Properties) (line : NetProperty). if bytes_eq line.name name then with_property given line.property else given) no_properties lines
 
+-- the wire delay of the pin at a place, where this property comes behind what was given
+abbrev pub with_wire : ℕ → Option ℕ → Property → Option ℕ
+with_wire place given (Wire wire) = if wire.place == place then Some wire.ticks else given
+with_wire place given _ = given
+
+-- the wire delay that lines give the pin at a place of the net of this name
+abbrev pub wire_named : List NetProperty → List ℕ → ℕ → Option ℕ
+wire_named lines name place =
+    fold (λ (given : Option ℕ) (line : NetProperty). if bytes_eq line.name name then with_wire place given line.property else given) None lines
+
+-- whether lines give the net of this name a property of this kind, and a wire delay to the same pin
+abbrev pub has_kind : List NetProperty → List ℕ → Property → Bool
+has_kind lines name (Delay ticks) = is_some (properties_named lines name).delay
+has_kind lines name (Clock clock) = is_some (properties_named lines name).clock
+has_kind lines name (Initial value) = is_some (properties_named lines name).initial
+has_kind lines name (Wire wire) = is_some (wire_named lines name wire.place)
+
 -- ---- line after line
 
 -- earlier lines and then that of this number, unless one of them gave the same net a property of its kind
 abbrev pub unless_twice : List NetProperty → ℕ → NetProperty → Result (List NetProperty) DelayFault
 unless_twice earlier line given =
-    if has_kind (properties_named earlier given.name) given.property then Err (Twice line) else Ok (earlier ++ given ∷ [])
+    if has_kind earlier given.name given.property then Err (Twice line) else Ok (earlier ++ given ∷ [])
 
 -- what earlier lines give and then this line, or its first fault
 abbrev pub properties_after : Version → NetlistView → List NetProperty → ℕ × List ℕ → Result (List NetProperty) DelayFault
@@ -80,10 +93,6 @@ properties_of netlist text = unless_too_long TooLong (λ all. properties_in netl
 abbrev pub IsFirstVersion : List ℕ → Type 0
 IsFirstVersion text = version_of (code_lines text) ≡ First
 
--- what lines give each net, in order
-abbrev pub net_properties : NetlistView → List NetProperty → List Properties
-net_properties netlist lines = map (λ (net : NetView). properties_named lines net.name) netlist.nets
-
 -- ---- the timing of each net
 
 -- from what lines give a net of this part: a flip-flop without a clock line has this period and phase 0
@@ -99,6 +108,14 @@ timing_of_part default period given Flop =
 abbrev pub timing_of_net : ℕ → ℕ → List NetProperty → NetView → Timing
 timing_of_net default period lines net = timing_of_part default period (properties_named lines net.name) net.part
 
--- the timing of each net, in order
-abbrev pub net_timings : NetlistView → ℕ → ℕ → List NetProperty → List Timing
-net_timings netlist default period lines = map (timing_of_net default period lines) netlist.nets
+-- the wire delay of each of its pins, in order; a pin without a line has none
+abbrev pub wires_of_net : List NetProperty → NetView → List ℕ
+wires_of_net lines net = map (λ place. unwrap_or (wire_named lines net.name place) 0) (range_with_len 0 (length net.pins))
+
+-- the timing of each net and the wire delays of its pins, in order
+abbrev pub net_timings : NetlistView → ℕ → ℕ → List NetProperty → List (Timing × List ℕ)
+net_timings netlist default period lines = map (λ (net : NetView). (timing_of_net default period lines net, wires_of_net lines net)) netlist.nets
+
+-- a timing and the wire delays of the pins, as they are stored
+abbrev pub seen_timing : NetTiming → Timing × List ℕ
+seen_timing stored = (stored.timing, stored.wires.items)

@@ -42,8 +42,8 @@ impl fmt::Display for OptionFault {
 /// Why a text gives no timings. Lines count from 1.
 ///
 /// The first faulty line decides, and [`TooLong`](Self::TooLong) comes before all else. Within a line
-/// the order is `BadLine`, `UnknownNet`, `IsInput`, `NotAFlop`, `BadTicks`, `BadPeriod`, `BadPhase`,
-/// `BadValue`, `Twice`.
+/// the order is `BadLine`, `UnknownNet`, `IsInput`, `NotAFlop`, `BadPin`, `BadTicks`, `BadPeriod`,
+/// `BadPhase`, `BadValue`, `Twice`.
 #[derive(Clone, Copy, Debug, PartialEq, Eq, Error)]
 pub enum DelayFault {
     /// The text has more than 16,777,216 bytes.
@@ -54,9 +54,9 @@ pub enum DelayFault {
     UnknownNet { line: u64 },
     /// The net of a delay is an input.
     IsInput { line: u64 },
-    /// The delay is 0 or above 1,000,000 ticks.
+    /// The delay is 0 or above 1,000,000 ticks, or that of a wire above 1,000,000.
     BadTicks { line: u64 },
-    /// An earlier line of the same kind is of this net.
+    /// An earlier line of the same kind is of this net, or of this pin of the net.
     Twice { line: u64 },
     /// A growth was refused.
     Memory,
@@ -68,6 +68,8 @@ pub enum DelayFault {
     BadPhase { line: u64 },
     /// The initial value is none of `0`, `1`, `x` and `X`.
     BadValue { line: u64 },
+    /// The net has no pin at this place.
+    BadPin { line: u64 },
 }
 
 impl DelayFault {
@@ -84,7 +86,8 @@ impl DelayFault {
             | DelayFault::NotAFlop { line }
             | DelayFault::BadPeriod { line }
             | DelayFault::BadPhase { line }
-            | DelayFault::BadValue { line } => line,
+            | DelayFault::BadValue { line }
+            | DelayFault::BadPin { line } => line,
             DelayFault::TooLong | DelayFault::Memory => 0,
         }
     }
@@ -105,6 +108,7 @@ impl DelayFault {
             DelayFault::BadPeriod { .. } => "BadPeriod",
             DelayFault::BadPhase { .. } => "BadPhase",
             DelayFault::BadValue { .. } => "BadValue",
+            DelayFault::BadPin { .. } => "BadPin",
         }
     }
 }

@@ -2,6 +2,7 @@
 #![tactic(auto)]
 
 mod fault;
+mod given;
 mod horizon;
 mod limits;
 mod line;
@@ -15,5 +16,5 @@ pub use fault::{DelayFault, OptionFault, StimulusFault};
 pub use horizon::Horizon;
 pub use settings::options;
 pub use stimuli::read_stimuli;
-pub use timing::Timing;
+pub use timing::{NetTiming, Timing};
 pub use timings::read_timings;

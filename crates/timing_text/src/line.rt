@@ -1,8 +1,10 @@
 //! What a line of a delay text says of a net.
-ghost use Rattle.std.specs.Prelude.{◌≡◌, ◌^◌, ◌-◌, option_map};
+ghost use Rattle.std.specs.Prelude.{◌≡◌, ◌^◌, ◌-◌, option_map, IfOk};
 ghost use Rattle.text_lines.specs.Text.{words_of};
-ghost use Rattle.timing_text.specs.TimingLines.{cut_line, line_in, line_of_first, line_of_second, property_of_part};
-ghost use Rattle.timing_text.specs.Timings.{has_kind, no_properties, with_property};
+ghost use Rattle.netlist.specs.declared.part.Part.{Part};
+ghost use Rattle.timing_text.specs.declared.line.Spelled.TheVariants as said;
+ghost use Rattle.timing_text.specs.TimingLines.{HasPin, cut_line, line_in, line_of_first, line_of_second, property_of_part};
+ghost use Rattle.timing_text.specs.Timings.{no_properties, with_property};
 
 use crate::fault::DelayFault;
 use crate::limits::{MOST_DELAY, MOST_TICKS};
@@ -33,6 +35,13 @@ impl Clock {
     };
 }
 
+/// How many ticks later than its source the pin at a place of a net is seen. Places count from 0.
+#[derive(Clone, Copy)]
+pub(crate) struct Wire {
+    pub(crate) place: u64,
+    pub(crate) ticks: u64,
+}
+
 /// What a line says of its net, whether or not the net may have it.
 #[derive(Clone, Copy)]
 pub(crate) enum Spelled {
@@ -40,6 +49,7 @@ pub(crate) enum Spelled {
     Clock(Clock),
     /// `None` where the word is no value.
     Initial(Option<Value>),
+    Wire(Wire),
 }
 
 /// What a line gives its net.
@@ -49,9 +59,11 @@ pub(crate) enum Property {
     Delay(u64),
     Clock(Clock),
     Initial(Value),
+    /// A pin of the net, and 0 to 1,000,000 ticks.
+    Wire(Wire),
 }
 
-/// What the lines so far gave a net.
+/// What the lines so far gave a net, without the wires of its pins.
 #[derive(Clone, Copy)]
 pub(crate) struct Properties {
     pub(crate) delay: Option<u64>,
@@ -71,18 +83,7 @@ impl Properties {
         }
     }
 
-    /// Whether a property of this kind was given.
-    pub(crate) fn has_kind(self, property: Property) -> bool
-        ensures { result ≡ has_kind self property }
-    {
-        match property {
-            Property::Delay(_) => self.delay.is_some(),
-            Property::Clock(_) => self.clock.is_some(),
-            Property::Initial(_) => self.initial.is_some(),
-        }
-    }
-
-    /// These, and this property in place of one of its kind.
+    /// These, and this property in place of one of its kind; a wire changes nothing.
     pub(crate) fn with(self, property: Property) -> Properties
         ensures { result ≡ with_property self property }
     {
@@ -99,17 +100,20 @@ impl Properties {
                 initial: Some(value),
                 ..self
             },
+            Property::Wire(_) => self,
         }
     }
 }
 
-/// The property on the line of this number, if a net of this part may have it.
+/// The property on the line of this number, if a net of this part with so many pins may have it.
 pub(crate) fn property_of_part(
     line: u64,
     spelled: Spelled,
     part: Part,
+    pins: usize,
 ) -> Result<Property, DelayFault>
-    ensures { result ≡ property_of_part line spelled part }
+    ensures property { result ≡ property_of_part line spelled part pins }
+    ensures pin { IfOk result (λ property. HasPin pins property) }
 {
     match spelled {
         Spelled::Delay(ticks) => {
@@ -142,7 +146,22 @@ pub(crate) fn property_of_part(
             };
             Ok(Property::Initial(value))
         }
+        Spelled::Wire(wire) => wire_of_pins(line, wire, pins),
     }
+}
+
+/// The same for a wire: every part that has the pin may have it.
+fn wire_of_pins(line: u64, wire: Wire, pins: usize) -> Result<Property, DelayFault>
+    ensures property { (part : Part) → result ≡ property_of_part line (said.Wire wire) part pins }
+    ensures pin { IfOk result (λ property. HasPin pins property) }
+{
+    if wire.place >= pins as u64 {
+        return Err(DelayFault::BadPin { line });
+    }
+    if wire.ticks > MOST_DELAY {
+        return Err(DelayFault::BadTicks { line });
+    }
+    Ok(Property::Wire(wire))
 }
 
 /// The name on a line and what the line says of its net, if it has a form of this version.
@@ -171,7 +190,8 @@ fn line_of_first(code: &[u8]) -> Option<(&[u8], Spelled)>
     Some((name, Spelled::Delay(number(ticks)?)))
 }
 
-/// The same for a line `delay NAME TICKS`, `init NAME VALUE` or `clock NAME PERIOD PHASE`.
+/// The same for a line `delay NAME TICKS`, `init NAME VALUE`, `clock NAME PERIOD PHASE` or
+/// `wire NAME PLACE TICKS`.
 fn line_of_second(code: &[u8]) -> Option<(&[u8], Spelled)>
     ensures { option_map (λ found. record { name = found.0.now; spelled = found.1 }) result
         ≡ option_map (cut_line (2 ^ 64 - 1)) (line_of_second (words_of code.now)) }
@@ -181,9 +201,13 @@ fn line_of_second(code: &[u8]) -> Option<(&[u8], Spelled)>
     let spelled = match (words.next(), words.next()) {
         (None, _) if first == b"delay".as_slice() => Spelled::Delay(number(third)?),
         (None, _) if first == b"init".as_slice() => Spelled::Initial(value_of(third)),
-        (Some(phase), None) if first == b"clock".as_slice() => Spelled::Clock(Clock {
+        (Some(fourth), None) if first == b"clock".as_slice() => Spelled::Clock(Clock {
             period: number(third)?,
-            phase: number(phase)?,
+            phase: number(fourth)?,
+        }),
+        (Some(fourth), None) if first == b"wire".as_slice() => Spelled::Wire(Wire {
+            place: number(third)?,
+            ticks: number(fourth)?,
         }),
         _ => return None,
     };

@@ -1,5 +1,6 @@
 //! The timing of a net.
 use logic3::Value;
+use smallvec::SmallVec;
 
 /// When a net looks at its pins, and what it shows before, in ticks.
 #[derive(Clone, Copy, Debug, PartialEq, Eq)]
@@ -13,4 +14,12 @@ pub struct Timing {
     pub phase: u64,
     /// What a flip-flop shows before its first sample shows; unknown for all others.
     pub initial: Value,
+}
+
+/// The timing of a net, and the delays of the wires to its pins.
+#[derive(Debug, Drop)]
+pub struct NetTiming {
+    pub timing: Timing,
+    /// How many ticks later than its source each pin is seen, in the order of the pins: 0 to 1,000,000.
+    pub wires: SmallVec<u32, 4>,
 }

@@ -3,12 +3,14 @@ ghost use Rattle.std.specs.Prelude.{◌≡◌, ◌≢◌, ◌<◌, length, map, 
 ghost use Rattle.std.specs.Result.{result_map_both};
 ghost use Rattle.text_lines.specs.Text.{code_lines, longest_text, words_of};
 ghost use Rattle.netlist.specs.Netlist.{net_at};
-ghost use Rattle.timing_text.specs.TimingLines.{property_or_fault};
-ghost use Rattle.timing_text.specs.Timings.{are_header, net_lines, net_properties, net_timings, properties_of, timing_of_part, version_of};
+ghost use Rattle.timing_text.specs.TimingLines.{HasPin, property_or_fault};
+ghost use Rattle.timing_text.specs.GivenSoFar.{given_to_nets, seen_given};
+ghost use Rattle.timing_text.specs.Timings.{are_header, net_lines, net_timings, properties_of, seen_timing, timing_of_part, version_of};
 
 use crate::fault::DelayFault;
+use crate::given::{NetGiven, nothing_given};
 use crate::line::{Clock, Properties, Property, Version, property_of_part, spelled_line};
-use crate::timing::Timing;
+use crate::timing::{NetTiming, Timing};
 use logic3::Value;
 use netlist::{Netlist, Part};
 use std::alloc::Global;
@@ -22,7 +24,8 @@ struct GivenProperty {
 }
 
 /// The timing of each net, by net number: that of its lines, else the default delay, and for a
-/// flip-flop this period, phase 0 and an unknown initial value.
+/// flip-flop this period, phase 0 and an unknown initial value. The wire of a pin without a line
+/// takes no ticks.
 ///
 /// # Errors
 /// The first fault of the text, as [`DelayFault`] says, or [`DelayFault::Memory`] where a growth was
@@ -33,17 +36,20 @@ pub fn read_timings(
     text: &[u8],
     default_delay: u64,
     period: u64,
-) -> Result<Vec<Timing>, DelayFault>
+) -> Result<Vec<NetTiming>, DelayFault>
     ensures timings { result ≢ Err DelayFault.Memory →
-        result_map_both (λ timings. timings.items) (λ fault. fault) result
+        result_map_both (λ timings. map seen_timing timings.items) (λ fault. fault) result
         ≡ result_map_both (net_timings netlist.now default_delay period) (λ fault. fault) (properties_of netlist.now text.now) }
     ensures at_once { longest_text < length text.now → result ≡ Err DelayFault.TooLong }
 {
     let given = properties_given(alloc, netlist, text)?;
     let mut timings = Vec::new(alloc);
     for net in 0..netlist.nets() {
+        let given = &given[net as usize];
+        let wires = given.wires(alloc)?;
         let part = netlist.part(net);
-        timings.push(timing_of_part(default_delay, period, given[net as usize], part))?;
+        let timing = timing_of_part(default_delay, period, given.properties, part);
+        timings.push(NetTiming { timing, wires })?;
     }
     Ok(timings)
 }
@@ -75,25 +81,24 @@ fn properties_given(
     alloc: Global,
     netlist: &Netlist,
     text: &[u8],
-) -> Result<Vec<Properties>, DelayFault>
+) -> Result<Vec<NetGiven>, DelayFault>
     ensures given { result ≢ Err DelayFault.Memory →
-        result_map_both (λ given. given.items) (λ fault. fault) result
-        ≡ result_map_both (net_properties netlist.now) (λ fault. fault) (properties_of netlist.now text.now) }
+        result_map_both (λ given. map seen_given given.items) (λ fault. fault) result
+        ≡ result_map_both (given_to_nets netlist.now) (λ fault. fault) (properties_of netlist.now text.now) }
     ensures at_once { longest_text < length text.now → result ≡ Err DelayFault.TooLong }
 {
     if text.len() > LONGEST_TEXT {
         return Err(DelayFault::TooLong);
     }
-    let mut given = vec![in alloc; Properties::none(); netlist.nets() as usize]?;
+    let mut given = nothing_given(alloc, netlist)?;
     let (version, lines) = version_and_lines(text);
     for (line, code) in lines {
         let next = given_property(version, netlist, line, code)?;
-        let net = next.net as usize;
-        let had = given[net];
-        if had.has_kind(next.property) {
+        let net = &mut given[next.net as usize];
+        if net.has(next.property) {
             return Err(DelayFault::Twice { line });
         }
-        given[net] = had.with(next.property);
+        net.add(next.property);
     }
     Ok(given)
 }
@@ -134,6 +139,7 @@ fn given_property(
     code: &[u8],
 ) -> Result<GivenProperty, DelayFault>
     ensures net { IfOk result (λ given. given.net < length netlist.now.nets) }
+    ensures pin { IfOk result (λ given. HasPin (length (net_at netlist.now given.net).pins) given.property) }
     ensures property { result_map_both (λ given. record { name = (net_at netlist.now given.net).name; property = given.property })
         (λ fault. fault) result
         ≡ property_or_fault version netlist.now (line, code.now) }
@@ -144,6 +150,7 @@ fn given_property(
     let Some(net) = netlist.find(name) else {
         return Err(DelayFault::UnknownNet { line });
     };
-    let property = property_of_part(line, spelled, netlist.part(net))?;
+    let pins = netlist.pins_of(net).len();
+    let property = property_of_part(line, spelled, netlist.part(net), pins)?;
     Ok(GivenProperty { net, property })
 }

@@ -40,6 +40,15 @@ pub const CLOCKED_DUMP: &[u8] =
 pub const PRESET_RING_DUMP: &[u8] =
     b"$version nullsim 1 $end\n$timescale 1 ns $end\n$scope module top $end\n$var wire 1 ! q $end\n$var wire 1 \" n $end\n$upscope $end\n$enddefinitions $end\n#0\n$dumpvars\n0!\nx\"\n$end\n#1\n1\"\n#4\n1!\n#5\n0\"\n#7\n0!\n#8\n1\"\n#10\n1!\n";
 
+/// Of a buffer and a gate that compares its two sides, the wire to the first one of which takes as long as
+/// the buffer, up to tick 8.
+pub const WIRED_XOR_DUMP: &[u8] =
+    b"$version nullsim 1 $end\n$timescale 1 ns $end\n$scope module top $end\n$var wire 1 ! a $end\n$var wire 1 \" b $end\n$var wire 1 # y $end\n$upscope $end\n$enddefinitions $end\n#0\n$dumpvars\n0!\nx\"\nx#\n$end\n#1\n0\"\n#2\n0#\n#5\n1!\n#6\n1\"\n#8\n";
+
+/// Of a flip-flop that is seen a change of its pin too late, up to tick 9.
+pub const WIRED_FLOP_DUMP: &[u8] =
+    b"$version nullsim 1 $end\n$timescale 1 ns $end\n$scope module top $end\n$var wire 1 ! d $end\n$var wire 1 \" q $end\n$upscope $end\n$enddefinitions $end\n#0\n$dumpvars\nx!\nx\"\n$end\n#4\n1!\n#5\n0!\n#9\n0\"\n";
+
 /// Of a gate whose two pins cross at tick 4, up to tick 6.
 pub const CROSSING_DUMP: &[u8] =
     b"$version nullsim 1 $end\n$timescale 1 ns $end\n$scope module top $end\n$var wire 1 ! a $end\n$var wire 1 \" b $end\n$var wire 1 # y $end\n$upscope $end\n$enddefinitions $end\n#0\n$dumpvars\n1!\n0\"\nx#\n$end\n#1\n0#\n#4\n0!\n1\"\n#6\n";

@@ -12,11 +12,12 @@ use std::alloc::{AllocError, Global};
 use timing_text::{options, read_stimuli, read_timings};
 
 impl Design {
-    /// A netlist with the timing of a delay text and the stimuli of a stimulus text.
+    /// A netlist with the timing and the wires of a delay text and the stimuli of a stimulus text.
     ///
     /// A gate or a flip-flop that the delay text gives no delay takes the default one, and a flip-flop
     /// that it gives no clock has this period and phase 0, in ticks. One without an initial value begins
-    /// with X. The netlist is given up on a refusal.
+    /// with X. A pin that it gives no wire delay sees its source at once. The netlist is given up on a
+    /// refusal.
     ///
     /// # Errors
     /// The first fault, in the order default delay, period, delay text, stimulus text, or

@@ -1,6 +1,6 @@
-use Rattle.std.proofs.Common.{◌≡◌, map, take}
-use Rattle.design.specs.Equations.{signals_in}
+use Rattle.std.proofs.Common.{◌≡◌, take}
+use Rattle.design.specs.Equations.{pin_signals, signals_in, values_at}
 use Rattle.design.proofs.plain.read_pins.Given as goal
 
-abbrev pub invariant-loop-pin : goal.invariant-loop-pin
-invariant-loop-pin l = l.values.items ≡ map (λ pin. signals_in l.waves pin l.tick) (take l.pin-index l.pins)
+abbrev pub invariant-loop-place : goal.invariant-loop-place
+invariant-loop-place l = l.values.items ≡ take l.place (values_at l.tick (pin_signals (signals_in l.waves) l.pins l.wires))

@@ -1,9 +1,10 @@
-use Rattle.std.proofs.Common.{◌∙◌, ap, sym, arith}
+use Rattle.std.proofs.Common.{sym, ◌∙◌}
 use Rattle.gate_process.specs.Knowledge.{keeping}
-use Rattle.gate_process.proofs.Heard.{mapped-more}
+use Rattle.gate_process.proofs.Kept.{kept-more}
 use Rattle.gate_process.proofs.advance.keep_all.Goals as goal
 
-pub loop-pin-preserved : goal.loop-pin-preserved
-loop-pin-preserved c =
-    mapped-more (keeping c.args.oldest) c.args.received.now c.loop-pin.received c.loop-pin.pin-index c.pin-item.result c.keep.new.self
-    (omega arith) c.loop-pin.invariant c.pin-item.is (c.keep.ensures ∙ ap (keeping c.args.oldest) (sym c.pin-item.is))
+pub loop-place-preserved : goal.loop-place-preserved
+loop-place-preserved c =
+    kept-more c.args.net.now c.args.frontier c.args.received.now c.loop-place.place c.loop-place.received c.index-received-place.result c.keep.new.self
+    c.loop-place.invariant c.loop-place-test.true c.index-received-place.is
+    (c.keep.ensures ∙ (λ i. keeping (c.oldest_asked.ensures i) (sym c.index-received-place.is i)))

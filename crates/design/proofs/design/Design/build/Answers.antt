@@ -1,11 +1,12 @@
 use Rattle.std.proofs.Common.{sym, ap, Err, map}
 use Rattle.std.proofs.lemmas.Result.{err_from_is_err_and}
+use Rattle.timing_text.specs.Timings.{seen_timing}
 use Rattle.design.proofs.Built.{IsGiven, is_given, design_of-given, IsJoined-given, design_of-timing_fault, design_of-stimulus_fault}
 use Rattle.design.proofs.design.Design.build.Goals as goal
 use Rattle.design.proofs.design.Design.build.Goals.{In_ok-stimuli}
 
 given : (c : In_ok-stimuli) → IsGiven c.args.netlist c.args.delays.now c.args.stimuli.now c.args.default_delay c.args.period
-    c.in_ok-timings.timings.items (map (λ v. v.items) c.in_ok-stimuli.stimuli.items)
+    (map seen_timing c.in_ok-timings.timings.items) (map (λ v. v.items) c.in_ok-stimuli.stimuli.items)
 given c = is_given c.args.netlist c.args.delays.now c.args.stimuli.now c.args.default_delay c.args.period _ _ c.in_ok-options.field-0
     c.in_ok-options.ensures (c.in_ok-timings.ensures.timings (λ e. (cc))) (c.in_ok-stimuli.ensures.stimuli (λ e. (cc)))
 

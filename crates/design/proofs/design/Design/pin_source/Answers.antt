@@ -23,7 +23,7 @@ overflow_sub-place c =
     omega (arith, first_pin_le c.args.self.now.circuit c.args.pin c.requires)
 
 pub bounds-pins_of-place : goal.bounds-pins_of-place
-bounds-pins_of-place c = (stands (goal.at.bounds-pins_of-place c).After-pins_of).within
+bounds-pins_of-place c = let within = (stands (goal.at.bounds-pins_of-place c).After-pins_of).within in omega arith
 
 pub returns-clause-source : goal.returns-clause-source
 returns-clause-source c = (stands (goal.at.returns-clause-source c).After-pins_of).source

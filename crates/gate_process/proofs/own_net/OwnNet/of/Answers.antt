@@ -9,6 +9,7 @@ own c = record {
   name = c.name.result.now;
   part = c.part.result;
   pins = c.pins_of.result.now;
+  wires = c.wires_of.result.now;
   timing = c.timing.result;
   stimuli = c.stimuli.result.now;
 }
@@ -17,7 +18,7 @@ is_own : (c : goal.After-stimuli) → slice_get c.args.design.now.circuit c.args
 unfolding own
 is_own c =
     net_of_fields (slice_get c.args.design.now.circuit c.args.net) (own c)
-    c.name.ensures c.part.ensures c.pins_of.ensures c.timing.ensures c.stimuli.ensures
+    c.name.ensures c.part.ensures c.pins_of.ensures c.wires_of.ensures c.timing.ensures c.stimuli.ensures
 
 pub invariant_of-result : goal.invariant_of-result
 unfolding own

@@ -1,12 +1,11 @@
-use Rattle.std.proofs.Common.{◌≡◌, ◌≤◌, ◌==◌, cond, [], length, map, vec_len, false, refl, ap, sym, subst, ◌∙◌, arith}
+use Rattle.std.proofs.Common.{◌≡◌, ℕ, ◌≤◌, ◌==◌, cond, [], length, map, Some, slice_get, vec_len, false, refl, ap, sym, subst, ◌∙◌, arith}
 use Rattle.std.specs.Vec.{with_items}
-use Rattle.std.proofs.lemmas.List.{length-map, with_items_is}
+use Rattle.std.proofs.lemmas.List.{with_items_is}
 use Rattle.logic3.specs.Wave.{joined, changes_between}
 use Rattle.design.specs.Equations.{equation}
-use Rattle.gate_process.specs.Knowledge.{Knowledge, kept_since, keeping, news_of}
-use Rattle.gate_process.specs.Step.{ProcessState, ProcessView, least, signals_of, continued, frontier_of, next_frontier, reckoned, advanced, news}
+use Rattle.gate_process.specs.Knowledge.{Knowledge, seen_pins, keeping, news_of}
+use Rattle.gate_process.specs.Step.{ProcessState, ProcessView, least_or, safe_of, oldest_asked, signals_of, continued, frontier_of, next_frontier, reckoned, advanced, news}
 use Rattle.gate_process.specs.Truth.{IsProcess}
-use Rattle.gate_process.proofs.Frontiers.{least-bound}
 use Rattle.gate_process.proofs.Events.{advanced_is_process}
 use Rattle.gate_process.proofs.Heard.{nothing_forgotten_farther}
 use Rattle.gate_process.specs.Quiet.{IsQuiet}
@@ -35,17 +34,14 @@ is_process c = c.self.invariant (ap (λ (view : ProcessView). view.failed) c.sel
 to_is : (c : After-next_frontier-to) → c.next_frontier-to.result ≡ next_frontier (before c)
 unfolding before
 to_is c =
-    let safe = c.least_frontier-safe.ensures
-    ∙ ap (λ received. least c.self.inside.end (map (λ (known : Knowledge). known.frontier) received)) c.as_slice.ensures.value in
+    let safe : c.least_frontier-safe.result ≡ safe_of (before c) =
+    c.least_frontier-safe.ensures.least
+    ∙ (λ i. least_or c.self.inside.end (map (λ (known : Knowledge). known.frontier) (seen_pins (c.wires.ensures.wires i) (c.as_slice.ensures.value i)))) in
     c.next_frontier-to.ensures ∙ ap (frontier_of c.self.inside.net c.self.inside.end) safe
 
 ahead : (c : After-next_frontier-to) → c.self.inside.frontier ≤ c.next_frontier-to.result
 unfolding before
 ahead c = let ok = (is_process c).ahead in omega (arith, to_is c, ok)
-
-pub next_frontier-to-requires-clause-safe : goal.next_frontier-to-requires-clause-safe
-next_frontier-to-requires-clause-safe c =
-    omega (arith, c.least_frontier-safe.ensures, least-bound c.self.inside.end (map (λ (known : Knowledge). known.frontier) c.as_slice.result.now))
 
 pub extend-requires-clause-ahead : goal.extend-requires-clause-ahead
 extend-requires-clause-ahead c = ahead (goal.at.extend-requires-clause-ahead c).After-next_frontier-to
@@ -70,16 +66,19 @@ farther c = record {
   received = c.self.inside.received.items;
 }
 
-pub keep_all-requires : goal.keep_all-requires
+pub keep_all-requires-clause-begin : goal.keep_all-requires-clause-begin
 unfolding before farther
-keep_all-requires c =
-    let at = (goal.at.keep_all-requires c).After-next_frontier-to in
+keep_all-requires-clause-begin c =
+    let at = (goal.at.keep_all-requires-clause-begin c).After-next_frontier-to in
     rw c.as_mut_slice.ensures.value
-    (λ place known here none. nothing_forgotten_farther (before at) (farther at) place known (is_process at) here refl (ahead at)
-    (subst (λ oldest. kept_since oldest known.frontier ≡ 0) (c.oldest_asked.ensures place) none))
+    (λ place known here none. nothing_forgotten_farther (before at) (farther at) place known (is_process at) here refl (ahead at) none)
 
-kept_pins : (c : After-keep_all) → c.keep_all.new.received ≡ map (keeping c.oldest_asked.result) c.self.inside.received.items
-kept_pins c = c.keep_all.ensures ∙ ap (map (keeping c.oldest_asked.result)) c.as_mut_slice.ensures.value
+kept_count : (c : After-keep_all) → length c.keep_all.new.received ≡ length c.self.inside.received.items
+kept_count c = c.keep_all.ensures.pins ∙ ap length c.as_mut_slice.ensures.value
+
+kept_pins : (c : After-keep_all) (place : ℕ) (known : Knowledge) → slice_get c.self.inside.received.items place ≡ Some known →
+    slice_get c.keep_all.new.received place ≡ Some (keeping (oldest_asked c.self.inside.net place c.next_frontier-to.result) known)
+kept_pins c place known at = c.keep_all.ensures.each place known (ap (λ pins. slice_get pins place) c.as_mut_slice.ensures.value ∙ at)
 
 after : goal.After-self-4-1 → ProcessState
 after c = record {
@@ -94,15 +93,15 @@ has_advanced : (c : goal.After-self-4-1) → after c ≡ advanced (before (goal.
 unfolding before after
 has_advanced c =
     let at = (goal.at.invariant_of-self-2 c).After-next_frontier-to in
-    let kept_all = kept_pins (goal.at.invariant_of-self-2 c).After-keep_all in
-    let long : length c.keep_all.new.received ≡ vec_len c.self.inside.received =
-    ap length kept_all ∙ length-map c.self.inside.received.items (keeping c.oldest_asked.result)
-    ∙ sym (ap length c.as_mut_slice.ensures.value) ∙ c.as_mut_slice.ensures.len in
+    let kept = (goal.at.invariant_of-self-2 c).After-keep_all in
+    let long : length c.keep_all.new.received ≡ vec_len c.self.inside.received = c.keep_all.ensures.pins ∙ c.as_mut_slice.ensures.len in
+    let same = with_items_is c.self.inside.received c.keep_all.new.received long in
     let wave = c.in_ok-extend.ensures.wave
     ∙ ap (λ received. joined c.self.inside.wave (changes_between (continued c.self.inside.wave c.self.inside.frontier
-    (equation c.self.inside.net (signals_of received))) c.self.inside.frontier c.next_frontier-to.result)) c.as_slice-2.ensures.value in
-    advanced_of (before at) (is_process at) c.extend.new.wave c.next_frontier-to.result c.oldest_asked.result _ (to_is at) wave c.oldest_asked.ensures
-    (with_items_is c.self.inside.received c.keep_all.new.received long ∙ kept_all)
+    (equation c.self.inside.net (signals_of (seen_pins c.self.inside.net.wires received)))) c.self.inside.frontier c.next_frontier-to.result))
+    c.as_slice-2.ensures.value in
+    advanced_of (before at) (is_process at) c.extend.new.wave c.next_frontier-to.result _ (to_is at) wave (ap length same ∙ kept_count kept)
+    (λ place known e. ap (λ pins. slice_get pins place) same ∙ kept_pins kept place known e)
 
 pub invariant_of-self-2 : goal.invariant_of-self-2
 unfolding after
@@ -125,7 +124,8 @@ returns-clause-news c =
     let to = c.next_frontier-to.result in
     c.in_ok-extend.ensures.news
     ∙ ap (λ received. cond (to == from) []
-    (news_of (changes_between (continued c.self.inside.wave from (equation c.self.inside.net (signals_of received))) from to) to)) c.as_slice-2.ensures.value
+    (news_of (changes_between (continued c.self.inside.wave from (equation c.self.inside.net (signals_of (seen_pins c.self.inside.net.wires received)))) from to) to))
+    c.as_slice-2.ensures.value
     ∙ ap (λ end. cond (end == from) [] (news_of (changes_between (reckoned (before at)) from end) end)) (to_is at)
     ∙ ap news (view_is at)
 

@@ -40,14 +40,14 @@ pub keep-requires : goal.keep-requires
 unfolding before
 keep-requires c =
     let known = c.in_ok-hear.ensures.ok in
-    let oldest = c.oldest_asked.ensures c.args.place in
+    let oldest = c.oldest_asked.ensures in
     rw (known, oldest) (nothing_forgotten_told (before c) c.args.place c.index_mut-received.result.now c.args.message (is_process c) (stands c) (raises c))
 
 written : (c : goal.After-self-2-1) → c.keep.new.self
     ≡ kept (before (goal.at.invariant_of-self-2 c).After-oldest_asked) c.args.place (told c.index_mut-received.result.now c.args.message)
 unfolding before
 written c =
-    c.keep.ensures ∙ ap (λ oldest. keeping oldest c.hear.new.self) (c.oldest_asked.ensures c.args.place)
+    c.keep.ensures ∙ ap (λ oldest. keeping oldest c.hear.new.self) c.oldest_asked.ensures
     ∙ ap (kept (before (goal.at.invariant_of-self-2 c).After-oldest_asked) c.args.place) c.in_ok-hear.ensures.ok
 
 pub invariant_of-self-2 : goal.invariant_of-self-2

@@ -14,7 +14,7 @@ left c = record { wave = record { before = c.last_value-self-inside.result; chan
 
 cut : (c : goal.After-drop_front) → IsCut c.args.tick c.self.inside.changes c.early_changes-early.result
 cut c =
-    let rise = AllPairs-Alternates c.self.inside.before 0 c.self.inside.changes c.self.invariant.wave in
+    let rise = AllPairs-Alternates c.self.inside.before 0 c.self.inside.changes c.self.invariant.known.wave in
     let count = c.early_changes-early.ensures.count ∙ ap (early_by c.args.tick) c.as_slice-changes.ensures in
     rw count (early_cut c.self.inside.changes c.args.tick rise)
 
@@ -26,12 +26,15 @@ forgot c =
     let last = c.last_value-self-inside.ensures
     ∙ ap (λ cs. value_in_the_end c.self.inside.before (take c.early_changes-early.result cs)) c.as_slice-changes.ensures in
     (λ i. record { wave = record { before = last i; changes = c.drop_front.ensures i }; frontier = c.self.inside.frontier })
-    ∙ forgets (known c) c.args.tick c.early_changes-early.result c.self.invariant inside (cut c)
+    ∙ forgets (known c) c.args.tick c.early_changes-early.result c.self.invariant.known inside (cut c)
     (λ start. ap (λ (k : Knowledge). k.wave.before) c.self.view_is ∙ c.requires start)
 
 pub invariant_of-self : goal.invariant_of-self
 unfolding known left
-invariant_of-self c = subst IsKnowledge (sym (forgot c)) (forgotten_is_known c.args.tick (known c))
+invariant_of-self c = record {
+  known = subst IsKnowledge (sym (forgot c)) (forgotten_is_known c.args.tick (known c));
+  within = c.self.invariant.within;
+}
 
 pub returns : goal.returns
 unfolding known left
@@ -40,7 +43,7 @@ returns c = forgot c ∙ ap (forgetting c.args.tick) c.self.view_is
 -- where no change is before the tick, nothing is forgotten
 pub returns-then-early-eq0 : goal.returns-then-early-eq0
 returns-then-early-eq0 c =
-    let rise = AllPairs-Alternates c.self.inside.before 0 c.self.inside.changes c.self.invariant.wave in
+    let rise = AllPairs-Alternates c.self.inside.before 0 c.self.inside.changes c.self.invariant.known.wave in
     let none = c.if-early-eq0.true in
     let count : 0 ≡ early_by c.args.tick c.self.inside.changes =
     sym none ∙ c.early_changes-early.ensures.count ∙ ap (early_by c.args.tick) c.as_slice-changes.ensures in
@@ -48,5 +51,5 @@ returns-then-early-eq0 c =
     subst (IsCut c.args.tick c.self.inside.changes) (sym count) (early_cut c.self.inside.changes c.args.tick rise) in
     sym c.self.view_is
     ∙ forgets (record { wave = record { before = c.self.inside.before; changes = c.self.inside.changes }; frontier = c.self.inside.frontier }) c.args.tick 0
-    c.self.invariant (omega arith) cut (λ start. ap (λ (k : Knowledge). k.wave.before) c.self.view_is ∙ c.requires start)
+    c.self.invariant.known (omega arith) cut (λ start. ap (λ (k : Knowledge). k.wave.before) c.self.view_is ∙ c.requires start)
     ∙ ap (forgetting c.args.tick) c.self.view_is
