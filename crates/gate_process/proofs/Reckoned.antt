@@ -12,7 +12,7 @@ use Rattle.design.specs.Samples.{asked_tick, first_asker, wire_at}
 use Rattle.design.specs.Equations.{later, pin_signals, values_at, equation}
 use Rattle.design.proofs.CallerLemmas.{asked-before, same_later, same_values, source_tick-is, unasked}
 use Rattle.gate_process.specs.Knowledge.{Knowledge, seen, seen_pins, knowledge_of, news_of, Tells}
-use Rattle.gate_process.specs.Step.{ProcessState, seen_by, safe_of, frontier_of, next_frontier, oldest_asked, kept_from, signals_of, reckoned, news}
+use Rattle.gate_process.specs.Step.{ProcessState, seen_by, safe_of, frontier_of, next_frontier, kept_from, signals_of, reckoned, news}
 use Rattle.gate_process.specs.Truth.{Meets, KnowsTruth}
 use Rattle.gate_process.proofs.Told.{before_kept, news_tells}
 use Rattle.gate_process.proofs.Delayed.{shows_later}
@@ -56,7 +56,7 @@ module _ (signals : ℕ → ℕ → Value) (number : ℕ) (process : ProcessStat
   pin_true place wire source known at a b c asked safe =
       shows_later wire known.wave at (λ early.
       ap (λ (k : Knowledge). k.wave.before) (h.heard place source known b c)
-      ∙ ap (value_before (signals source)) (begins (nothing early)))
+      ∙ ap (value_before (signals source)) (begins early))
       ∙ same_later (value_at known.wave) (signals source) at wire (λ from is.
       let there = source_tick-is wire at from is in
       ap (λ (k : Knowledge). value_at k.wave from) (h.heard place source known b c)
@@ -66,14 +66,8 @@ module _ (signals : ℕ → ℕ → Value) (number : ℕ) (process : ProcessStat
       here : wire_at process.net place ≡ wire
       here = get_or_from_slice_get process.net.wires place wire 0 a
 
-      oldest : ℕ → Type 0
-      oldest tick = oldest_asked process.net place process.known.frontier ≤ tick
-
-      nothing : at < wire → oldest 0
-      nothing early = omega (arith, here, asked, early)
-
-      begins : oldest 0 → kept_from process place known.frontier ≡ 0
-      begins none = omega (arith, none)
+      begins : at < wire → kept_from process place known.frontier ≡ 0
+      begins early = omega (arith, here, asked, early)
 
       kept : {from : ℕ} → from + wire ≡ at → kept_from process place known.frontier ≤ from
       kept there = omega (arith, here, asked, there)
