@@ -1,9 +1,11 @@
 //! The kernel over a fabric that carries so many messages and no more: each of a run's messages goes
-//! through the fabric.
+//! through the fabric, and is taken from it; a kernel whose fabric refuses memory has failed.
 ghost use Rattle.std.specs.Prelude.{◌≡◌};
 
 use crate::circuits::{Circuit, GATED_OSCILLATOR, INVERTER, RING_COUNTER};
+use Event::{Advance, Deliver};
 use cmb_channels::{Fabric, Message, Queues};
+use cmb_events::Event;
 use cmb_kernel::{Kernel, KernelFault};
 use design::Design;
 use std::alloc::{AllocError, Global};
@@ -11,14 +13,15 @@ use std::process::Abort;
 use std::test::Fail;
 use timing_text::Horizon;
 
-/// Queues that refuse memory once they have carried so many messages.
+/// Queues that refuse memory once they have carried so many messages, or once more were taken.
 #[derive(Drop)]
-struct Rationed<const MOST: usize> {
+struct Rationed<const SENT: usize, const TAKEN: usize> {
     queues: Queues,
-    carried: usize,
+    sent: usize,
+    taken: usize,
 }
 
-impl<const MOST: usize> Fabric for Rationed<MOST> {
+impl<const SENT: usize, const TAKEN: usize> Fabric for Rationed<SENT, TAKEN> {
     ghost lists = { λ r. r.queues.lists };
 
     ghost sources = { λ r. r.queues.sources };
@@ -28,20 +31,22 @@ impl<const MOST: usize> Fabric for Rationed<MOST> {
     fn empty_for(alloc: Global, design: &Design) -> Result<Self, AllocError> {
         Ok(Rationed {
             queues: Queues::empty_for(alloc, design)?,
-            carried: 0,
+            sent: 0,
+            taken: 0,
         })
     }
 
     fn send(&mut self, net: u32, message: Message) -> Result<(), AllocError> {
-        if self.carried >= MOST {
+        if self.sent >= SENT || self.taken > TAKEN {
             return Err(AllocError);
         }
         self.queues.send(net, message)?;
-        self.carried += 1;
+        self.sent += 1;
         Ok(())
     }
 
     fn take(&mut self, pin: u32) -> Option<Message> {
+        self.taken = self.taken.saturating_add(1);
         self.queues.take(pin)
     }
 
@@ -78,10 +83,93 @@ fn needs<F: Fabric, G: Fabric>(
     ends::<G>(rt, alloc, &design, horizon, false)
 }
 
-// Each of these runs sends so many changes and null messages.
+// Each of these runs sends so many changes and null messages, and takes so many before the last one is sent.
 #[test]
 fn carries_each_message(rt: HostRuntime) -> Result<(), Fail> {
-    needs::<Rationed<7>, Rationed<6>>(&rt, rt.alloc(), INVERTER, 5)?;
-    needs::<Rationed<11>, Rationed<10>>(&rt, rt.alloc(), GATED_OSCILLATOR, 12)?;
-    needs::<Rationed<8>, Rationed<7>>(&rt, rt.alloc(), RING_COUNTER, 10)
+    needs::<Rationed<7, 3>, Rationed<6, 3>>(&rt, rt.alloc(), INVERTER, 5)?;
+    needs::<Rationed<7, 3>, Rationed<7, 2>>(&rt, rt.alloc(), INVERTER, 5)?;
+    needs::<Rationed<11, 10>, Rationed<10, 10>>(&rt, rt.alloc(), GATED_OSCILLATOR, 12)?;
+    needs::<Rationed<11, 10>, Rationed<11, 9>>(&rt, rt.alloc(), GATED_OSCILLATOR, 12)?;
+    needs::<Rationed<8, 7>, Rationed<7, 7>>(&rt, rt.alloc(), RING_COUNTER, 10)?;
+    needs::<Rationed<8, 7>, Rationed<8, 6>>(&rt, rt.alloc(), RING_COUNTER, 10)
+}
+
+// A call of a kernel.
+#[derive(Clone, Copy)]
+enum Call {
+    Event(Event),
+    Events(&'static [Event]),
+    Round,
+    Sweep(&'static [u32]),
+    Complete,
+}
+
+// What the kernel answers to a call; a sweep names nets that are there.
+fn answer<F: Fabric>(
+    rt: &impl Abort,
+    design: &Design,
+    kernel: &mut Kernel<F>,
+    call: Call,
+) -> Result<(), KernelFault>
+    requires { kernel.old.circuit ≡ design.now.circuit }
+{
+    match call {
+        Call::Event(event) => kernel.apply(event).map(|_useful| ()),
+        Call::Events(events) => kernel.apply_all(events),
+        Call::Round => kernel.round(),
+        Call::Sweep(order) => {
+            let nets = design.nets();
+            assert!(rt; order.iter().all(|net| *net < nets));
+            kernel.sweep(order, 6)
+        }
+        Call::Complete => kernel.complete(),
+    }
+}
+
+// The kernel answers to every call that it has failed, whatever is wrong with the call.
+fn has_failed<F: Fabric>(rt: &impl Abort, kernel: &mut Kernel<F>, many: &[Event]) {
+    let failed = Err(KernelFault::Failed);
+    assert!(rt; kernel.is_failed());
+    assert!(rt; kernel.apply(Advance(0)) == Err(KernelFault::Failed));
+    assert!(rt; kernel.apply(Deliver(9)) == Err(KernelFault::Failed));
+    assert!(rt; kernel.apply_all(many) == failed);
+    assert!(rt; kernel.apply_all(&[Advance(9)]) == failed);
+    assert!(rt; kernel.round() == failed);
+    assert!(rt; kernel.sweep(&[], 6) == failed);
+    assert!(rt; kernel.complete() == failed);
+    assert!(rt; kernel.is_failed());
+}
+
+// A call that has something to send is refused memory, and the kernel has failed from then on.
+fn fails_for_good(
+    rt: &impl Abort,
+    alloc: Global,
+    design: &Design,
+    call: Call,
+    many: &[Event],
+) -> Result<(), Fail> {
+    let mut kernel: Kernel<Rationed<0, 0>> = Kernel::new(alloc, design, Horizon::new(5)?)?;
+    let first = answer(rt, design, &mut kernel, call);
+    assert!(rt; first == Err(KernelFault::Memory));
+    has_failed(rt, &mut kernel, many);
+    Ok(())
+}
+
+static CALLS: [Call; 5] = [
+    Call::Event(Advance(0)),
+    Call::Events(&[Deliver(0), Advance(0)]),
+    Call::Round,
+    Call::Sweep(&[1, 0]),
+    Call::Complete,
+];
+
+// So many events are too many for a kernel that hasn't failed.
+#[test]
+fn refused_at_once(rt: HostRuntime) -> Result<(), Fail> {
+    let design = INVERTER.build(rt.alloc())?;
+    let many = vec![in rt.alloc(); Advance(0); 10_000_001]?;
+    for call in &CALLS {
+        fails_for_good(&rt, rt.alloc(), &design, *call, &many)?;
+    }
+    Ok(())
 }

@@ -8,13 +8,13 @@ use Value::{One, Zero};
 use design::Design;
 use logic3::{Change, Value};
 use std::alloc::Global;
-use std::io::{ErrorKind, Write};
+use std::io::Write;
 use std::process::Abort;
 use std::test::Fail;
 use timing_text::Horizon;
 use vcd_dump::{DumpFault, Stream, TimeUnit};
 use worked_examples::dumps::INVERTER_DUMP;
-use worked_examples::{Narrow, Stumbling};
+use worked_examples::{Narrow, SLIPS, Slip, Stumbling};
 
 // The changes of a net, in a span that begins and ends at these ticks.
 fn part(
@@ -221,10 +221,16 @@ fn fails<W: Write>(
 #[test]
 fn failed_streams(rt: HostRuntime) -> Result<(), Fail> {
     let design = INVERTER.build(rt.alloc())?;
-    let mut out = Stumbling::new(rt.alloc(), 2, ErrorKind::Other);
-    fails(&rt, rt.alloc(), &mut out, &design, DumpFault::Write)?;
-    assert!(rt; out.calls == 3);
-    assert!(rt; out.taken.as_slice() == &INVERTER_DUMP[..169]);
+    for slip in &SLIPS {
+        let mut out = Stumbling::new(rt.alloc(), 2, *slip);
+        let fault = match slip {
+            Slip::Fails(_) => DumpFault::Write,
+            Slip::TakesNothing => DumpFault::WroteNothing,
+        };
+        fails(&rt, rt.alloc(), &mut out, &design, fault)?;
+        assert!(rt; out.calls == 3);
+        assert!(rt; out.taken.as_slice() == &INVERTER_DUMP[..169]);
+    }
     Ok(())
 }
 

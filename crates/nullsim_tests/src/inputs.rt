@@ -1,7 +1,9 @@
 //! Readers through `read_text` and `tell`: those that fail, that don't end, that give few bytes a call.
+use crate::telling::INVERTER;
 use nullsim::{ReadFault, read_text, tell};
 use std::io::{self, ErrorKind, Read, Write};
 use std::test::Fail;
+use worked_examples::dumps::INVERTER_DUMP;
 
 // The most bytes that are read: one more than a text may have.
 const MOST_READ: usize = 16_777_217;
@@ -83,6 +85,53 @@ fn a_byte_a_call_makes_the_whole_text(rt: HostRuntime) -> Result<(), Fail> {
     assert!(rt; text.as_slice() == b"a few bytes".as_slice());
     assert!(rt; input.text.is_empty());
     Ok(())
+}
+
+/// Gives a text, then its end, and then more.
+#[derive(Drop)]
+struct Pausing<'a> {
+    text: &'a [u8],
+    pauses: u32,
+    more: &'a [u8],
+}
+
+impl<'a> Read for Pausing<'a> {
+    fn read(&mut self, buf: &mut [u8]) -> io::Result<usize> {
+        if !self.text.is_empty() {
+            return self.text.read(buf);
+        }
+        if self.pauses > 0 {
+            self.pauses -= 1;
+            return Ok(0);
+        }
+        self.more.read(buf)
+    }
+}
+
+#[test]
+fn what_comes_after_the_end_is_not_read(rt: HostRuntime) -> Result<(), Fail> {
+    for text in [b"".as_slice(), b"a few bytes".as_slice()] {
+        let mut input = Pausing {
+            text,
+            pauses: 1,
+            more: b"%nullsim 0".as_slice(),
+        };
+        let all = read_text(rt.alloc(), &mut input).map_err(|_| "a fault")?;
+        assert!(rt; all.as_slice() == text);
+        assert_eq!(rt; input.more.len(), 10);
+    }
+    Ok(())
+}
+
+// A deck that comes a byte a call is the deck.
+#[test]
+fn a_deck_in_drops(rt: HostRuntime) {
+    let mut input = Drops { text: INVERTER };
+    let mut out = Vec::new(rt.alloc());
+    let mut err = Vec::new(rt.alloc());
+    assert_eq!(rt; tell(rt.alloc(), &mut input, &mut out, &mut err), 0);
+    assert!(rt; err.is_empty());
+    assert!(rt; out.as_slice() == INVERTER_DUMP);
 }
 
 #[test]

@@ -2,10 +2,11 @@
 use crate::commanding::contains;
 use nullsim::{Report, deck, tell};
 use std::alloc::{AllocError, Global};
+use std::io::Write;
 use std::process::Abort;
 use std::test::Fail;
-use worked_examples::Narrow;
 use worked_examples::dumps::{CONTROLLED_DUMP, CROSSING_DUMP, INVERTER_DUMP, SLOW_DUMP};
+use worked_examples::{Narrow, SLIPS, Slip, Stumbling};
 
 // What goes out for the deck, which is carried out: nothing goes to standard error.
 fn out_of(rt: &impl Abort, alloc: Global, deck: &[u8]) -> Vec<u8> {
@@ -17,7 +18,7 @@ fn out_of(rt: &impl Abort, alloc: Global, deck: &[u8]) -> Vec<u8> {
     out
 }
 
-const INVERTER: &[u8] =
+pub(crate) const INVERTER: &[u8] =
     b"%nullsim 5\n%bench\nINPUT(a)\nOUTPUT(y)\ny = NOT(a)\n%stimuli\n0 a 0\n3 a 1\n";
 
 #[test]
@@ -107,7 +108,7 @@ fn took_part(rt: &impl Abort, out: &Narrow, took: usize, flushes: u32) {
 }
 
 // What `tell` answers to the inverter's deck, and the fault line.
-fn tell_inverter(rt: &impl Abort, alloc: Global, out: &mut Narrow, status: u8, fault: &str) {
+fn tell_inverter<W: Write>(rt: &impl Abort, alloc: Global, out: &mut W, status: u8, fault: &str) {
     let mut input = INVERTER;
     let mut err = Vec::new(alloc);
     assert_eq!(rt; tell(alloc, &mut input, out, &mut err), status);
@@ -136,6 +137,23 @@ fn short_writers(rt: HostRuntime) {
         out.flush_fails = flush_fails;
         tell_inverter(&rt, rt.alloc(), &mut out, status, fault);
         took_part(&rt, &out, took, flushes);
+    }
+}
+
+// The deck's dump goes out in three calls, of which the writer stumbles at one.
+#[test]
+fn writers_that_stumble_once(rt: HostRuntime) {
+    for slip in &SLIPS {
+        let fault = match slip {
+            Slip::Fails(_) => "stdout:0: Write\n",
+            Slip::TakesNothing => "stdout:0: WroteNothing\n",
+        };
+        for call in 0..3u32 {
+            let mut out = Stumbling::new(rt.alloc(), call, *slip);
+            tell_inverter(&rt, rt.alloc(), &mut out, 3, fault);
+            assert!(rt; out.calls == call + 1);
+            assert!(rt; INVERTER_DUMP.starts_with(out.taken.as_slice()));
+        }
     }
 }
 

@@ -1,13 +1,14 @@
-//! Command lines through `command`, on writers that fail at some byte or at the flush.
+//! Command lines through `command`, on writers that fail at some byte, at some call or at the flush.
 use crate::checking::S27_SAME;
 use crate::commanding::end_of;
 use crate::comparing::{BOTH, CONE_OF_Y};
 use crate::running::COUNTS;
 use std::alloc::Global;
+use std::io::Write;
 use std::process::Abort;
 use std::test::Fail;
-use worked_examples::Narrow;
 use worked_examples::dumps::INVERTER_DUMP;
+use worked_examples::{Narrow, SLIPS, Slip, Stumbling};
 
 /// A command line and the text that it writes.
 type Line = (&'static str, &'static [u8]);
@@ -94,11 +95,11 @@ fn took(rt: &impl Abort, out: &Narrow, text: &[u8], room: usize, flushes: u32, l
 }
 
 // The line ends with this status on this writer of its text, and standard error took this.
-fn ends(
+fn ends<W: Write>(
     rt: &impl Abort,
     alloc: Global,
     line: &str,
-    out: &mut Narrow,
+    out: &mut W,
     err: &mut Narrow,
     status: u8,
     told: &str,
@@ -117,6 +118,63 @@ fn faulty_writers(rt: HostRuntime) -> Result<(), Fail> {
         let mut err = Narrow::new(rt.alloc(), err_room, most);
         ends(&rt, rt.alloc(), line, &mut out, &mut err, status, told)?;
         took(&rt, &out, text, room, flushes, line);
+    }
+    Ok(())
+}
+
+// Each command, and how often it writes.
+static CALLS: [(Line, u32); 6] = [
+    (PLAIN, 3),
+    (RUN, 3),
+    (COUNTED, 4),
+    (CHECK, 1),
+    (CONE, 1),
+    (TWIN, 1),
+];
+
+// The line on a writer that stumbles at the call of this number: it is told, and a first part of the
+// text is out.
+fn stumbles(
+    rt: &impl Abort,
+    alloc: Global,
+    (line, text): Line,
+    call: u32,
+    slip: Slip,
+) -> Result<(), Fail> {
+    let told = match slip {
+        Slip::Fails(_) => NOT_WRITTEN,
+        Slip::TakesNothing => "stdout:0: WroteNothing\n",
+    };
+    let mut out = Stumbling::new(alloc, call, slip);
+    let mut err = Narrow::new(alloc, 99, 7);
+    ends(rt, alloc, line, &mut out, &mut err, 3, told)?;
+    assert_eq!(rt; out.calls, call.saturating_add(1), "at {line}");
+    assert!(rt; text.starts_with(out.taken.as_slice()), "at {line}, {call}");
+    Ok(())
+}
+
+#[test]
+fn writers_that_stumble_once(rt: HostRuntime) -> Result<(), Fail> {
+    for &(line, calls) in &CALLS {
+        for slip in &SLIPS {
+            for call in 0..calls {
+                stumbles(&rt, rt.alloc(), line, call, *slip)?;
+            }
+        }
+    }
+    Ok(())
+}
+
+// A byte a call, and as many calls as the text has bytes.
+#[test]
+fn writers_of_a_byte_a_call(rt: HostRuntime) -> Result<(), Fail> {
+    for &((line, text), _) in &CALLS {
+        let mut out = Narrow::new(rt.alloc(), 9999, 1);
+        let mut err = Narrow::new(rt.alloc(), 99, 7);
+        let told = if line == COUNTED.0 { COUNTS } else { "" };
+        ends(&rt, rt.alloc(), line, &mut out, &mut err, 0, told)?;
+        took(&rt, &out, text, text.len(), 1, line);
+        assert_eq!(&rt; out.calls as usize, text.len(), "at {line}");
     }
     Ok(())
 }

@@ -1,4 +1,4 @@
-//! Tests of whole runs: worked examples, refusals, far horizons.
+//! Tests of whole runs: worked examples, refusals, far horizons, faulty writers.
 #![tactic(auto)]
 
 #[cfg(test)]
@@ -9,3 +9,5 @@ mod far_runs;
 mod simulations;
 #[cfg(test)]
 mod twins;
+#[cfg(test)]
+mod writers;

@@ -3,16 +3,14 @@ use cmb_events::ScheduleFault;
 use cmb_kernel::Counts;
 use runs::{Picks, Report, Show, SimFault, Source, View, plain, simulate, sweep};
 use std::alloc::Global;
-use std::io::ErrorKind;
 use std::process::Abort;
 use timing_text::StimulusFault;
-use vcd_dump::{DumpFault, TimeUnit};
+use vcd_dump::TimeUnit;
 use worked_examples::dumps::{
     CLOCKED_DUMP, EDGE_DUMP, INVERTER_DUMP, OSCILLATOR_DUMP, OUTPUTS_DUMP, PRESET_RING_DUMP,
     RING_COUNTER_DUMP, SAMPLER_DUMP, SELF_INVERTER_DUMP, SLOW_DUMP, WIRED_FLOP_DUMP,
     WIRED_XOR_DUMP,
 };
-use worked_examples::{Narrow, Stumbling};
 
 const INVERTER: Source<'static> = Source {
     bench: b"INPUT(a)\nOUTPUT(y)\ny = NOT(a)\n",
@@ -309,54 +307,6 @@ fn faulty_schedules(rt: HostRuntime) {
     };
     let fault = SimFault::Schedule(ScheduleFault::TooManyEvents);
     refuses(&rt, rt.alloc(), many, fault);
-}
-
-#[test]
-fn writer_without_room(rt: HostRuntime) {
-    let mut room = [0; 100];
-    let mut out = room.as_mut_slice();
-    let answer = simulate(rt.alloc(), &INVERTER, &all_up_to(5), &mut out);
-    let fault = SimFault::Dump(DumpFault::WroteNothing);
-    assert!(rt; answer == Err(fault));
-    assert!(rt; room.as_slice() == &INVERTER_DUMP[..100]);
-}
-
-#[test]
-fn writer_of_forty_bytes(rt: HostRuntime) {
-    let mut out = Narrow::new(rt.alloc(), 40, 40);
-    let answer = simulate(rt.alloc(), &INVERTER, &all_up_to(5), &mut out);
-    assert!(rt; answer == Err(SimFault::Dump(DumpFault::Write)));
-    assert!(rt; out.taken.as_slice() == &INVERTER_DUMP[..40]);
-}
-
-// A writer that fails at the call of this number breaks the run off, and isn't called again.
-fn breaks_off(rt: &impl Abort, alloc: Global, call: u32, kind: ErrorKind) {
-    let mut out = Stumbling::new(alloc, call, kind);
-    let answer = simulate(alloc, &INVERTER, &all_up_to(5), &mut out);
-    assert!(rt; answer == Err(SimFault::Dump(DumpFault::Write)));
-    assert!(rt; out.calls == call.saturating_add(1));
-    assert!(rt; INVERTER_DUMP.starts_with(out.taken.as_slice()));
-}
-
-#[test]
-fn writers_that_fail_once(rt: HostRuntime) {
-    for kind in [ErrorKind::Other, ErrorKind::Interrupted] {
-        for call in [0, 1, 2, 3] {
-            breaks_off(&rt, rt.alloc(), call, kind);
-        }
-    }
-}
-
-// The declarations, what is known after each of two rounds, and the last time are a call each, and no
-// call gives the writer nothing.
-#[test]
-fn pieces_of_a_dump(rt: HostRuntime) {
-    let mut out = Stumbling::new(rt.alloc(), u32::MAX, ErrorKind::Other);
-    let answer = simulate(rt.alloc(), &INVERTER, &all_up_to(5), &mut out);
-    assert!(rt; answer.is_ok());
-    assert!(rt; out.taken.as_slice() == INVERTER_DUMP);
-    assert!(rt; out.calls == 4);
-    assert!(rt; out.empty == 0);
 }
 
 // The dump of the outputs of a circuit, in picoseconds, up to tick 5.

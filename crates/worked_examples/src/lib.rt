@@ -6,4 +6,4 @@ mod s27;
 mod writers;
 
 pub use s27::{S27_BENCH, S27_STIMULI};
-pub use writers::{Narrow, Stumbling};
+pub use writers::{Narrow, SLIPS, Slip, Stumbling};

@@ -7,6 +7,8 @@ use std::io::{self, ErrorKind, Write};
 pub struct Narrow {
     /// What it took.
     pub taken: Vec<u8>,
+    /// How often it was called.
+    pub calls: u32,
     room: usize,
     most: usize,
     /// Whether it fails where there is no room.
@@ -22,6 +24,7 @@ impl Narrow {
     pub fn new(alloc: Global, room: usize, most: usize) -> Narrow {
         Narrow {
             taken: Vec::new(alloc),
+            calls: 0,
             room,
             most,
             fails: true,
@@ -33,6 +36,7 @@ impl Narrow {
 
 impl Write for Narrow {
     fn write(&mut self, buf: &[u8]) -> io::Result<usize> {
+        self.calls = self.calls.saturating_add(1);
         let count = buf.len().min(self.room).min(self.most);
         if count == 0 && self.fails {
             return Err(io::Error::from(ErrorKind::Other));
@@ -51,7 +55,23 @@ impl Write for Narrow {
     }
 }
 
-/// A writer that fails at one call, and takes all that it is given at every other one.
+/// What a writer does at the one call at which it stumbles.
+#[derive(Clone, Copy)]
+pub enum Slip {
+    /// It fails with a fault of this kind.
+    Fails(ErrorKind),
+    /// It takes nothing.
+    TakesNothing,
+}
+
+/// Each way to stumble: to be interrupted is to fail too.
+pub static SLIPS: [Slip; 3] = [
+    Slip::Fails(ErrorKind::Other),
+    Slip::Fails(ErrorKind::Interrupted),
+    Slip::TakesNothing,
+];
+
+/// A writer that stumbles at one call, and takes all that it is given at every other one.
 #[derive(Drop)]
 pub struct Stumbling {
     /// What it took.
@@ -60,19 +80,19 @@ pub struct Stumbling {
     pub calls: u32,
     /// How often it was given nothing.
     pub empty: u32,
-    fails_at: u32,
-    kind: ErrorKind,
+    at: u32,
+    slip: Slip,
 }
 
 impl Stumbling {
-    /// A writer that fails at the call of this number, from 0, with a fault of this kind.
-    pub fn new(alloc: Global, fails_at: u32, kind: ErrorKind) -> Stumbling {
+    /// A writer that stumbles so at the call of this number, from 0.
+    pub fn new(alloc: Global, at: u32, slip: Slip) -> Stumbling {
         Stumbling {
             taken: Vec::new(alloc),
             calls: 0,
             empty: 0,
-            fails_at,
-            kind,
+            at,
+            slip,
         }
     }
 }
@@ -84,8 +104,11 @@ impl Write for Stumbling {
         if buf.is_empty() {
             self.empty = self.empty.saturating_add(1);
         }
-        if call == self.fails_at {
-            return Err(io::Error::from(self.kind));
+        if call == self.at {
+            return match self.slip {
+                Slip::Fails(kind) => Err(io::Error::from(kind)),
+                Slip::TakesNothing => Ok(0),
+            };
         }
         self.taken.extend_from_slice(buf)?;
         Ok(buf.len())

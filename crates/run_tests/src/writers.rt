@@ -1,0 +1,178 @@
+//! Runs by each engine on writers that take little a call, and on writers that stumble: the dump is
+//! broken off with a first part of it, by the fault that the writer met.
+use runs::{Picks, Show, SimFault, Source, View, plain, simulate, sweep};
+use std::alloc::Global;
+use std::io::{ErrorKind, Write};
+use std::process::Abort;
+use vcd_dump::{DumpFault, TimeUnit};
+use worked_examples::dumps::INVERTER_DUMP;
+use worked_examples::{Narrow, SLIPS, Slip, Stumbling};
+
+const INVERTER: Source<'static> = Source {
+    bench: b"INPUT(a)\nOUTPUT(y)\ny = NOT(a)\n",
+    delays: b"",
+    stimuli: b"0 a 0\n3 a 1\n",
+    default_delay: 1,
+    period: 10,
+    picks: Picks::Nothing,
+};
+
+// A gate that turns over at each tick from 1 on.
+const OSCILLATOR: Source<'static> = Source {
+    bench: b"INPUT(e)\ny = NAND(e, y)\n",
+    stimuli: b"0 e 0\n1 e 1\n",
+    ..INVERTER
+};
+
+const SHORT: View = View {
+    horizon: 5,
+    show: Show::All,
+    unit: TimeUnit::Ns,
+};
+
+// Hundreds of thousands of changes, whose lines are some megabytes.
+const LONG: View = View {
+    horizon: 300_000,
+    ..SHORT
+};
+
+#[derive(Clone, Copy)]
+enum Engine {
+    Rounds,
+    Sweeps,
+    Plain,
+}
+
+// What a run by this engine answers.
+fn dumps<W: Write>(
+    alloc: Global,
+    engine: Engine,
+    source: &Source,
+    view: &View,
+    out: &mut W,
+) -> Result<(), SimFault> {
+    match engine {
+        Engine::Rounds => simulate(alloc, source, view, out).map(|_report| ()),
+        Engine::Sweeps => sweep(alloc, source, view, out),
+        Engine::Plain => plain(alloc, source, view, out),
+    }
+}
+
+// How often the run writes to a writer that takes all, never nothing.
+fn calls_of(rt: &impl Abort, alloc: Global, engine: Engine, dump: &[u8]) -> u32 {
+    let mut out = Stumbling::new(alloc, u32::MAX, Slip::TakesNothing);
+    assert!(rt; dumps(alloc, engine, &INVERTER, &SHORT, &mut out) == Ok(()));
+    assert!(rt; out.taken.as_slice() == dump);
+    assert!(rt; out.empty == 0);
+    out.calls
+}
+
+// Each engine, and how often it writes to a writer that takes all: the declarations and the last time are a
+// call each, and so is what is known after each of two rounds, in one sweep, or by the plain engine.
+static ENGINES: [(Engine, u32); 3] = [(Engine::Rounds, 4), (Engine::Sweeps, 3), (Engine::Plain, 3)];
+
+#[test]
+fn pieces_of_a_dump(rt: HostRuntime) {
+    for (engine, calls) in &ENGINES {
+        assert!(rt; calls_of(&rt, rt.alloc(), *engine, INVERTER_DUMP) == *calls);
+    }
+}
+
+// A writer that takes so many bytes in all, and so many a call, is called so often and takes this of the
+// dump; where there is no room it fails, or takes nothing.
+fn takes(
+    rt: &impl Abort,
+    alloc: Global,
+    engine: Engine,
+    out: &mut Narrow,
+    answer: Result<(), SimFault>,
+    took: usize,
+) {
+    assert!(rt; dumps(alloc, engine, &INVERTER, &SHORT, out) == answer);
+    assert!(rt; out.taken.len() == took);
+    assert!(rt; INVERTER_DUMP.starts_with(out.taken.as_slice()));
+}
+
+#[test]
+fn writers_with_little_room(rt: HostRuntime) {
+    for (engine, _) in &ENGINES {
+        let mut out = Narrow::new(rt.alloc(), 1000, 1);
+        takes(&rt, rt.alloc(), *engine, &mut out, Ok(()), 190);
+        assert!(rt; out.calls == 190);
+        for (fails, fault) in [(true, DumpFault::Write), (false, DumpFault::WroteNothing)] {
+            let mut out = Narrow::new(rt.alloc(), 40, 40);
+            out.fails = fails;
+            takes(
+                &rt,
+                rt.alloc(),
+                *engine,
+                &mut out,
+                Err(SimFault::Dump(fault)),
+                40,
+            );
+        }
+    }
+}
+
+fn fault_of(slip: Slip) -> SimFault {
+    match slip {
+        Slip::Fails(_) => SimFault::Dump(DumpFault::Write),
+        Slip::TakesNothing => SimFault::Dump(DumpFault::WroteNothing),
+    }
+}
+
+// A writer that stumbles at the call of this number breaks the run off, and isn't called again.
+fn breaks_off(
+    rt: &impl Abort,
+    alloc: Global,
+    engine: Engine,
+    run: (&Source, &View, &[u8]),
+    call: u32,
+    slip: Slip,
+) {
+    let (source, view, dump) = run;
+    let mut out = Stumbling::new(alloc, call, slip);
+    let answer = dumps(alloc, engine, source, view, &mut out);
+    assert!(rt; answer == Err(fault_of(slip)));
+    assert!(rt; out.calls == call.saturating_add(1));
+    assert!(rt; dump.starts_with(out.taken.as_slice()));
+}
+
+#[test]
+fn writers_that_stumble_once(rt: HostRuntime) {
+    for (engine, calls) in &ENGINES {
+        for slip in &SLIPS {
+            for call in 0..*calls {
+                let run = (&INVERTER, &SHORT, INVERTER_DUMP);
+                breaks_off(&rt, rt.alloc(), *engine, run, call, *slip);
+            }
+        }
+    }
+}
+
+// A dump of some megabytes goes out in pieces, and the writer stumbles at each of them in turn.
+fn breaks_off_everywhere(rt: &impl Abort, alloc: Global, engine: Engine) {
+    let mut out = Stumbling::new(alloc, u32::MAX, Slip::TakesNothing);
+    assert!(rt; dumps(alloc, engine, &OSCILLATOR, &LONG, &mut out) == Ok(()));
+    assert!(rt; out.taken.len() > 2_000_000);
+    assert!(rt; 30 < out.calls && out.calls < 100);
+    for call in 0..out.calls {
+        let slip = match call % 3 {
+            0 => Slip::Fails(ErrorKind::Other),
+            1 => Slip::Fails(ErrorKind::Interrupted),
+            _ => Slip::TakesNothing,
+        };
+        let run = (&OSCILLATOR, &LONG, out.taken.as_slice());
+        breaks_off(rt, alloc, engine, run, call, slip);
+    }
+}
+
+#[test]
+fn long_dumps_in_sweeps(rt: HostRuntime) {
+    breaks_off_everywhere(&rt, rt.alloc(), Engine::Sweeps);
+}
+
+#[test]
+fn long_dumps_by_the_plain_engine(rt: HostRuntime) {
+    breaks_off_everywhere(&rt, rt.alloc(), Engine::Plain);
+}
