@@ -168,11 +168,6 @@ fn schedules(rt: HostRuntime) -> Result<(), Fail> {
     Ok(())
 }
 
-// So many events that name a pin that isn't there.
-fn missing_pins(alloc: Global, count: usize) -> Result<Vec<Event>, AllocError> {
-    vec![in alloc; Deliver(1); count]
-}
-
 // Applies an event that is useful, or one that is not.
 fn applies<F: Fabric>(
     rt: &impl Abort,
@@ -197,16 +192,23 @@ fn refuses<F: Fabric>(rt: &impl Abort, kernel: &mut Kernel<F>, events: &[Event],
     assert!(rt; answer == fault);
 }
 
-// Ten million events are looked at one after the other; a list of one more is refused as it is.
+// Ten million events are looked at to the last one, which names a net that isn't there; a list of one more
+// is refused as it is.
 fn limit_of_events<F: Fabric>(
     rt: &impl Abort,
     alloc: Global,
     kernel: &mut Kernel<F>,
 ) -> Result<(), AllocError> {
-    let mut events = missing_pins(alloc, 10_000_001)?;
+    let mut events = vec![in alloc; Advance(0); 9_999_999]?;
+    events.push(Advance(2))?;
+    refuses(
+        rt,
+        kernel,
+        &events,
+        KernelFault::NoSuchNet { at: 9_999_999 },
+    );
+    events.push(Advance(0))?;
     refuses(rt, kernel, &events, KernelFault::TooManyEvents);
-    events.pop();
-    refuses(rt, kernel, &events, KernelFault::NoSuchPin { at: 0 });
     Ok(())
 }
 
