@@ -1,18 +1,25 @@
 #!/usr/bin/env python3
-"""Faults around the built programs: refused memory, and streams and files that fail.
+"""Faults around the built programs: refused memory, streams and files that fail, and hostile texts.
 
 The probes of memory (crates/memory_probes) and each command of nullsim are run once for each request for
-memory that they make, without it; then nullsim is run over faulty streams and files. The last line is
-'N passed, M failed', over programs, commands and faulty streams.
+memory that they make, without it; then nullsim is run over faulty streams and files, over texts that are
+cut off or changed at random, and over texts and circuits as large as they may be. The last line is
+'N passed, M failed', over programs, commands, streams and texts.
+
+    check.py [--random COUNT] [--seed FIRST]    how many circuits are changed at random, and by which seeds
 """
+import argparse
+import subprocess
 import sys
 import tempfile
 import time
-from pathlib import Path
+from typing import Callable
 
 import refused
+import sizes
 import streams
-from programs import CRATES, built, copy_for_all
+import texts
+from programs import CRATES, SECONDS, built, copy_for_all
 
 
 def deck() -> bytes:
@@ -38,7 +45,7 @@ def line_of(words: list) -> str:
     return " ".join(["nullsim", *words]) if words else "nullsim with a deck"
 
 
-def checks(refuser: refused.Refuser, folder: str) -> list:
+def checks(refuser: refused.Refuser, folder: str, seeds: range) -> list:
     """Each check with its name: what it answers is what is wrong, if something is."""
     probes, program = built("memory_probes"), built("nullsim_cli")
     wanted = (CRATES / "memory_probes" / "stdout").read_bytes()
@@ -46,16 +53,28 @@ def checks(refuser: refused.Refuser, folder: str) -> list:
     for words, given, status in commands():
         check = lambda it=([program, *words], given, status): refused.command(refuser, *it)
         found.append((f"{line_of(words)}, without memory", check))
-    return found + streams.cases(copy_for_all(program, folder), folder, deck())
+    found += streams.cases(copy_for_all(program, folder), folder, deck())
+    return [*found, *texts.cases(program, folder, seeds), *sizes.cases(program, folder)]
+
+
+def fault_of(check: Callable[[], str | None]) -> str | None:
+    try:
+        return check()
+    except subprocess.TimeoutExpired as still:
+        return f"it hadn't ended after {SECONDS} seconds: {still.cmd}"
 
 
 def main() -> int:
+    words = argparse.ArgumentParser(description="Faults around the built programs.")
+    words.add_argument("--random", type=int, default=3000, metavar="COUNT")
+    words.add_argument("--seed", type=int, default=0, metavar="FIRST")
+    asked = words.parse_args()
     begun = time.monotonic()
     passed = failed = 0
     with tempfile.TemporaryDirectory(prefix="faults-") as folder:
         refuser = refused.Refuser(folder)
-        for name, check in checks(refuser, folder):
-            fault = check()
+        for name, check in checks(refuser, folder, range(asked.seed, asked.seed + asked.random)):
+            fault = fault_of(check)
             passed, failed = passed + (fault is None), failed + (fault is not None)
             print(f"faults: {name}: {fault or 'fine'}", flush=True)
     seconds = time.monotonic() - begun
