@@ -1,0 +1,207 @@
+//! Processes: one that is refused memory for what it hears or hands out is as it was, and one that is
+//! refused it for what it reckons has failed.
+ghost use Rattle.std.specs.Prelude.{◌≡◌, ◌<◌, false, length};
+
+use crate::telling::Teller;
+use crate::texts::inverter;
+use Value::{One, Zero};
+use cmb_channels::Message;
+use design::Design;
+use gate_process::{Process, Processes};
+use logic3::{Change, Value};
+use std::alloc::{AllocError, Global};
+use std::io::Write;
+use timing_text::Horizon;
+
+/// A process of a net with so many pins, up to this tick.
+#[derive(Drop)]
+struct Listener<'d> {
+    process: Process<'d>,
+    pins: usize,
+    end: u64,
+    ghost has_pins: { process.failed ≡ false → length process.state.received ≡ pins },
+    ghost ends: { process.failed ≡ false → process.state.end ≡ end },
+}
+
+impl<'d> Listener<'d> {
+    /// What the process answers that hears of a change at its first pin; None where it can't hear of it.
+    fn hear(&mut self, change: Change) -> Option<Result<(), AllocError>> {
+        if self.process.is_failed() || self.pins == 0 {
+            return None;
+        }
+        let known = self.process.received(0);
+        let last = self.process.last(0);
+        let tick = u64::from(change.tick);
+        if tick < known || self.end <= tick || change.value == last {
+            return None;
+        }
+        Some(self.process.receive(0, Message::Change(change)))
+    }
+
+    /// How much it knows of its first pin, and the last value there.
+    fn heard(&self) -> Option<(u64, Value)> {
+        if self.process.is_failed() || self.pins == 0 {
+            return None;
+        }
+        Some((self.process.received(0), self.process.last(0)))
+    }
+
+    /// What the process answers that advances; None where it has failed.
+    fn advance(&mut self, news: &mut Vec<Message>) -> Option<Result<(), AllocError>> {
+        if self.process.is_failed() {
+            return None;
+        }
+        Some(self.process.advance(news))
+    }
+
+    /// What the process answers that takes out its changes before a tick; None where it can't.
+    fn drain(&mut self, bound: u64, changes: &mut Vec<Change>) -> Option<Result<(), AllocError>> {
+        if self.process.is_failed() || self.process.frontier() < bound {
+            return None;
+        }
+        Some(self.process.drain_below(bound, changes))
+    }
+
+    /// The tick before which its changes were taken out.
+    fn floor(&self) -> Option<u64> {
+        if self.process.is_failed() {
+            return None;
+        }
+        Some(self.process.floor())
+    }
+}
+
+/// The ticks at which the pin changes, from 0 to 1 and back.
+const TICKS: [u32; 10] = [0, 3, 4, 7, 9, 12, 15, 20, 28, 36];
+
+/// Probes the process of an inverter, and the processes of a design.
+pub(crate) fn probe<W: Write>(alloc: Global, teller: &mut Teller<W>) -> Option<()> {
+    let design = inverter(alloc, teller)?;
+    let horizon = Horizon::new(40).ok()?;
+    one(alloc, teller, &design, horizon)?;
+    all(alloc, teller, &design, horizon)
+}
+
+fn one<W: Write>(
+    alloc: Global,
+    teller: &mut Teller<W>,
+    design: &Design,
+    horizon: Horizon,
+) -> Option<()> {
+    let net = design.find(b"y")?;
+    if net >= design.nets() {
+        return None;
+    }
+    let process = Process::new(alloc, design, net, horizon);
+    let mut listener = Listener {
+        process: teller.told("Process::new", process)?,
+        pins: design.pins_of(net).len(),
+        end: horizon.ticks() + 1,
+    };
+    hears(teller, &mut listener)?;
+    advances(alloc, teller, &mut listener)?;
+    drains(alloc, teller, &mut listener)
+}
+
+/// Hears of so many changes that what is known of the pin grows, and grows again.
+fn hears<W: Write>(teller: &mut Teller<W>, listener: &mut Listener<'_>) -> Option<()> {
+    let mut value = Zero;
+    for tick in TICKS {
+        let change = Change { tick, value };
+        let before = listener.heard()?;
+        if listener.hear(change)?.is_err() {
+            let same = listener.heard() == Some(before);
+            let again = matches!(listener.hear(change), Some(Ok(())));
+            teller.refused("Process::receive", same && again);
+            return None;
+        }
+        value = if value == Zero { One } else { Zero };
+    }
+    let (known, last) = listener.heard()?;
+    teller.fine("Process::receive", (known, last) == (37, One))
+}
+
+fn advances<W: Write>(
+    alloc: Global,
+    teller: &mut Teller<W>,
+    listener: &mut Listener<'_>,
+) -> Option<()> {
+    let mut news = Vec::new(alloc);
+    if listener.advance(&mut news)?.is_err() {
+        teller.refused("Process::advance", listener.process.is_failed());
+        return None;
+    }
+    teller.fine(
+        "Process::advance",
+        !listener.process.is_failed() && news.len() == 10,
+    )
+}
+
+/// Takes out some changes, and then the others, onto a list that must grow for each.
+fn drains<W: Write>(
+    alloc: Global,
+    teller: &mut Teller<W>,
+    listener: &mut Listener<'_>,
+) -> Option<()> {
+    let mut changes = Vec::new(alloc);
+    for (bound, taken) in [(6, 3), (38, 10)] {
+        let before = (changes.len(), listener.floor()?);
+        if listener.drain(bound, &mut changes)?.is_err() {
+            let same = (changes.len(), listener.floor()?) == before;
+            let again = matches!(listener.drain(bound, &mut changes), Some(Ok(())));
+            teller.refused(
+                "Process::drain_below",
+                same && again && changes.len() == taken,
+            );
+            return None;
+        }
+        teller.fine("Process::drain_below", changes.len() == taken)?;
+    }
+    Some(())
+}
+
+/// The processes of all nets, of which the first is that of an input.
+fn all<W: Write>(
+    alloc: Global,
+    teller: &mut Teller<W>,
+    design: &Design,
+    horizon: Horizon,
+) -> Option<()> {
+    if design.nets() == 0 {
+        return None;
+    }
+    let processes = Processes::new(alloc, design, horizon);
+    let mut processes = teller.told("Processes::new", processes)?;
+    hand_out(alloc, teller, &mut processes)
+}
+
+/// What the first process tells, and then hands out.
+fn hand_out<W: Write>(
+    alloc: Global,
+    teller: &mut Teller<W>,
+    processes: &mut Processes<'_>,
+) -> Option<()>
+    requires { 0 < length processes.old }
+{
+    if processes.of_net(0).is_failed() {
+        return None;
+    }
+    let mut news = Vec::new(alloc);
+    if processes.advance(0, &mut news).is_err() {
+        teller.refused("Processes::advance", processes.of_net(0).is_failed());
+        return None;
+    }
+    teller.fine("Processes::advance", news.len() == 3)?;
+    let mut changes = Vec::new(alloc);
+    let bound = processes.of_net(0).frontier();
+    if processes.drain_below(0, bound, &mut changes).is_err() {
+        let same = changes.is_empty() && processes.of_net(0).floor() == 0;
+        let again = processes.drain_below(0, bound, &mut changes).is_ok();
+        teller.refused(
+            "Processes::drain_below",
+            same && again && changes.len() == 2,
+        );
+        return None;
+    }
+    teller.fine("Processes::drain_below", changes.len() == 2)
+}

@@ -1,0 +1,183 @@
+//! Whole runs: a first part of the text is out.
+use crate::following::Follower;
+use crate::telling::{Fault, Teller};
+use decks::{answer_deck, deck, tell};
+use program_io::{read_text, write_check, write_cone, write_plain, write_run, write_twin};
+use runs::{Picks, Show, Source, View, check, cone_text, plain, simulate, sweep, twin};
+use std::alloc::Global;
+use std::io::Write;
+use vcd_dump::TimeUnit;
+use worked_examples::dumps::{OSCILLATOR_DUMP, PRESET_RING_DUMP};
+
+/// An input and a gate that oscillates where the input is 1, and some events to begin with.
+const OSCILLATOR: Source<'static> = Source {
+    bench: b"INPUT(e)\ny = NAND(e, y)\n",
+    delays: b"y 2",
+    stimuli: b"0 e 0\n5 e 1\n",
+    default_delay: 1,
+    period: 10,
+    picks: Picks::Text(b"advance e\nadvance y\ndeliver y 0\ndeliver y 1\nadvance y\n"),
+};
+
+/// A flip-flop that samples its own opposite, and events that a seed picks to begin with.
+const RING: Source<'static> = Source {
+    bench: b"q = DFF(n)\nn = NOT(q)\n",
+    delays: b"timing version 2\ninit q 0\n",
+    stimuli: b"",
+    default_delay: 1,
+    period: 3,
+    picks: Picks::Seeded { seed: 7, picks: 9 },
+};
+
+/// All nets of the oscillator, in nanoseconds.
+const ALL: View = View {
+    horizon: 12,
+    show: Show::All,
+    unit: TimeUnit::Ns,
+};
+
+/// A run and what goes out of it.
+type Run = (Source<'static>, View, &'static [u8]);
+
+static RUNS: [Run; 2] = [
+    (OSCILLATOR, ALL, OSCILLATOR_DUMP),
+    (RING, View { horizon: 10, ..ALL }, PRESET_RING_DUMP),
+];
+
+/// The oscillator as a deck.
+const DECK: &[u8] =
+    b"%nullsim 12\n%bench\nINPUT(e)\ny = NAND(e, y)\n%delays\ny 2\n%stimuli\n0 e 0\n5 e 1\n%schedule\nadvance e\n";
+
+/// What the program tells of want of memory.
+const TOLD: &[u8] = b"memory:0: Memory\n";
+
+/// What goes out of the nets that the gate of the oscillator hangs on.
+const CONE: &[u8] = b"INPUT(e)\ny = NAND(e, y)\nOUTPUT(y)\n";
+
+/// What goes out of the oscillator beside itself.
+const TWINS: &[u8] =
+    b"agree yes\nfirst 2 1\nfirst 7 0\nfirst 9 1\nfirst 11 0\nsecond 2 1\nsecond 7 0\nsecond 9 1\nsecond 11 0\n";
+
+/// What goes out of a comparison of both engines on the oscillator.
+const SAME: &[u8] = b"nets 2\npins 2\nsame 2\n";
+
+/// Probes the calls for runs, then those for decks.
+pub(crate) fn probe<W: Write>(alloc: Global, teller: &mut Teller<W>) -> Option<()> {
+    for (source, view, dump) in &RUNS {
+        dumps(alloc, teller, source, view, dump)?;
+        written_dumps(alloc, teller, source, view, dump)?;
+    }
+    comparisons(alloc, teller)?;
+    written_comparisons(alloc, teller)?;
+    decks(alloc, teller)?;
+    readings(alloc, teller)
+}
+
+/// Tells of a call that writes a text. It is out where the call was carried out, and else a first part.
+fn ended<T: Drop, E: Fault + Drop, W: Write>(
+    teller: &mut Teller<W>,
+    call: &str,
+    answer: Result<T, E>,
+    out: &Follower,
+) -> Option<()> {
+    match answer {
+        Ok(_) => teller.fine(call, out.is_whole()),
+        Err(fault) => {
+            teller.refused(call, fault.is_memory() && out.follows());
+            None
+        }
+    }
+}
+
+fn dumps<W: Write>(
+    alloc: Global,
+    teller: &mut Teller<W>,
+    source: &Source<'_>,
+    view: &View,
+    dump: &'static [u8],
+) -> Option<()> {
+    let mut out = Follower::of(dump);
+    let answer = simulate(alloc, source, view, &mut out);
+    ended(teller, "runs::simulate", answer, &out)?;
+    let mut out = Follower::of(dump);
+    let answer = sweep(alloc, source, view, &mut out);
+    ended(teller, "runs::sweep", answer, &out)?;
+    let mut out = Follower::of(dump);
+    let answer = plain(alloc, source, view, &mut out);
+    ended(teller, "runs::plain", answer, &out)
+}
+
+fn written_dumps<W: Write>(
+    alloc: Global,
+    teller: &mut Teller<W>,
+    source: &Source<'_>,
+    view: &View,
+    dump: &'static [u8],
+) -> Option<()> {
+    for counts in [false, true] {
+        let mut out = Follower::of(dump);
+        let answer = write_run(alloc, source, view, counts, &mut out);
+        ended(teller, "write_run", answer, &out)?;
+    }
+    let mut out = Follower::of(dump);
+    let answer = write_plain(alloc, source, view, &mut out);
+    ended(teller, "write_plain", answer, &out)
+}
+
+fn comparisons<W: Write>(alloc: Global, teller: &mut Teller<W>) -> Option<()> {
+    let answer = twin(alloc, &OSCILLATOR, &OSCILLATOR, b"y", 12);
+    teller.told("runs::twin", answer)?;
+    teller.told("runs::check", check(alloc, &OSCILLATOR, 12))?;
+    let text = cone_text(alloc, OSCILLATOR.bench, &[b"y".as_slice()]);
+    teller.told("runs::cone_text", text)?;
+    Some(())
+}
+
+fn written_comparisons<W: Write>(alloc: Global, teller: &mut Teller<W>) -> Option<()> {
+    let mut out = Follower::of(CONE);
+    let answer = write_cone(alloc, OSCILLATOR.bench, &[b"y".as_slice()], &mut out);
+    ended(teller, "write_cone", answer, &out)?;
+    let mut out = Follower::of(TWINS);
+    let answer = write_twin(alloc, &OSCILLATOR, &OSCILLATOR, b"y", 12, &mut out);
+    ended(teller, "write_twin", answer, &out)?;
+    let mut out = Follower::of(SAME);
+    let answer = write_check(alloc, &OSCILLATOR, 12, &mut out);
+    ended(teller, "write_check", answer, &out)
+}
+
+fn decks<W: Write>(alloc: Global, teller: &mut Teller<W>) -> Option<()> {
+    let mut out = Follower::of(OSCILLATOR_DUMP);
+    let answer = deck(alloc, DECK, &mut out);
+    ended(teller, "decks::deck", answer, &out)?;
+    let (mut out, mut err) = (Follower::of(OSCILLATOR_DUMP), Follower::of(TOLD));
+    let status = answer_deck(alloc, DECK, &mut out, &mut err);
+    answered(teller, "decks::answer_deck", status, &out, &err)?;
+    let (mut out, mut err) = (Follower::of(OSCILLATOR_DUMP), Follower::of(TOLD));
+    let mut input = DECK;
+    let status = tell(alloc, &mut input, &mut out, &mut err);
+    answered(teller, "decks::tell", status, &out, &err)
+}
+
+/// Tells of a call that answers by a status: 0 where its text is out and nothing was told, and 4 where
+/// a first part is out, and want of memory was told.
+fn answered<W: Write>(
+    teller: &mut Teller<W>,
+    call: &str,
+    status: u8,
+    out: &Follower,
+    err: &Follower,
+) -> Option<()> {
+    if status == 0 {
+        return teller.fine(call, out.is_whole() && err.left() == TOLD.len());
+    }
+    teller.refused(call, status == 4 && out.follows() && err.is_whole());
+    None
+}
+
+/// A text that comes in several pieces.
+fn readings<W: Write>(alloc: Global, teller: &mut Teller<W>) -> Option<()> {
+    let bytes = [b'z'; 20_000];
+    let mut input = bytes.as_slice();
+    let text = teller.told("read_text", read_text(alloc, &mut input))?;
+    teller.fine("read_text", text.as_slice() == bytes.as_slice())
+}
