@@ -56,7 +56,10 @@ fn ended<F: Fabric, W: Write>(
             teller.refused(call, has_failed(alloc, kernel));
             None
         }
-        Err(_) => teller.fine(call, false),
+        Err(_) => {
+            let _ = teller.fine(call, false);
+            None
+        }
     }
 }
 

@@ -46,6 +46,14 @@ impl<'d> Listener<'d> {
         Some((self.process.received(0), self.process.last(0)))
     }
 
+    /// What the process answers that advances; None where it has failed.
+    fn advance(&mut self, news: &mut Vec<Message>) -> Option<Result<(), AllocError>> {
+        if self.process.is_failed() {
+            return None;
+        }
+        Some(self.process.advance(news))
+    }
+
     /// What the process answers that takes out its changes before a tick; None where it can't.
     fn drain(&mut self, bound: u64, changes: &mut Vec<Change>) -> Option<Result<(), AllocError>> {
         if self.process.is_failed() || self.process.frontier() < bound {
@@ -119,10 +127,7 @@ fn advances<W: Write>(
     listener: &mut Listener<'_>,
 ) -> Option<()> {
     let mut news = Vec::new(alloc);
-    if listener.process.is_failed() {
-        return None;
-    }
-    if listener.process.advance(&mut news).is_err() {
+    if listener.advance(&mut news)?.is_err() {
         teller.refused("Process::advance", listener.process.is_failed());
         return None;
     }
@@ -155,30 +160,18 @@ fn drains<W: Write>(
     Some(())
 }
 
-/// The processes of all nets: what the input tells and hands out, and what the inverter hears.
+/// The processes of all nets, of which the first is that of an input.
 fn all<W: Write>(
     alloc: Global,
     teller: &mut Teller<W>,
     design: &Design,
     horizon: Horizon,
 ) -> Option<()> {
-    let nets = design.nets();
-    if nets < 2 || design.pins_of(1).is_empty() {
+    if design.nets() == 0 {
         return None;
     }
     let processes = Processes::new(alloc, design, horizon);
     let mut processes = teller.told("Processes::new", processes)?;
-    let change = Change {
-        tick: 0,
-        value: Zero,
-    };
-    if processes.receive(1, 0, Message::Change(change)).is_err() {
-        let same = processes.of_net(1).received(0) == 0;
-        let again = processes.receive(1, 0, Message::Change(change)).is_ok();
-        teller.refused("Processes::receive", same && again);
-        return None;
-    }
-    teller.fine("Processes::receive", true)?;
     hand_out(alloc, teller, &mut processes)
 }
 

@@ -2,4 +2,4 @@ use Rattle.std.proofs.Common.{◌≡◌}
 use Rattle.memory_probes.proofs.kernels.by_sweeps.Given as goal
 
 abbrev pub invariant-loop-tick : goal.invariant-loop-tick
-invariant-loop-tick g l = l.kernel.circuit ≡ l.fn.design.now.circuit
+invariant-loop-tick g l = l.kernel.circuit ≡ l.fn.design.circuit

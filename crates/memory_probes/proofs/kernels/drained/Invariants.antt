@@ -2,4 +2,4 @@ use Rattle.std.proofs.Common.{◌≡◌}
 use Rattle.memory_probes.proofs.kernels.drained.Given as goal
 
 abbrev pub invariant-loop-net : goal.invariant-loop-net
-invariant-loop-net g l = l.kernel.circuit ≡ l.fn.design.now.circuit
+invariant-loop-net g l = l.kernel.circuit ≡ l.fn.design.circuit
