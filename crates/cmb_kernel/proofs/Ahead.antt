@@ -1,23 +1,24 @@
--- The frontiers after a round depend on the frontiers before it alone, and rise with them.
-use Rattle.std.proofs.Common.{◌≡◌, ℕ, zero, suc, ◌+◌, ◌<◌, ◌≤◌, min, List, [], ◌∷◌, map, length, replicate, Some, slice_get, slice_index_or, get_or, refl, ap, subst, ◌∙◌, arith, ◌⊎◌, inl, inr, zero-add}
+-- The frontiers after a round rise with those before it.
+use Rattle.std.proofs.Common.{◌≡◌, ℕ, zero, suc, ◌+◌, ◌<◌, ◌≤◌, min, List, [], ◌∷◌, map, length, replicate, Some, slice_get, slice_index_or, get_or, refl, ap, sym, subst, ◌∙◌, arith, ◌⊎◌, inl, inr, zero-add}
 use Rattle.std.specs.List.{range_with_len}
 use Rattle.std.proofs.lemmas.Bool.{cases_lt}
 use Rattle.std.proofs.lemmas.List.{length-map, get_or_past}
-use Rattle.std.proofs.lemmas.Option.{slice_get_within, slice_get-get_or, get_or_from_slice_get}
+use Rattle.std.proofs.lemmas.Option.{same_Some, slice_get-get_or, get_or_from_slice_get}
 use Rattle.design.proofs.CallerLemmas.{timed_at}
 use Rattle.design.specs.Circuit.{Net, Circuit, IsCircuit}
 use Rattle.design.specs.Equations.{value_of}
 use Rattle.cmb_channels.specs.declared.message.Message.{Message}
 use Rattle.design.specs.Pins.{first_pin, net_of_pin, place_of_pin}
 use Rattle.cmb_channels.proofs.CallerLemmas.{map-update, view_at, get_update_same, get_update_other}
-use Rattle.gate_process.specs.Knowledge.{Knowledge, seen_pins, Tells}
-use Rattle.gate_process.specs.Step.{ProcessState, least, least_or, seen_by, frontier_of, advanced, heard}
-use Rattle.gate_process.proofs.CallerLemmas.{frontier-mono, get_below}
+use Rattle.gate_process.specs.Knowledge.{Knowledge, Tells}
+use Rattle.gate_process.specs.Step.{ProcessState, next_frontier, advanced, heard}
+use Rattle.gate_process.specs.Truth.{KnowsTruth}
+use Rattle.gate_process.proofs.CallerLemmas.{get_below, next-mono}
 use Rattle.cmb_events.specs.declared.event.Event.TheVariants.{Deliver, Advance}
 use Rattle.cmb_kernel.specs.State.{State, started, nets_of, frontier_at, IsComplete}
 use Rattle.cmb_kernel.specs.Step.{step, steps, after_deliver, deliveries_from, round_of, rounds}
 use Rattle.cmb_kernel.specs.Sound.{IsSound}
-use Rattle.cmb_kernel.proofs.Soundness.{net_at, started_frontier, started_sound, steps_sound}
+use Rattle.cmb_kernel.proofs.Soundness.{net_at, meets_at, started_frontier, started_sound, steps_sound}
 use Rattle.cmb_kernel.proofs.LeastFrontier.{at_pin, steps-append, net_count, all_emptied, deliveries_exist, round_sound}
 use Rattle.cmb_kernel.proofs.Completion.{frontier_within, rounds_sound}
 
@@ -74,40 +75,40 @@ advanced_once state from (suc count) number process e a b =
         ∙ ap (λ n. slice_get (step state (Advance n)).processes number) is
         ∙ get_update_same advanced number state.processes process e
 
--- the frontiers of sources as they are seen, each later by a wire
-abbrev seen_sources : (ℕ → ℕ) → List ℕ → List ℕ → List ℕ
-seen_sources frontier (wire ∷ wires) (pin ∷ pins) = (frontier pin + wire) ∷ seen_sources frontier wires pins
-seen_sources frontier _ _ = []
+-- the process of a net once all that waits is delivered: what its pins received has the frontiers that their sources had, and a round
+-- brings the net as far as it leads
+record IsDelivered (circuit : Circuit) (last : ℕ) (state : State) (number : ℕ) (process : ProcessState) : Type 0 where
+  net : slice_get circuit number ≡ Some process.net
+  end : process.end ≡ last
+  knows : KnowsTruth (value_of circuit) number process
+  frontier : process.known.frontier ≡ frontier_at state number
+  heard : (place source : ℕ) (known : Knowledge) → slice_get process.net.pins place ≡ Some source → slice_get process.received place ≡ Some known →
+      known.frontier ≡ frontier_at state source
+  moves : frontier_at (round_of state) number ≡ next_frontier process
 
-same_frontiers : (wires : List ℕ) (received : List Knowledge) (pins : List ℕ) (frontier : ℕ → ℕ) → length received ≡ length pins →
-    ((place source : ℕ) (known : Knowledge) → slice_get pins place ≡ Some source → slice_get received place ≡ Some known →
-    known.frontier ≡ frontier source) →
-    map (λ (known : Knowledge). known.frontier) (seen_pins wires received) ≡ seen_sources frontier wires pins
-same_frontiers [] received pins frontier e h = refl
-same_frontiers (wire ∷ wires) [] [] frontier e h = refl
-same_frontiers (wire ∷ wires) [] (pin ∷ pins) frontier e h = absurd (omega arith)
-same_frontiers (wire ∷ wires) (known ∷ received) [] frontier e h = absurd (omega arith)
-same_frontiers (wire ∷ wires) (known ∷ received) (pin ∷ pins) frontier e h =
-    let first = h 0 pin known refl refl in
-    let rest = same_frontiers wires received pins frontier (omega arith) (λ place source k a b. h (suc place) source k a b) in
-    λ i. (first i + wire) ∷ rest i
-
--- after a round a net's frontier follows from the frontiers that its sources had before
-pub round_frontier : (circuit : Circuit) → IsCircuit circuit → (last : ℕ) (state : State) → IsSound circuit last state →
-    (number : ℕ) (net : Net) → slice_get circuit number ≡ Some net →
-    frontier_at (round_of state) number ≡ frontier_of net last (least_or last (seen_sources (frontier_at state) net.wires net.pins))
-round_frontier circuit ok last state sound number net at =
-    ap (λ s. frontier_at s number) (steps-append state (deliveries_from 0 state.lists) (map Advance (range_with_len 0 (length state.processes))))
-    ∙ view_at (λ (p : ProcessState). p.known.frontier)
-    (steps delivered (map Advance (range_with_len 0 (length state.processes)))).processes number (advanced process.0)
-    (advanced_once delivered 0 (length state.processes) number process.0 process.1 (omega arith) (omega (arith, within)))
-    ∙ ap (λ ns. frontier_of (process.0).net (process.0).end (least_or (process.0).end ns)) heard_all
-    ∙ ap (λ n. frontier_of (process.0).net n (least_or n (seen_sources (frontier_at state) (process.0).net.wires (process.0).net.pins))) end
-    ∙ ap (λ (n : Net). frontier_of n last (least_or last (seen_sources (frontier_at state) n.wires n.pins))) is
+delivered_process : (circuit : Circuit) → IsCircuit circuit → (last : ℕ) (state : State) → IsSound circuit last state → (number : ℕ) →
+    number < length circuit → (process : ProcessState) × IsDelivered circuit last state number process
+delivered_process circuit ok last state sound number below = (
+  process.0,
+  record {
+    net = net_at circuit ok last (steps state (deliveries_from 0 state.lists)) delivered_sound number process.0 process.1;
+    end = delivered_sound.ends number process.0 process.1;
+    knows = delivered_sound.processes number process.0 process.1;
+    frontier = sym (view_at (λ (p : ProcessState). p.known.frontier) (steps state (deliveries_from 0 state.lists)).processes number process.0 process.1)
+        ∙ deliveries_frontier state 0 state.lists number;
+    heard = λ place source known a b.
+        let tells : known.frontier ≡ frontier_at (steps state (deliveries_from 0 state.lists)) source =
+        subst (λ ms. Tells (value_of circuit source) known.frontier (frontier_at (steps state (deliveries_from 0 state.lists)) source) ms)
+        (empty (first_pin circuit number + place)) (delivered_sound.waiting number place source process.0 known process.1 a b) in
+        tells ∙ deliveries_frontier state 0 state.lists source;
+    moves = ap (λ s. frontier_at s number) (steps-append state (deliveries_from 0 state.lists) (map Advance (range_with_len 0 (length state.processes))))
+        ∙ view_at (λ (p : ProcessState). p.known.frontier)
+        (steps (steps state (deliveries_from 0 state.lists)) (map Advance (range_with_len 0 (length state.processes)))).processes number (advanced process.0)
+        (advanced_once (steps state (deliveries_from 0 state.lists)) 0 (length state.processes) number process.0 process.1 (omega arith)
+        (omega (arith, below, net_count circuit last state sound)));
+  },
+)
   where
-    delivered : State
-    delivered = steps state (deliveries_from 0 state.lists)
-
     delivered_sound : IsSound circuit last (steps state (deliveries_from 0 state.lists))
     delivered_sound = steps_sound circuit ok last state (deliveries_from 0 state.lists) sound
         (deliveries_exist circuit 0 state.lists (let l = sound.lists in omega arith))
@@ -116,43 +117,9 @@ round_frontier circuit ok last state sound number net at =
     empty = all_emptied state 0 state.lists (zero-add (length state.lists)) (λ place. ap (λ n. at_pin state n) (zero-add place))
         (λ other h. absurd (omega arith))
 
-    within : number < length state.processes
-    within = let n = net_count circuit last state sound in let w = slice_get_within circuit number net at in omega arith
-
     process : (p : ProcessState) × (slice_get (steps state (deliveries_from 0 state.lists)).processes number ≡ Some p)
     process = get_below (steps state (deliveries_from 0 state.lists)).processes number
-        (let n = net_count circuit last (steps state (deliveries_from 0 state.lists)) delivered_sound in
-        let w = slice_get_within circuit number net at in omega arith)
-
-    is : (process.0).net ≡ net
-    is = let a = net_at circuit ok last (steps state (deliveries_from 0 state.lists)) delivered_sound number process.0 process.1 in cc
-
-    end : (process.0).end ≡ last
-    end = delivered_sound.ends number process.0 process.1
-
-    heard_all : map (λ (known : Knowledge). known.frontier) (seen_by process.0)
-        ≡ seen_sources (frontier_at state) (process.0).net.wires (process.0).net.pins
-    heard_all = same_frontiers (process.0).net.wires (process.0).received (process.0).net.pins (frontier_at state)
-        (delivered_sound.processes number process.0 process.1).pins
-        (λ place source known a b.
-        let tells : known.frontier ≡ frontier_at (steps state (deliveries_from 0 state.lists)) source =
-        subst (λ ms. Tells (value_of circuit source) known.frontier (frontier_at (steps state (deliveries_from 0 state.lists)) source) ms)
-        (empty (first_pin circuit number + place)) (delivered_sound.waiting number place source process.0 known process.1 a b) in
-        tells ∙ deliveries_frontier state 0 state.lists source)
-
-least_seen-mono : (low high : ℕ) (wires pins : List ℕ) (f g : ℕ → ℕ) → low ≤ high → ((pin : ℕ) → f pin ≤ g pin) →
-    least low (seen_sources f wires pins) ≤ least high (seen_sources g wires pins)
-least_seen-mono low high [] pins f g h each = h
-least_seen-mono low high (wire ∷ wires) [] f g h each = h
-least_seen-mono low high (wire ∷ wires) (pin ∷ pins) f g h each =
-    let here = each pin in least_seen-mono (min low (f pin + wire)) (min high (g pin + wire)) wires pins f g (omega arith) each
-
-safe-mono : (none : ℕ) (wires pins : List ℕ) (f g : ℕ → ℕ) → ((pin : ℕ) → f pin ≤ g pin) →
-    least_or none (seen_sources f wires pins) ≤ least_or none (seen_sources g wires pins)
-safe-mono none [] pins f g each = omega arith
-safe-mono none (wire ∷ wires) [] f g each = omega arith
-safe-mono none (wire ∷ wires) (pin ∷ pins) f g each =
-    let here = each pin in least_seen-mono (f pin + wire) (g pin + wire) wires pins f g (omega arith) each
+        (let n = net_count circuit last (steps state (deliveries_from 0 state.lists)) delivered_sound in omega (arith, n, below))
 
 -- a state that is ahead of another stays ahead by a round
 pub round_ahead : (circuit : Circuit) → IsCircuit circuit → (last : ℕ) (old new : State) → IsSound circuit last old → IsSound circuit last new →
@@ -162,14 +129,18 @@ round_ahead circuit ok last old new sound_old sound_new ahead number = go (cases
   where
     go : (number < length circuit) ⊎ (length circuit ≤ number) → frontier_at (round_of old) number ≤ frontier_at (round_of new) number
     go (inl there) =
-        let net = get_below circuit number there in
-        let a = round_frontier circuit ok last old sound_old number net.0 net.1 in
-        let b = round_frontier circuit ok last new sound_new number net.0 net.1 in
-        let more = frontier-mono net.0 last (least_or last (seen_sources (frontier_at old) (net.0).wires (net.0).pins))
-        (least_or last (seen_sources (frontier_at new) (net.0).wires (net.0).pins))
-        (timed_at circuit ok number net.0 net.1).timing.clock
-        (safe-mono last (net.0).wires (net.0).pins (frontier_at old) (frontier_at new) ahead) in
-        omega arith
+        let one = delivered_process circuit ok last old sound_old number there in
+        let other = delivered_process circuit ok last new sound_new number there in
+        let more = next-mono (value_of circuit) number one.0 other.0 (meets_at circuit ok number (one.0).net (one.1).net) (one.1).knows
+        (meets_at circuit ok number (other.0).net (other.1).net) (other.1).knows
+        (same_Some (one.0).net (other.0).net (sym (one.1).net ∙ (other.1).net)) ((one.1).end ∙ sym (other.1).end)
+        (omega (arith, (one.1).frontier, (other.1).frontier, ahead number))
+        (λ place source first second pin a b.
+        let same = same_Some (one.0).net (other.0).net (sym (one.1).net ∙ (other.1).net) in
+        let low = (one.1).heard place source first (ap (λ (n : Net). slice_get n.pins place) same ∙ pin) a in
+        let high = (other.1).heard place source second pin b in
+        omega (arith, low, high, ahead source)) in
+        omega (arith, more, (one.1).moves, (other.1).moves)
     go (inr past) =
         let count = net_count circuit last (round_of old) (round_sound circuit ok last old sound_old) in
         let none : frontier_at (round_of old) number ≡ 0 =

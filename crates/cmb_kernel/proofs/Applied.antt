@@ -25,7 +25,7 @@ use Rattle.cmb_channels.proofs.CallerLemmas.{update-set, taken_at}
 use Rattle.gate_process.specs.Knowledge.{news_of, Tells}
 use Rattle.gate_process.specs.Step.{ProcessState, ProcessView, running, safe_of, next_frontier, reckoned, advanced, news, heard}
 use Rattle.gate_process.specs.Truth.{CanHear}
-use Rattle.gate_process.proofs.CallerLemmas.{frontier-end, news_true, no_news, Tells-le}
+use Rattle.gate_process.proofs.CallerLemmas.{next-end, news_true, no_news, Tells-le}
 use Rattle.cmb_kernel.specs.declared.counts.Counts.{Counts}
 use Rattle.cmb_events.specs.declared.event.Event.{Event}
 use Rattle.cmb_events.specs.declared.event.Event.TheVariants.{Deliver, Advance}
@@ -125,7 +125,7 @@ module _ {design : DesignView} {end : ℕ} {processes : List ProcessView} {sourc
       next_frontier process.state ≤ end
   next_within net process is =
       let at = (runs_at all net process is).at in
-      omega (arith, frontier-end process.state.net process.state.end (safe_of process.state), all.sound.ends net process.state at)
+      omega (arith, next-end process.state, all.sound.ends net process.state at)
 
   -- so channels carry what a net tells
   pub news_fit : (net : ℕ) (process : ProcessView) → slice_get processes net ≡ Some process →

@@ -6,7 +6,7 @@ use Rattle.std.proofs.lemmas.Option.{slice_get-get_or, get_or_from_slice_get}
 use Rattle.std.proofs.Math.Nat.{suc-mul}
 use Rattle.design.specs.Circuit.{Circuit, IsCircuit}
 use Rattle.gate_process.specs.Step.{ProcessState, next_frontier, safe_of}
-use Rattle.gate_process.proofs.CallerLemmas.{frontier-end, get_below, least-bound}
+use Rattle.gate_process.proofs.CallerLemmas.{next-end, get_below, least-bound}
 use Rattle.cmb_channels.proofs.CallerLemmas.{view_at}
 use Rattle.cmb_kernel.specs.State.{State, frontier_at, least_frontier, least_delay, IsComplete, is_complete}
 use Rattle.cmb_kernel.specs.Step.{round_of, rounds, completed_within}
@@ -43,7 +43,7 @@ pub frontier_within : (circuit : Circuit) (last number : ℕ) (state : State) (p
 frontier_within circuit last number state process sound e =
     let ahead = (sound.processes number process e).ahead in
     let end = sound.ends number process e in
-    let within : next_frontier process ≤ process.end = frontier-end process.net process.end (safe_of process) in
+    let within : next_frontier process ≤ process.end = next-end process in
     omega arith
 
 -- the frontier that none is below is the least one

@@ -14,7 +14,7 @@ use Rattle.design.specs.Pins.{first_pin, net_of_pin, place_of_pin}
 use Rattle.cmb_channels.proofs.CallerLemmas.{map-update, IsUpdated, get_of_update, view_of_update_same, view_of_update_other, view_at, length-taken, taken_at, taken_elsewhere}
 use Rattle.gate_process.specs.Knowledge.{Knowledge, Tells}
 use Rattle.gate_process.specs.Step.{ProcessState, own_delay, safe_of, next_frontier, extended, advanced, heard}
-use Rattle.gate_process.proofs.CallerLemmas.{frontier-farther, get_below, get_of_kept, least-bound, least-le, least_greatest, safe_greatest}
+use Rattle.gate_process.proofs.CallerLemmas.{next-farther, get_below, get_of_kept, least-bound, least-le, least_greatest, safe_greatest}
 use Rattle.cmb_events.specs.declared.event.Event.{Event}
 use Rattle.cmb_events.specs.declared.event.Event.TheVariants.{Deliver, Advance}
 use Rattle.cmb_kernel.specs.State.{State, nets_of, frontier_at, least_frontier, least_delay}
@@ -223,7 +223,7 @@ advances_farther circuit last low state net sound ok h know below =
     least-le last (map (λ (n : Net). own_delay n.part last n.timing.delay) circuit) net _
     (slice_get-map (λ (n : Net). own_delay n.part last n.timing.delay) circuit net ∙ ap (option_map (λ (n : Net). own_delay n.part last n.timing.delay)) at) in
     let farther : min (mover.0).end (low + least_delay last circuit) ≤ next_frontier mover.0 =
-    frontier-farther (mover.0).net (mover.0).end (safe_of mover.0) low (least_delay last circuit)
+    next-farther mover.0 low (least_delay last circuit)
     (timed_at circuit ok net (mover.0).net at).timing.clock safe
     (subst (λ n. least_delay last circuit ≤ own_delay (mover.0).net.part n (mover.0).net.timing.delay) (sym end) delay) in
     let new : frontier_at (step state (Advance net)) net ≡ next_frontier mover.0 =

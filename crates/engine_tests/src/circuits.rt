@@ -82,6 +82,13 @@ pub(crate) const CONTROLLED_AND: Circuit = Circuit {
     ..CROSSING
 };
 
+/// A gate at its own pin, which its input settles: the nets `a` and `y`.
+pub(crate) const EARLY_AND: Circuit = Circuit {
+    bench: b"INPUT(a)\ny = AND(a, y)",
+    stimuli: b"0 a 0",
+    ..INVERTER
+};
+
 /// A flip-flop whose pin changes at a tick at which it samples.
 pub(crate) const SAMPLER: Circuit = Circuit {
     bench: b"INPUT(d)\nq = DFF(d)",

@@ -2,8 +2,8 @@
 ghost use Rattle.std.specs.Prelude.{◌≡◌, OnOk};
 
 use crate::circuits::{
-    CLOCKED, Circuit, GATED_OSCILLATOR, INVERTER, LATE_PIN, PRESET_RING, RING_COUNTER, SAMPLER,
-    SELF_INVERTER, SLOW_INVERTER, WIRED_FLOP, WIRED_INVERTER, WIRED_XOR,
+    CLOCKED, Circuit, EARLY_AND, GATED_OSCILLATOR, INVERTER, LATE_PIN, PRESET_RING, RING_COUNTER,
+    SAMPLER, SELF_INVERTER, SLOW_INVERTER, WIRED_FLOP, WIRED_INVERTER, WIRED_XOR,
 };
 use Event::{Advance, Deliver};
 use cmb_channels::{Fabric, Logs, Queues};
@@ -121,7 +121,8 @@ fn by_rounds(rt: HostRuntime) -> Result<(), Fail> {
         (INVERTER, 5, counts(7, 4, 3, 2)),
         (INVERTER, 0, counts(2, 1, 1, 1)),
         (SELF_INVERTER, 3, counts(7, 0, 4, 4)),
-        (GATED_OSCILLATOR, 12, counts(24, 6, 5, 7)),
+        (GATED_OSCILLATOR, 12, counts(20, 6, 6, 5)),
+        (EARLY_AND, 5, counts(7, 2, 3, 2)),
         (SAMPLER, 9, counts(7, 4, 2, 2)),
         (RING_COUNTER, 10, counts(21, 0, 8, 7)),
         (CLOCKED, 9, counts(7, 5, 3, 2)),

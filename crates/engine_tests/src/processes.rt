@@ -306,6 +306,11 @@ const HIGH_5: Change = Change {
     value: One,
 };
 
+const UNKNOWN_5: Change = Change {
+    tick: 5,
+    value: Unknown,
+};
+
 const LOW_9: Change = Change {
     tick: 9,
     value: Zero,
@@ -351,9 +356,9 @@ const OF_AND: [Step; 14] = [
     Tells(&[Message::Change(LOW_1)]),
     Hears(1, &[Message::Change(HIGH_4)]),
     Knows(5, 2),
-    Tells(&[Null(6)]),
-    Hears(1, &[Null(7)]),
     Tells(&[Null(7)]),
+    Hears(1, &[Null(7)]),
+    Tells(&[]),
     Shows(6, Zero),
     Keeps(0, Unknown, &[LOW_1]),
 ];
@@ -361,6 +366,110 @@ const OF_AND: [Step; 14] = [
 #[test]
 fn and_process(rt: HostRuntime) -> Result<(), Fail> {
     follows(&rt, rt.alloc(), AND, b"y", 6, &OF_AND)
+}
+
+// A gate of the inputs `a` and `b`, or of five inputs.
+const OR: Circuit = Circuit {
+    bench: b"INPUT(a)\nINPUT(b)\ny = OR(a, b)",
+    ..AND
+};
+
+const NAND: Circuit = Circuit {
+    bench: b"INPUT(a)\nINPUT(b)\ny = NAND(a, b)",
+    ..AND
+};
+
+const NOR: Circuit = Circuit {
+    bench: b"INPUT(a)\nINPUT(b)\ny = NOR(a, b)",
+    ..AND
+};
+
+const XOR: Circuit = Circuit {
+    bench: b"INPUT(a)\nINPUT(b)\ny = XOR(a, b)",
+    ..AND
+};
+
+const WIDE_AND: Circuit = Circuit {
+    bench: b"INPUT(a)\nINPUT(b)\nINPUT(c)\nINPUT(d)\nINPUT(e)\ny = AND(a, b, c, d, e)",
+    ..AND
+};
+
+const STAYS_LOW: [Message; 2] = [Message::Change(LOW_0), Null(7)];
+
+const STAYS_HIGH: [Message; 2] = [Message::Change(HIGH_0), Null(7)];
+
+// What is told by a gate that its first pin settles, while nothing is known of the others.
+const SETTLED_LOW: [Step; 4] = [
+    Hears(0, &STAYS_HIGH),
+    Tells(&[Message::Change(LOW_1), Null(7)]),
+    Knows(0, 7),
+    Tells(&[]),
+];
+
+const SETTLED_HIGH: [Step; 3] = [
+    Hears(0, &STAYS_HIGH),
+    Tells(&[Message::Change(HIGH_1), Null(7)]),
+    Knows(0, 7),
+];
+
+const SETTLED_HIGH_BY_LOW: [Step; 3] = [
+    Hears(0, &STAYS_LOW),
+    Tells(&[Message::Change(HIGH_1), Null(7)]),
+    Knows(0, 7),
+];
+
+// Nothing settles it.
+const WAITS: [Step; 3] = [Hears(0, &STAYS_HIGH), Tells(&[Null(1)]), Knows(0, 1)];
+
+const SETTLED_BY_THE_LAST: [Step; 4] = [
+    Tells(&[Null(1)]),
+    Hears(4, &STAYS_LOW),
+    Tells(&[Message::Change(LOW_1), Null(7)]),
+    Tells(&[]),
+];
+
+// The pin that settles it isn't known farther, and then lets go.
+const RELEASED: [Step; 8] = [
+    Hears(0, &[Message::Change(LOW_0), Null(4)]),
+    Tells(&[Message::Change(LOW_1), Null(5)]),
+    Tells(&[]),
+    Hears(0, &[Message::Change(HIGH_4)]),
+    Tells(&[]),
+    Hears(1, &[Null(7)]),
+    Tells(&[Message::Change(UNKNOWN_5)]),
+    Knows(5, 6),
+];
+
+// It lets go for a tick.
+const RELEASED_FOR_A_TICK: [Step; 3] = [
+    Hears(
+        0,
+        &[
+            Message::Change(LOW_0),
+            Message::Change(HIGH_4),
+            Message::Change(LOW_5),
+            Null(7),
+        ],
+    ),
+    Tells(&[Message::Change(LOW_1), Null(5)]),
+    Knows(0, 5),
+];
+
+#[test]
+fn lookahead(rt: HostRuntime) -> Result<(), Fail> {
+    for (circuit, steps) in [
+        (NOR, SETTLED_LOW.as_slice()),
+        (OR, SETTLED_HIGH.as_slice()),
+        (NAND, SETTLED_HIGH_BY_LOW.as_slice()),
+        (XOR, WAITS.as_slice()),
+        (AND, WAITS.as_slice()),
+        (WIDE_AND, SETTLED_BY_THE_LAST.as_slice()),
+        (AND, RELEASED.as_slice()),
+        (AND, RELEASED_FOR_A_TICK.as_slice()),
+    ] {
+        follows(&rt, rt.alloc(), circuit, b"y", 6, steps)?;
+    }
+    Ok(())
 }
 
 const FLOP: Circuit = Circuit {

@@ -88,8 +88,8 @@ fn needs<F: Fabric, G: Fabric>(
 fn carries_each_message(rt: HostRuntime) -> Result<(), Fail> {
     needs::<Rationed<7, 3>, Rationed<6, 3>>(&rt, rt.alloc(), INVERTER, 5)?;
     needs::<Rationed<7, 3>, Rationed<7, 2>>(&rt, rt.alloc(), INVERTER, 5)?;
-    needs::<Rationed<11, 10>, Rationed<10, 10>>(&rt, rt.alloc(), GATED_OSCILLATOR, 12)?;
-    needs::<Rationed<11, 10>, Rationed<11, 9>>(&rt, rt.alloc(), GATED_OSCILLATOR, 12)?;
+    needs::<Rationed<12, 10>, Rationed<11, 10>>(&rt, rt.alloc(), GATED_OSCILLATOR, 12)?;
+    needs::<Rationed<12, 10>, Rationed<12, 9>>(&rt, rt.alloc(), GATED_OSCILLATOR, 12)?;
     needs::<Rationed<8, 7>, Rationed<7, 7>>(&rt, rt.alloc(), RING_COUNTER, 10)?;
     needs::<Rationed<8, 7>, Rationed<8, 6>>(&rt, rt.alloc(), RING_COUNTER, 10)
 }

@@ -3,8 +3,8 @@
 ghost use Rattle.std.specs.Prelude.{◌≡◌, OnOk};
 
 use crate::circuits::{
-    CLOCKED, CROSSING, Circuit, GATED_OSCILLATOR, INVERTER, LATE_PIN, PRESET_RING, PULSE,
-    RING_COUNTER, S27, SAMPLER, SELF_INVERTER, TWO_CLOCKS, WIRED_FLOP, WIRED_INVERTER,
+    CLOCKED, CROSSING, Circuit, EARLY_AND, GATED_OSCILLATOR, INVERTER, LATE_PIN, PRESET_RING,
+    PULSE, RING_COUNTER, S27, SAMPLER, SELF_INVERTER, TWO_CLOCKS, WIRED_FLOP, WIRED_INVERTER,
     WIRED_OSCILLATOR, WIRED_XOR,
 };
 use cmb_channels::{Fabric, Logs, Queues};
@@ -160,8 +160,8 @@ fn by_sweeps(rt: HostRuntime) -> Result<(), Fail> {
             circuit: GATED_OSCILLATOR,
             horizon: 12,
             order: &[0, 1],
-            ticks: &[13, 13, 13, 13, 13, 13, 13],
-            events: 24,
+            ticks: &[13, 13, 13, 13],
+            events: 17,
             changes: 6,
             nulls: 5,
         },
@@ -206,10 +206,11 @@ fn circuit_over_windows(
     run_over_windows(rt, alloc, &design, horizon, width)
 }
 
-static CIRCUITS: [Circuit; 16] = [
+static CIRCUITS: [Circuit; 17] = [
     INVERTER,
     SELF_INVERTER,
     GATED_OSCILLATOR,
+    EARLY_AND,
     LATE_PIN,
     SAMPLER,
     RING_COUNTER,

@@ -1,10 +1,12 @@
 -- What crates above may cite of the lemmas of this one.
 pub use Rattle.gate_process.proofs.Drained.{drained_knows, drained_true}
 pub use Rattle.gate_process.proofs.Events.{advanced_knows, get_below, get_of_map, heard_knows}
-pub use Rattle.gate_process.proofs.Frontiers.{frontier-end, frontier-farther, frontier-mono, least-bound, least-le, least_greatest}
+pub use Rattle.gate_process.proofs.Farther.{next-mono}
+pub use Rattle.gate_process.proofs.Frontiers.{least-bound, least-le, least_greatest}
 pub use Rattle.gate_process.proofs.Heard.{can_hear_change, can_hear_null}
 pub use Rattle.gate_process.proofs.Kept.{get_of_kept, length-all_kept}
 pub use Rattle.gate_process.proofs.Quiet.{no_news}
+pub use Rattle.gate_process.proofs.Reach.{next-end, next-farther}
 pub use Rattle.gate_process.proofs.Reckoned.{news_true}
 pub use Rattle.gate_process.proofs.SeenPins.{safe_greatest}
 pub use Rattle.gate_process.proofs.Told.{HeardTruth, Tells-append, Tells-le, heard_truth, told_all_truth}

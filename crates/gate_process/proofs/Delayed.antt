@@ -1,17 +1,17 @@
 -- A waveform that is seen later, by the delay of a wire.
-use Rattle.std.proofs.Common.{◌≡◌, ℕ, zero, suc, ◌+◌, ◌-◌, ◌<◌, ◌≤◌, nat_le, nat_lt, Bool, true, false, cond, List, [], ◌∷◌, length, map, take, None, Some, slice_get, refl, ap, sym, ◌∙◌, arith, ltb-true, ltb-false, ◌⊎◌, inl, inr}
+use Rattle.std.proofs.Common.{◌≡◌, ℕ, zero, suc, ◌+◌, ◌-◌, ◌<◌, ◌≤◌, nat_le, nat_lt, Bool, true, false, cond, List, [], ◌∷◌, ◌++◌, length, map, take, Option, None, Some, slice_get, refl, ap, sym, ◌∙◌, arith, leb-true, ltb-true, ltb-false, ◌⊎◌, inl, inr}
 use Rattle.std.specs.List.{prefix_len}
 use Rattle.std.specs.Option.{option_map, option_map_or}
 use Rattle.std.proofs.lemmas.Bool.{cases_lt, le-leb, lt-leb}
-use Rattle.std.proofs.lemmas.List.{get_or-map, length-map}
-use Rattle.std.proofs.lemmas.Option.{slice_get-map}
+use Rattle.std.proofs.lemmas.List.{get_or-map, length-map, map-append}
+use Rattle.std.proofs.lemmas.Option.{slice_get-map, same_Some}
 use Rattle.logic3.specs.declared.value.Value.{Value}
 use Rattle.logic3.specs.declared.value.Value.TheVariants.{Unknown}
 use Rattle.logic3.specs.declared.change.Change.{Change}
 use Rattle.logic3.specs.Rising.{TicksRise}
 use Rattle.logic3.specs.Wave.{Wave, value_after, value_at, value_in_the_end}
 use Rattle.design.specs.Equations.{later}
-use Rattle.gate_process.specs.Knowledge.{delayed}
+use Rattle.gate_process.specs.Knowledge.{Knowledge, delayed, seen, unknown_from, as_known}
 use Rattle.gate_process.proofs.Passed.{due_by, value_before_first}
 
 -- changes, so many ticks later
@@ -55,6 +55,59 @@ shows_later wire wave tick unknown = go (nat_lt tick wire) refl
         value_at (delayed wire wave) tick ≡ option_map_or (value_at wave) (cond early None (Some (tick - wire))) Unknown
     go true e = let early = ltb-true tick wire e in value_early wire wave.before wave.changes tick early ∙ unknown early
     go false e = value_late wire wave.before wave.changes tick (ltb-false tick wire e)
+
+-- ---- what is known of it shows X from where it isn't known
+
+value_with : (before : Value) (changes : List Change) (change : Change) (tick : ℕ) →
+    value_after before (changes ++ change ∷ []) tick ≡ cond (nat_le change.tick tick) change.value (value_after before changes tick)
+value_with before [] change tick = refl
+value_with before (first ∷ changes) change tick = value_with (cond (nat_le first.tick tick) first.value before) changes change tick
+
+pub shows_known : (known : Knowledge) (tick : ℕ) → tick < known.frontier → value_at (as_known known) tick ≡ value_at known.wave tick
+shows_known known tick below =
+    value_with known.wave.before known.wave.changes (record { tick = known.frontier; value = Unknown }) tick
+    ∙ ap (λ past. cond past Unknown (value_at known.wave tick)) (lt-leb known.frontier tick below)
+
+pub shows_unknown : (known : Knowledge) (tick : ℕ) → known.frontier ≤ tick → value_at (as_known known) tick ≡ Unknown
+shows_unknown known tick past =
+    value_with known.wave.before known.wave.changes (record { tick = known.frontier; value = Unknown }) tick
+    ∙ ap (λ past. cond past Unknown (value_at known.wave tick)) (le-leb known.frontier tick past)
+
+-- where that is seen by a tick, X is seen from the tick on
+pub unknown_there : (unknown : Option ℕ) (wire : ℕ) (before : Value) (changes : List Change) (tick late : ℕ) →
+    option_map_or (λ from. nat_le (from + wire) tick) unknown false ≡ true → tick ≤ late →
+    value_after before (delayed_changes wire (changes ++ unknown_from unknown)) late ≡ Unknown
+unknown_there None wire before changes tick late is after = cc
+unknown_there (Some from) wire before changes tick late is after =
+    let due : nat_le (from + wire) late ≡ true = le-leb (from + wire) late (let l = leb-true (from + wire) tick is in omega (arith, l, after)) in
+    ap (λ cs. value_after before cs late) (map-append (delayed_change wire) changes (record { tick = from; value = Unknown } ∷ []))
+    ∙ value_with before (delayed_changes wire changes) (record { tick = from + wire; value = Unknown }) late
+    ∙ ap (λ past. cond past Unknown (value_after before (delayed_changes wire changes) late)) due
+
+-- else it isn't due
+pub not_due : (unknown : Option ℕ) (wire tick : ℕ) → option_map_or (λ from. nat_le (from + wire) tick) unknown false ≡ false →
+    due_by tick (delayed_changes wire (unknown_from unknown)) ≡ 0
+not_due None wire tick is = refl
+not_due (Some from) wire tick is = rw is refl
+
+-- the first change is seen later too
+pub first_delayed : (wire : ℕ) (changes ending : List Change) (first : Change) → slice_get changes 0 ≡ Some first →
+    Some (first.tick + wire) ≡ option_map (λ (change : Change). change.tick) (slice_get (delayed_changes wire (changes ++ ending)) 0)
+first_delayed wire [] ending first is = cc
+first_delayed wire (change ∷ changes) ending first is = ap (λ (c : Change). Some (c.tick + wire)) (sym (same_Some change first is))
+
+pub first_unknown_delayed : (wire : ℕ) (changes : List Change) (unknown : Option ℕ) → slice_get changes 0 ≡ None →
+    option_map (λ from. from + wire) unknown
+    ≡ option_map (λ (change : Change). change.tick) (slice_get (delayed_changes wire (changes ++ unknown_from unknown)) 0)
+first_unknown_delayed wire [] None is = refl
+first_unknown_delayed wire [] (Some from) is = refl
+first_unknown_delayed wire (change ∷ changes) unknown is = cc
+
+-- seen later, it ends later
+pub known_later : (wire : ℕ) (known : Knowledge) → delayed wire (as_known known) ≡ as_known (seen wire known)
+known_later wire known =
+    ap (λ changes. record { before = known.wave.before; changes = changes })
+    (map-append (delayed_change wire) known.wave.changes (unknown_from (Some known.frontier)))
 
 -- ---- its changes
 

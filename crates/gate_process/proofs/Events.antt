@@ -4,15 +4,17 @@ use Rattle.std.proofs.lemmas.List.{length-map}
 use Rattle.logic3.specs.declared.value.Value.{Value}
 use Rattle.logic3.specs.Wave.{value_at}
 use Rattle.design.specs.Circuit.{Net}
-use Rattle.timing_text.specs.Ranges.{most_ticks}
+use Rattle.design.specs.Equations.{equation}
+use Rattle.timing_text.specs.Ranges.{HasClock, most_ticks}
 use Rattle.cmb_channels.specs.declared.message.Message.{Message}
 use Rattle.cmb_channels.proofs.CallerLemmas.{length-update, IsUpdated, get_of_update}
 use Rattle.gate_process.specs.Knowledge.{Knowledge, nothing_known, knowledge_of, told, forgetting, Tells}
-use Rattle.gate_process.specs.Step.{ProcessState, least_or, safe_of, frontier_of, next_frontier, started_process, reckoned, kept_from, kept, extended, advanced, heard}
+use Rattle.gate_process.specs.Step.{ProcessState, least_or, seen_by, safe_of, signals_of, frontier_of, next_frontier, started_process, reckoned, kept_from, kept, extended, advanced, heard}
 use Rattle.gate_process.specs.Truth.{Meets, KnowsTruth, IsNet, IsProcess}
 use Rattle.gate_process.proofs.Kept.{length-all_kept, get_of_kept, kept_farther}
 use Rattle.gate_process.proofs.Told.{forgetting_truth, kept_truth, HeardTruth, heard_truth}
-use Rattle.gate_process.proofs.Frontiers.{frontier-mono, asked-kept}
+use Rattle.gate_process.proofs.Frontiers.{frontier-mono}
+use Rattle.gate_process.proofs.Reach.{sure-end, reach-ahead, next-asked}
 use Rattle.gate_process.proofs.SeenPins.{frontiers-seen_kept, safe-update}
 use Rattle.gate_process.proofs.Reckoned.{advanced_true}
 
@@ -30,6 +32,29 @@ get_of_map view (x ∷ xs) (suc at) y e = get_of_map view xs at y e
 pub advanced-safe : (process : ProcessState) → safe_of (advanced process) ≡ safe_of process
 advanced-safe process = ap (least_or process.end) (frontiers-seen_kept (extended process) 0 process.net.wires process.received)
 
+-- what it reached it reaches again
+advanced-ahead : (process : ProcessState) → next_frontier process ≤ next_frontier (advanced process)
+advanced-ahead process =
+    let same = ap (λ s. frontier_of process.net process.end s) (advanced-safe process) in
+    reach-ahead (equation process.net (signals_of (seen_by process))) (equation process.net (signals_of (seen_by (advanced process))))
+    process.net.part process.end process.known.frontier (next_frontier process)
+    (frontier_of process.net process.end (safe_of process)) (frontier_of process.net process.end (safe_of (advanced process)))
+    (omega (arith, same)) (sure-end (advanced process)) (omega arith)
+
+-- where a message raises what is known of a pin, a process reaches what it did
+heard-ahead : (process : ProcessState) (place : ℕ) (message : Message) → HasClock process.net.part process.net.timing →
+    process.known.frontier ≤ next_frontier process →
+    ((known : Knowledge) → slice_get process.received place ≡ Some known → known.frontier ≤ (told known message).frontier) →
+    process.known.frontier ≤ next_frontier (heard place message process)
+heard-ahead process place message clock ahead raises =
+    reach-ahead (equation process.net (signals_of (seen_by process)))
+    (equation process.net (signals_of (seen_by (heard place message process))))
+    process.net.part process.end process.known.frontier process.known.frontier
+    (frontier_of process.net process.end (safe_of process)) (frontier_of process.net process.end (safe_of (heard place message process)))
+    (frontier-mono process.net process.end (safe_of process) (safe_of (heard place message process)) clock
+    (safe-update process.end process.net.wires process.received place (λ (known : Knowledge). kept process place (told known message)) raises))
+    (sure-end (heard place message process)) ahead
+
 -- an Advance keeps the truth
 pub advanced_knows : (signals : ℕ → ℕ → Value) (number : ℕ) (process : ProcessState) → Meets signals number process.net →
     KnowsTruth signals number process → KnowsTruth signals number (advanced process)
@@ -39,8 +64,8 @@ advanced_knows signals number process meets h =
     record {
       pins = length-all_kept (extended process) 0 process.received ∙ h.pins;
       floor = omega arith;
-      ahead = (let e = ap (λ s. frontier_of process.net process.end s) (advanced-safe process) in omega (arith, e));
-      asked = λ tick asked a b is. asked-kept process.net process.end (safe_of process) tick asked meets.timed.timing.clock a b is;
+      ahead = advanced-ahead process;
+      asked = λ tick asked a b is. next-asked process tick asked meets.timed.timing.clock a b is;
       known = advanced_true signals number process meets h;
       heard = λ place source received a b.
           let old = get_of_kept (extended process) process.received place received b in
@@ -60,15 +85,10 @@ heard_knows signals number process place source to received message rest meets h
     record {
       pins = length-update change place process.received ∙ h.pins;
       floor = h.floor;
-      ahead =
-          (let ahead = h.ahead in
-          let later : next_frontier process ≤ next_frontier (heard place message process) =
-          frontier-mono process.net process.end (safe_of process) (safe_of (heard place message process)) meets.timed.timing.clock
-          (safe-update process.end process.net.wires process.received place change (λ known e.
+      ahead = heard-ahead process place message meets.timed.timing.clock h.ahead (λ known e.
           let same : known ≡ received = cc in
           let up : received.frontier < (told received message).frontier = now.raised in
-          subst (λ (k : Knowledge). k.frontier ≤ (told k message).frontier) (sym same) (omega arith))) in
-          omega arith);
+          subst (λ (k : Knowledge). k.frontier ≤ (told k message).frontier) (sym same) (omega arith));
       asked = h.asked;
       known = h.known;
       heard = λ place' source' received' a b. go place' source' received' a (get_of_update change place process.received place' received' b);
@@ -130,8 +150,8 @@ advanced_is_process process h =
       end = h.end;
       pins = length-all_kept (extended process) 0 process.received ∙ h.pins;
       floor = omega arith;
-      ahead = (let e = ap (λ s. frontier_of process.net process.end s) (advanced-safe process) in omega (arith, e));
-      asked = λ tick asked a b is. asked-kept process.net process.end (safe_of process) tick asked h.timed.timing.clock a b is;
+      ahead = advanced-ahead process;
+      asked = λ tick asked a b is. next-asked process tick asked h.timed.timing.clock a b is;
       known = sym (forgetting_truth (reckoned process) process.floor process.floor (next_frontier process) (omega arith) (omega arith));
       heard = λ place received b.
           let old = get_of_kept (extended process) process.received place received b in
@@ -148,12 +168,7 @@ heard_is_process process place message h raises =
       end = h.end;
       pins = length-update change place process.received ∙ h.pins;
       floor = h.floor;
-      ahead =
-          (let ahead = h.ahead in
-          let later : next_frontier process ≤ next_frontier (heard place message process) =
-          frontier-mono process.net process.end (safe_of process) (safe_of (heard place message process)) h.timed.timing.clock
-          (safe-update process.end process.net.wires process.received place change raises) in
-          omega arith);
+      ahead = heard-ahead process place message h.timed.timing.clock h.ahead raises;
       asked = h.asked;
       known = h.known;
       heard = λ place' received e. go place' received (get_of_update change place process.received place' received e);

@@ -1,5 +1,5 @@
 -- How far a process can reckon.
-use Rattle.std.proofs.Common.{◌≡◌, ℕ, zero, suc, ◌+◌, ◌<◌, ◌≤◌, min, List, [], ◌∷◌, ◌++◌, Option, None, Some, slice_get, refl, sym, ◌∙◌, arith}
+use Rattle.std.proofs.Common.{◌≡◌, ℕ, zero, suc, ◌+◌, ◌<◌, ◌≤◌, min, List, [], ◌∷◌, ◌++◌, Option, None, Some, slice_get, refl, ap, sym, ◌∙◌, arith}
 use Rattle.std.specs.Option.{option_map_or}
 use Rattle.std.proofs.lemmas.Option.{none-some, same_Some}
 use Rattle.netlist.specs.declared.part.Part.{Part}
@@ -51,6 +51,10 @@ to_end end (Some first) = omega arith
 
 pub frontier-end : (net : Net) (end safe : ℕ) → frontier_of net end safe ≤ end
 frontier-end net end safe = to_end end (first_asker net safe)
+
+-- an input waits for nothing
+pub input_frontier : (net : Net) (end safe : ℕ) → net.part ≡ Input → frontier_of net end safe ≡ end
+input_frontier net end safe input = ap (λ part. option_map_or (min end) (asker_of_part part net.timing safe) end) input
 
 pub frontier-mono : (net : Net) (end low high : ℕ) → HasClock net.part net.timing → low ≤ high → frontier_of net end low ≤ frontier_of net end high
 frontier-mono net end low high clock h = go (first_asker net low) refl

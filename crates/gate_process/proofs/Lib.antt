@@ -4,6 +4,7 @@ mod Delayed
 mod Drained
 mod Early
 mod Events
+mod Farther
 mod Forgets
 mod Frontiers
 mod Heard
@@ -11,11 +12,13 @@ mod Kept
 mod Nets
 mod Passed
 mod Quiet
+mod Reach
 mod ReadBy
 mod ReadOnce
 mod Reckoned
 mod SeenPins
 mod Starts
+mod Stays
 mod Steady
 mod Told
 mod Walks

@@ -1,8 +1,10 @@
 -- The changes that are left of a list whose ticks rise, once those up to a tick are passed.
-use Rattle.std.proofs.Common.{◌≡◌, ℕ, zero, suc, ◌<◌, ◌≤◌, nat_le, Bool, true, false, List, [], ◌∷◌, All, take, drop, refl, ap, sym, ◌∙◌, arith, leb-true, leb-false, one-add, Some, slice_get}
+use Rattle.std.proofs.Common.{◌≡◌, ℕ, zero, suc, ◌+◌, ◌<◌, ◌≤◌, nat_le, Bool, true, false, cond, List, [], ◌∷◌, ◌++◌, All, take, drop, refl, ap, sym, ◌∙◌, arith, leb-true, leb-false, one-add, None, Some, slice_get}
+use Rattle.std.specs.Option.{option_map}
 use Rattle.std.specs.List.{prefix_len}
 use Rattle.std.proofs.lemmas.Bool.{le-leb, lt-leb}
-use Rattle.std.proofs.lemmas.List.Elements.{All-head, All-tail}
+use Rattle.std.proofs.lemmas.List.Elements.{All-head, All-tail, All-append}
+use Rattle.std.proofs.lemmas.List.Kept.{AllPairs-cons}
 use Rattle.std.proofs.lemmas.Option.{same_Some}
 use Rattle.logic3.specs.declared.value.Value.{Value}
 use Rattle.logic3.specs.declared.change.Change.{Change}
@@ -81,3 +83,49 @@ value_before_first before [] first tick rise is early = refl
 value_before_first before (change ∷ changes) first tick rise is early =
     let here = ap (λ (c : Change). c.tick) (same_Some change first is) in
     value_before_all before (change ∷ changes) tick (all_after change changes tick rise (omega (arith, here, early)))
+
+-- ---- the first change
+
+-- the value before a change at the end of a list
+pub first_tick-steady : (before : Value) (changes : List Change) (first tick : ℕ) → TicksRise changes →
+    option_map (λ (change : Change). change.tick) (slice_get changes 0) ≡ Some first → tick < first → value_after before changes tick ≡ before
+first_tick-steady before [] first tick rise is early = refl
+first_tick-steady before (change ∷ changes) first tick rise is early =
+    let here = same_Some change.tick first is in
+    value_before_all before (change ∷ changes) tick (all_after change changes tick rise (omega (arith, here, early)))
+
+pub no_first-steady : (before : Value) (changes : List Change) (tick : ℕ) →
+    option_map (λ (change : Change). change.tick) (slice_get changes 0) ≡ None → value_after before changes tick ≡ before
+no_first-steady before [] tick is = refl
+no_first-steady before (change ∷ changes) tick is = cc
+
+pub first_tick-later : (changes : List Change) (first tick : ℕ) → All (λ (change : Change). tick < change.tick) changes →
+    option_map (λ (change : Change). change.tick) (slice_get changes 0) ≡ Some first → tick < first
+first_tick-later [] first tick after is = cc
+first_tick-later (change ∷ changes) first tick after is =
+    let here = same_Some change.tick first is in
+    let late = All-head (λ (change : Change). tick < change.tick) change changes after in
+    omega (arith, here, late)
+
+-- ---- changes with others behind them
+
+only_after : (first frontier : ℕ) (value : Value) → first < frontier →
+    All (λ (later : Change). first < later.tick) (record { tick = frontier; value = value } ∷ [])
+only_after first frontier value below zero d inside = below
+only_after first frontier value below (suc k) d inside = absurd (omega arith)
+
+-- a later one leaves the ticks rising
+pub rise_with : (changes : List Change) (frontier : ℕ) (value : Value) → TicksRise changes →
+    All (λ (change : Change). change.tick < frontier) changes → TicksRise (changes ++ record { tick = frontier; value = value } ∷ [])
+rise_with [] frontier value rise past = λ i j d low inside. absurd (omega arith)
+rise_with (first ∷ changes) frontier value rise past =
+    AllPairs-cons (λ (a : Change) (b : Change). a.tick < b.tick) first (changes ++ record { tick = frontier; value = value } ∷ [])
+    (All-append (λ (later : Change). first.tick < later.tick) changes (record { tick = frontier; value = value } ∷ [])
+    (λ k d inside. rise 0 (suc k) d (omega arith) (omega (arith, inside)))
+    (only_after first.tick frontier value (All-head (λ (change : Change). change.tick < frontier) first changes past)))
+    (rise_with changes frontier value (rise_tail first changes rise) (All-tail (λ (change : Change). change.tick < frontier) first changes past))
+
+-- those that aren't due don't count
+pub due_with : (changes ending : List Change) (tick : ℕ) → due_by tick ending ≡ 0 → due_by tick (changes ++ ending) ≡ due_by tick changes
+due_with [] ending tick none = none
+due_with (first ∷ changes) ending tick none = ap (λ n. cond (nat_le first.tick tick) (1 + n) 0) (due_with changes ending tick none)

@@ -4,11 +4,12 @@ use Rattle.std.proofs.lemmas.Bool.{eq-eqb}
 use Rattle.std.proofs.lemmas.List.{length-set}
 use Rattle.logic3.specs.Wave.{changes_between, joined}
 use Rattle.gate_process.specs.Knowledge.{news_of}
-use Rattle.gate_process.specs.Step.{ProcessState, ProcessView, frontier_of, next_frontier, reckoned, advanced, news, drained}
+use Rattle.gate_process.specs.Step.{ProcessState, ProcessView, next_frontier, reckoned, advanced, news, drained}
 use Rattle.gate_process.specs.Truth.{IsProcess}
 use Rattle.gate_process.specs.Quiet.{IsQuiet, AreQuiet}
 use Rattle.gate_process.proofs.Advanced.{advanced_of}
-use Rattle.gate_process.proofs.Events.{advanced-safe, advanced_is_process}
+use Rattle.gate_process.proofs.Events.{advanced_is_process}
+use Rattle.gate_process.proofs.Stays.{advanced_stays}
 use Rattle.gate_process.proofs.Walks.{none_between}
 
 -- ---- one process
@@ -37,8 +38,7 @@ quiet_of process ok stays =
 
 -- as it is once it has advanced
 pub quiet_advanced : (process : ProcessState) → IsProcess process → IsQuiet (advanced process)
-quiet_advanced process ok =
-    quiet_of (advanced process) (advanced_is_process process ok) (ap (frontier_of process.net process.end) (advanced-safe process))
+quiet_advanced process ok = quiet_of (advanced process) (advanced_is_process process ok) (advanced_stays process ok)
 
 -- what is taken out of it plays no part
 pub quiet_drained : (process : ProcessState) (bound : ℕ) → IsProcess (drained bound process) → IsQuiet process → IsQuiet (drained bound process)

@@ -1,23 +1,29 @@
 -- What a net reads, by how many pins it has: an input, and it alone, has none.
-use Rattle.std.proofs.Common.{◌≡◌, ℕ, zero, suc, ◌<◌, ◌≤◌, ◌==◌, true, cond, List, [], ◌∷◌, map, length, get_or, refl, ap, sym, ◌∙◌, arith}
+use Rattle.std.proofs.Common.{◌≡◌, ◌≢◌, ℕ, zero, suc, ◌<◌, ◌≤◌, ◌==◌, true, cond, List, [], ◌∷◌, map, length, get_or, None, Some, Result, refl, ap, sym, ◌∙◌, arith}
+use Rattle.std.specs.Option.{option_map_or}
 use Rattle.std.proofs.lemmas.Bool.{eqb-true}
 use Rattle.std.proofs.lemmas.List.{length-map}
+use Rattle.logic3.specs.declared.value.Value.{Value}
 use Rattle.logic3.specs.declared.value.Value.TheVariants.{Unknown}
+use Rattle.logic3.specs.Gate.{value_of_gate, only_pin}
+use Rattle.logic3.specs.Summary.{summary_of}
 use Rattle.logic3.specs.declared.gates.GateKind.TheVariants.{Not, Buf}
-use Rattle.logic3.specs.Wave.{Wave, joined, changes_between}
+use Rattle.logic3.specs.Wave.{Wave, value_at, joined, changes_between}
 use Rattle.netlist.specs.declared.part.Part.{Part}
 use Rattle.netlist.specs.declared.part.Part.TheVariants.{Input, Gate, Flop}
 use Rattle.netlist.specs.Part.{takes_pins}
 use Rattle.cmb_channels.specs.declared.message.Message.{Message}
 use Rattle.design.specs.Circuit.{Net}
-use Rattle.design.specs.Equations.{equation}
-use Rattle.gate_process.specs.Knowledge.{Knowledge, delayed, seen_pins, news_of}
-use Rattle.gate_process.specs.Reading.{read_by_part, read_by, reads_of_part, reads, shown}
-use Rattle.gate_process.specs.Step.{signals_of, continued}
-use Rattle.gate_process.proofs.Steady.{shown_by}
+use Rattle.timing_text.specs.Ranges.{HasClock}
+use Rattle.design.specs.Equations.{values_at, equation_of_part, equation}
+use Rattle.gate_process.specs.Knowledge.{Knowledge, seen, seen_pins, as_known, news_of}
+use Rattle.gate_process.specs.Reading.{read_by_part, read_by, reads_of_part, reads, read_tick, made_of, shown}
+use Rattle.gate_process.specs.Step.{signals_of, continued, first_unknown}
+use Rattle.gate_process.proofs.Steady.{shown_by, unread-initial}
 use Rattle.gate_process.specs.Truth.{IsNet}
 use Rattle.gate_process.proofs.SeenPins.{length-seen_pins}
-use Rattle.gate_process.proofs.Walks.{continued_same}
+use Rattle.std.specs.Result.{IfOk}
+use Rattle.std.proofs.lemmas.Result.{IfOk-weaker}
 
 takes_some : (part : Part) (pins : ℕ) → takes_pins part pins ≡ true → pins < 1 → part ≡ Input
 takes_some Input pins takes none = refl
@@ -31,17 +37,17 @@ takes_some _ (suc pins) takes none = absurd (omega arith)
 
 seen_one : (wires : List ℕ) (received : List Knowledge) (pin : Knowledge) → length wires ≡ length received →
     1 ≤ length received → length received < 2 → pin ≡ get_or received 0 pin →
-    (delayed (get_or wires 0 0) pin.wave ∷ []) ≡ map (λ (known : Knowledge). known.wave) (seen_pins wires received)
+    (as_known (seen (get_or wires 0 0) pin) ∷ []) ≡ map as_known (seen_pins wires received)
 seen_one wires [] pin long some few is = absurd (omega arith)
 seen_one wires (first ∷ second ∷ received) pin long some few is = absurd (omega arith)
 seen_one [] (first ∷ []) pin long some few is = absurd (omega arith)
 seen_one (wire ∷ other ∷ wires) (first ∷ []) pin long some few is = absurd (omega arith)
-seen_one (wire ∷ []) (first ∷ []) pin long some few is = ap (λ (known : Knowledge). delayed wire known.wave ∷ []) is
+seen_one (wire ∷ []) (first ∷ []) pin long some few is = ap (λ (known : Knowledge). as_known (seen wire known) ∷ []) is
 
 seen_two : (wires : List ℕ) (received : List Knowledge) (pin other : Knowledge) → length wires ≡ length received →
     2 ≤ length received → length received < 3 → pin ≡ get_or received 0 pin → other ≡ get_or received 1 other →
-    (delayed (get_or wires 0 0) pin.wave ∷ delayed (get_or wires 1 0) other.wave ∷ [])
-    ≡ map (λ (known : Knowledge). known.wave) (seen_pins wires received)
+    (as_known (seen (get_or wires 0 0) pin) ∷ as_known (seen (get_or wires 1 0) other) ∷ [])
+    ≡ map as_known (seen_pins wires received)
 seen_two wires [] pin other long some few is other_is = absurd (omega arith)
 seen_two wires (first ∷ []) pin other long some few is other_is = absurd (omega arith)
 seen_two wires (first ∷ second ∷ third ∷ received) pin other long some few is other_is = absurd (omega arith)
@@ -49,7 +55,7 @@ seen_two [] (first ∷ second ∷ []) pin other long some few is other_is = absu
 seen_two (wire ∷ []) (first ∷ second ∷ []) pin other long some few is other_is = absurd (omega arith)
 seen_two (wire ∷ next ∷ more ∷ wires) (first ∷ second ∷ []) pin other long some few is other_is = absurd (omega arith)
 seen_two (wire ∷ next ∷ []) (first ∷ second ∷ []) pin other long some few is other_is =
-    λ i. delayed wire (is i).wave ∷ delayed next (other_is i).wave ∷ []
+    λ i. as_known (seen wire (is i)) ∷ as_known (seen next (other_is i)) ∷ []
 
 -- ---- the waveforms that are read
 
@@ -62,11 +68,11 @@ module _ (net : Net) (received : List Knowledge) (ok : IsNet net) (pins : length
       ap (λ part. read_by_part part net (seen_pins net.wires received))
       (sym (takes_some net.part (length net.pins) ok.arity (omega (arith, pins, none))))
 
-  pins_read : 0 < length received → map (λ (known : Knowledge). known.wave) (seen_pins net.wires received) ≡ read_by net (seen_pins net.wires received)
+  pins_read : 0 < length received → map as_known (seen_pins net.wires received) ≡ read_by net (seen_pins net.wires received)
   pins_read some = go net.part ok.arity
     where
       go : (part : Part) → takes_pins part (length net.pins) ≡ true →
-          map (λ (known : Knowledge). known.wave) (seen_pins net.wires received) ≡ read_by_part part net (seen_pins net.wires received)
+          map as_known (seen_pins net.wires received) ≡ read_by_part part net (seen_pins net.wires received)
       go Input none = let e = eqb-true (length net.pins) 0 none in absurd (omega (arith, e, pins, some))
       go (Gate kind) e = refl
       go Flop e = refl
@@ -75,9 +81,9 @@ module _ (net : Net) (received : List Knowledge) (ok : IsNet net) (pins : length
   pub count_read : (read : List Wave) → read ≡ read_by net (seen_pins net.wires received) → length read ≡ reads net
   count_read read is = ap length is ∙ go net.part
     where
-      count : length (map (λ (known : Knowledge). known.wave) (seen_pins net.wires received)) ≡ length net.pins
+      count : length (map as_known (seen_pins net.wires received)) ≡ length net.pins
       count =
-          length-map (seen_pins net.wires received) (λ (known : Knowledge). known.wave)
+          length-map (seen_pins net.wires received) as_known
           ∙ length-seen_pins net.wires received each_wire ∙ pins
 
       go : (part : Part) → length (read_by_part part net (seen_pins net.wires received)) ≡ reads_of_part part net
@@ -87,34 +93,82 @@ module _ (net : Net) (received : List Knowledge) (ok : IsNet net) (pins : length
 
   module _ (wires : List ℕ) (same : wires ≡ net.wires) where
     pub one_read : (pin : Knowledge) → 1 ≤ length received → length received < 2 → pin ≡ get_or received 0 pin →
-        (delayed (get_or wires 0 0) pin.wave ∷ []) ≡ read_by net (seen_pins net.wires received)
+        (as_known (seen (get_or wires 0 0) pin) ∷ []) ≡ read_by net (seen_pins net.wires received)
     one_read pin some few is =
-        ap (λ ws. delayed (get_or ws 0 0) pin.wave ∷ []) same
+        ap (λ ws. as_known (seen (get_or ws 0 0) pin) ∷ []) same
         ∙ seen_one net.wires received pin each_wire some few is ∙ pins_read some
 
     pub two_read : (pin other : Knowledge) → 2 ≤ length received → length received < 3 → pin ≡ get_or received 0 pin → other ≡ get_or received 1 other →
-        (delayed (get_or wires 0 0) pin.wave ∷ delayed (get_or wires 1 0) other.wave ∷ []) ≡ read_by net (seen_pins net.wires received)
+        (as_known (seen (get_or wires 0 0) pin) ∷ as_known (seen (get_or wires 1 0) other) ∷ []) ≡ read_by net (seen_pins net.wires received)
     two_read pin other some few is other_is =
-        ap (λ ws. delayed (get_or ws 0 0) pin.wave ∷ delayed (get_or ws 1 0) other.wave ∷ []) same
+        ap (λ ws. as_known (seen (get_or ws 0 0) pin) ∷ as_known (seen (get_or ws 1 0) other) ∷ []) same
         ∙ seen_two net.wires received pin other each_wire some few is other_is ∙ pins_read (omega (arith, some))
 
-    pub all_read : 0 < length received → map (λ (known : Knowledge). known.wave) (seen_pins wires received) ≡ read_by net (seen_pins net.wires received)
-    all_read some = ap (λ ws. map (λ (known : Knowledge). known.wave) (seen_pins ws received)) same ∙ pins_read some
+    pub all_read : 0 < length received → map as_known (seen_pins wires received) ≡ read_by net (seen_pins net.wires received)
+    all_read some = ap (λ ws. map as_known (seen_pins ws received)) same ∙ pins_read some
 
--- ---- over these it changes where its equation does
+-- ---- what a net shows that is no input
 
-module _ (net : Net) (received : List Knowledge) (read : List Wave) (is : read ≡ read_by net received) (wave : Wave) (from to : ℕ) where
-  changes_are : changes_between (continued wave from (shown net read)) from to
-      ≡ changes_between (continued wave from (equation net (signals_of received))) from to
-  changes_are =
-      ap (λ (r : List Wave). changes_between (continued wave from (shown net r)) from to) is
-      ∙ continued_same wave from to (shown net (read_by net received)) (equation net (signals_of received)) (shown_by net received)
+shows_read : (part : Part) (net : Net) (seen : List (ℕ → Value)) (tick at : ℕ) → part ≢ Input → read_tick part net.timing tick ≡ Some at →
+    made_of part (values_at at seen) ≡ equation_of_part part net seen tick
+shows_read Input net seen tick at other is = absurd (other refl)
+shows_read (Gate kind) net seen tick at other is =
+    sym (ap (λ asked. option_map_or (λ t. value_of_gate kind (values_at t seen)) asked Unknown) is)
+shows_read Flop net seen tick at other is =
+    sym (ap (λ asked. option_map_or (λ t. only_pin (values_at t seen)) asked net.timing.initial) is)
 
-  pub wave_goes_on : (new : Wave) → new ≡ joined wave (changes_between (continued wave from (shown net read)) from to) →
-      new ≡ joined wave (changes_between (continued wave from (equation net (signals_of received))) from to)
-  wave_goes_on new walked = walked ∙ ap (joined wave) changes_are
+shows_unread : (part : Part) (net : Net) (seen : List (ℕ → Value)) (tick : ℕ) → HasClock part net.timing → part ≢ Input →
+    read_tick part net.timing tick ≡ None → net.timing.initial ≡ equation_of_part part net seen tick
+shows_unread Input net seen tick clock other is = absurd (other refl)
+shows_unread (Gate kind) net seen tick clock other is =
+    sym (unread-initial (Gate kind) net.timing clock)
+    ∙ sym (ap (λ asked. option_map_or (λ t. value_of_gate kind (values_at t seen)) asked Unknown) is)
+shows_unread Flop net seen tick clock other is =
+    sym (ap (λ asked. option_map_or (λ t. only_pin (values_at t seen)) asked net.timing.initial) is)
 
-  pub news_tell_of_it : (told : List Message) →
-      told ≡ cond (to == from) [] (news_of (changes_between (continued wave from (shown net read)) from to) to) →
-      told ≡ cond (to == from) [] (news_of (changes_between (continued wave from (equation net (signals_of received))) from to) to)
-  news_tell_of_it told walked = walked ∙ ap (λ changes. cond (to == from) [] (news_of changes to)) changes_are
+reads_pins : (part : Part) (net : Net) → part ≢ Input → length net.pins ≡ reads_of_part part net
+reads_pins Input net other = absurd (other refl)
+reads_pins (Gate kind) net other = refl
+reads_pins Flop net other = refl
+
+module _ (net : Net) (received : List Knowledge) (ok : IsNet net) (pins : length received ≡ length net.pins) (other : net.part ≢ Input) where
+  pub shows_there : (tick at : ℕ) (value : Value) → read_tick net.part net.timing tick ≡ Some at →
+      ((values : List Value) → summary_of (values_at at (signals_of (seen_pins net.wires received))) ≡ summary_of values →
+      length values ≡ reads net → value ≡ made_of net.part values) →
+      value ≡ equation net (signals_of (seen_pins net.wires received)) tick
+  shows_there tick at value is made =
+      made (values_at at (signals_of (seen_pins net.wires received))) refl
+      (length-map (signals_of (seen_pins net.wires received)) (λ (signal : ℕ → Value). signal at)
+      ∙ length-map (seen_pins net.wires received) (λ (known : Knowledge). value_at (as_known known))
+      ∙ length-seen_pins net.wires received (ok.timed.wires.each ∙ sym pins) ∙ pins ∙ reads_pins net.part net other)
+      ∙ shows_read net.part net (signals_of (seen_pins net.wires received)) tick at other is
+
+  pub shows_nowhere : (tick : ℕ) → read_tick net.part net.timing tick ≡ None →
+      net.timing.initial ≡ equation net (signals_of (seen_pins net.wires received)) tick
+  shows_nowhere tick is =
+      shows_unread net.part net (signals_of (seen_pins net.wires received)) tick ok.timed.timing.clock other is
+
+-- ---- over these it shows what its equation gives
+
+module _ (net : Net) (received : List Knowledge) (read : List Wave) (is : read ≡ read_by net received) where
+  shown_is : shown net read ≡ equation net (signals_of received)
+  shown_is = ap (shown net) is ∙ (λ i tick. shown_by net received tick i)
+
+  module _ {E : Type 0} (result : Result ℕ E) (from : ℕ) where
+    pub goes_to : (start ticks : ℕ) → IfOk result (λ to. to ≡ first_unknown (shown net read) start ticks) →
+        IfOk result (λ to. to ≡ first_unknown (equation net (signals_of received)) start ticks)
+    goes_to start ticks ok =
+        IfOk-weaker result _ _ (λ to walked. walked ∙ ap (λ signal. first_unknown signal start ticks) shown_is) ok
+
+    pub wave_goes_on : (wave new : Wave) →
+        IfOk result (λ to. new ≡ joined wave (changes_between (continued wave from (shown net read)) from to)) →
+        IfOk result (λ to. new ≡ joined wave (changes_between (continued wave from (equation net (signals_of received))) from to))
+    wave_goes_on wave new ok =
+        IfOk-weaker result _ _ (λ to walked. walked ∙ ap (λ signal. joined wave (changes_between (continued wave from signal) from to)) shown_is) ok
+
+    pub news_tell_of_it : (wave : Wave) (told : List Message) →
+        IfOk result (λ to. told ≡ cond (to == from) [] (news_of (changes_between (continued wave from (shown net read)) from to) to)) →
+        IfOk result (λ to. told ≡ cond (to == from) [] (news_of (changes_between (continued wave from (equation net (signals_of received))) from to) to))
+    news_tell_of_it wave told ok =
+        IfOk-weaker result _ _ (λ to walked.
+        walked ∙ ap (λ signal. cond (to == from) [] (news_of (changes_between (continued wave from signal) from to) to)) shown_is) ok

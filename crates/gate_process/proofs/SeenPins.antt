@@ -1,9 +1,12 @@
 -- What a process knows of its pins, as its net sees them.
 use Rattle.std.proofs.Common.{◌≡◌, ℕ, zero, suc, ◌+◌, ◌<◌, ◌≤◌, min, List, [], ◌∷◌, ◌++◌, length, map, take, get_or, Some, slice_get, refl, ap, sym, ◌∙◌, arith, suc-add}
 use Rattle.std.proofs.lemmas.List.{length-take-le, map-append, take_all}
+use Rattle.logic3.specs.declared.value.Value.{Value}
+use Rattle.logic3.specs.Wave.{value_at}
+use Rattle.design.specs.Equations.{values_at}
 use Rattle.cmb_channels.specs.Lists.{update}
-use Rattle.gate_process.specs.Knowledge.{Knowledge, delayed, seen, seen_pins}
-use Rattle.gate_process.specs.Step.{ProcessState, least, least_or, safe_of, all_kept}
+use Rattle.gate_process.specs.Knowledge.{Knowledge, seen, seen_pins, as_known}
+use Rattle.gate_process.specs.Step.{ProcessState, least, least_or, safe_of, signals_of, all_kept}
 use Rattle.gate_process.proofs.Frontiers.{least-more, least-mono}
 
 pub length-seen_pins : (wires : List ℕ) (received : List Knowledge) → length wires ≡ length received → length (seen_pins wires received) ≡ length received
@@ -93,11 +96,21 @@ seen-more (first ∷ wires) (known ∷ received) (suc at) wire pin long below a 
 
 pub waves-more : (wires : List ℕ) (received : List Knowledge) (at wire : ℕ) (pin : Knowledge) → length wires ≡ length received → at < length received →
     wire ≡ get_or wires at 0 → pin ≡ get_or received at pin →
-    map (λ (known : Knowledge). known.wave) (take at (seen_pins wires received)) ++ delayed wire pin.wave ∷ []
-    ≡ map (λ (known : Knowledge). known.wave) (take (at + 1) (seen_pins wires received))
+    map as_known (take at (seen_pins wires received)) ++ as_known (seen wire pin) ∷ []
+    ≡ map as_known (take (at + 1) (seen_pins wires received))
 waves-more wires received at wire pin long below a b =
-    sym (ap (map (λ (known : Knowledge). known.wave)) (seen-more wires received at wire pin long below a b)
-    ∙ map-append (λ (known : Knowledge). known.wave) (take at (seen_pins wires received)) (seen wire pin ∷ []))
+    sym (ap (map as_known) (seen-more wires received at wire pin long below a b)
+    ∙ map-append as_known (take at (seen_pins wires received)) (seen wire pin ∷ []))
+
+-- what they show at a tick
+pub values-more : (wires : List ℕ) (received : List Knowledge) (at wire tick : ℕ) (pin : Knowledge) → length wires ≡ length received →
+    at < length received → wire ≡ get_or wires at 0 → pin ≡ get_or received at pin →
+    values_at tick (signals_of (take at (seen_pins wires received))) ++ value_at (as_known (seen wire pin)) tick ∷ []
+    ≡ values_at tick (signals_of (take (at + 1) (seen_pins wires received)))
+values-more wires received at wire tick pin long below a b =
+    sym (ap (λ seen. values_at tick (signals_of seen)) (seen-more wires received at wire pin long below a b)
+    ∙ ap (values_at tick) (map-append (λ (known : Knowledge). value_at (as_known known)) (take at (seen_pins wires received)) (seen wire pin ∷ []))
+    ∙ map-append (λ (signal : ℕ → Value). signal tick) (signals_of (take at (seen_pins wires received))) (value_at (as_known (seen wire pin)) ∷ []))
 
 -- the least of the frontiers up to a place
 abbrev pub least_so_far : ℕ → List ℕ → List Knowledge → ℕ → ℕ

@@ -13,7 +13,7 @@ use Rattle.design.specs.Circuit.{Net}
 use Rattle.design.specs.Samples.{next_sample, asked_of_part, asker_of_part, first_asker}
 use Rattle.design.specs.Equations.{equation_of_part, equation}
 use Rattle.design.proofs.CallerLemmas.{asked-before, asked-early, asked-from, asked-mono, asker-late}
-use Rattle.gate_process.specs.Knowledge.{Knowledge}
+use Rattle.gate_process.specs.Knowledge.{Knowledge, as_known}
 use Rattle.gate_process.specs.Reading.{read_by_part, read_by, read_tick, made_of, shown, unread}
 use Rattle.gate_process.specs.Step.{signals_of}
 use Rattle.gate_process.proofs.ReadOnce.{seen_at}
@@ -151,9 +151,9 @@ unread-initial Flop timing clock = refl
 
 -- ---- before any tick what a net reads shows what its equation gives
 
-signals_read : (received : List Knowledge) → map value_at (map (λ (known : Knowledge). known.wave) received) ≡ signals_of received
+signals_read : (received : List Knowledge) → map value_at (map as_known received) ≡ signals_of received
 signals_read [] = refl
-signals_read (known ∷ received) = ap (λ signals. value_at known.wave ∷ signals) (signals_read received)
+signals_read (known ∷ received) = ap (λ signals. value_at (as_known known) ∷ signals) (signals_read received)
 
 pub shown_by : (net : Net) (received : List Knowledge) (tick : ℕ) → shown net (read_by net received) tick ≡ equation net (signals_of received) tick
 shown_by net received tick = go net.part

@@ -1,5 +1,6 @@
 -- A walk over the ticks at which a signal may change finds all of its changes.
-use Rattle.std.proofs.Common.{◌≡◌, ◌≢◌, ℕ, zero, suc, ◌+◌, ◌<◌, ◌≤◌, ◌==◌, nat_lt, Bool, true, false, cond, List, [], ◌∷◌, ◌++◌, All, map, refl, ap, sym, ◌∙◌, subst, arith, append-nil, append_assoc}
+use Rattle.std.proofs.Common.{◌≡◌, ◌≢◌, ℕ, zero, suc, ◌+◌, ◌<◌, ◌≤◌, ◌==◌, nat_lt, Bool, true, false, cond, List, [], ◌∷◌, ◌++◌, All, map, refl, ap, sym, ◌∙◌, subst, arith, append-nil, append_assoc, Result, Ok, Err}
+use Rattle.std.specs.Result.{IfOk}
 use Rattle.std.proofs.lemmas.Bool.{lt-ltb, le-ltb, eqb-true, eqb-false}
 use Rattle.std.proofs.lemmas.List.{map-append}
 use Rattle.std.proofs.lemmas.List.Elements.{All-head, All-tail, All-append}
@@ -160,8 +161,15 @@ news-told signal from to ahead = go (to == from) refl
 pub continued-late : (wave : Wave) (from : ℕ) (signal : ℕ → Value) (tick : ℕ) → from ≤ tick → continued wave from signal tick ≡ signal tick
 continued-late wave from signal tick late = rw (le-ltb tick from late) refl
 
--- where a waveform goes on with equal signals it changes at the same ticks
-pub continued_same : (wave : Wave) (from to : ℕ) (one other : ℕ → Value) → ((tick : ℕ) → one tick ≡ other tick) →
-    changes_between (continued wave from one) from to ≡ changes_between (continued wave from other) from to
-continued_same wave from to one other same =
-    ap (λ (signal : ℕ → Value). changes_between (continued wave from signal) from to) (λ i tick. same tick i)
+-- so are those of a walk, once they tell up to its tick
+pub walked_news : (signal : ℕ → Value) (from to tick told : ℕ) (start wave : Wave) (messages all : List Message) →
+    Walked signal from to tick told start wave messages → all ≡ messages ++ cond (nat_lt told tick) (Null tick ∷ []) [] →
+    all ≡ cond (tick == from) [] (news_of (changes_between signal from tick) tick)
+walked_news signal from to tick told start wave messages all walked is =
+    is ∙ (λ i. walked.messages_are i ++ cond (nat_lt (walked.told_is i) tick) (Null tick ∷ []) [])
+    ∙ sym (news-told signal from tick walked.after)
+
+-- what holds of a call's answer, by two things that hold of it
+pub IfOk-both : {X E : Type 0} (result : Result X E) (P Q R : X → Type 0) → ((x : X) → P x → Q x → R x) → IfOk result P → IfOk result Q → IfOk result R
+IfOk-both (Ok x) P Q R both p q = both x p q
+IfOk-both (Err fault) P Q R both p q = tt

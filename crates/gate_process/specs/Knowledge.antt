@@ -1,5 +1,5 @@
 -- What is known of a net, and what messages tell of it.
-use Rattle.std.specs.Prelude.{◌≡◌, ◌==◌, if◌then◌else◌, ℕ, ◌+◌, ◌-◌, ◌<◌, ◌≤◌, min, List, [], ◌∷◌, ◌++◌, map, All}
+use Rattle.std.specs.Prelude.{◌≡◌, ◌==◌, if◌then◌else◌, ℕ, ◌+◌, ◌-◌, ◌<◌, ◌≤◌, min, List, [], ◌∷◌, ◌++◌, map, All, Option, None, Some}
 use Rattle.logic3.specs.declared.value.Value.{Value}
 use Rattle.logic3.specs.declared.value.Value.TheVariants.{Unknown}
 use Rattle.logic3.specs.Wave.{Wave, IsWave, value_at, changes_between, wave_of}
@@ -38,6 +38,15 @@ seen wire known = record { wave = delayed wire known.wave; frontier = known.fron
 abbrev pub seen_pins : List ℕ → List Knowledge → List Knowledge
 seen_pins (wire ∷ wires) (known ∷ received) = seen wire known ∷ seen_pins wires received
 seen_pins _ _ = []
+
+-- what is known up to a tick shows X from there on; what is known to the end shows no more
+abbrev pub unknown_from : Option ℕ → List Change
+unknown_from None = []
+unknown_from (Some frontier) = record { tick = frontier; value = Unknown } ∷ []
+
+-- what is known of a net as a waveform: from the frontier on it shows X
+abbrev pub as_known : Knowledge → Wave
+as_known known = record { before = known.wave.before; changes = known.wave.changes ++ unknown_from (Some known.frontier) }
 
 -- what is known before anything was told
 abbrev pub nothing_known : Knowledge

@@ -11,13 +11,13 @@ use Rattle.timing_text.specs.declared.timing.Timing.{Timing}
 use Rattle.design.specs.Circuit.{Net}
 use Rattle.design.specs.Samples.{asked_of_part}
 use Rattle.design.specs.Equations.{values_at}
-use Rattle.gate_process.specs.Knowledge.{Knowledge}
+use Rattle.gate_process.specs.Knowledge.{Knowledge, as_known}
 
--- what a net reads: an input its stimuli, else what is known of its pins, as it sees them
+-- what a net reads: an input its stimuli, else what is known of its pins, as it sees them, and X from there on
 abbrev pub read_by_part : Part → Net → List Knowledge → List Wave
 read_by_part Input net received = record { before = Unknown; changes = net.stimuli } ∷ []
-read_by_part (Gate kind) net received = map (λ (known : Knowledge). known.wave) received
-read_by_part Flop net received = map (λ (known : Knowledge). known.wave) received
+read_by_part (Gate kind) net received = map as_known received
+read_by_part Flop net received = map as_known received
 
 abbrev pub read_by : Net → List Knowledge → List Wave
 read_by net received = read_by_part net.part net received
@@ -30,6 +30,12 @@ reads_of_part Flop net = length net.pins
 
 abbrev pub reads : Net → ℕ
 reads net = reads_of_part net.part net
+
+-- how far it can be reckoned at most: a gate to the end, the others as far as all their pins are known
+abbrev pub most_of_part : Part → ℕ → ℕ → ℕ
+most_of_part (Gate kind) end sure = end
+most_of_part Input end sure = sure
+most_of_part Flop end sure = sure
 
 -- the tick of what it reads that decides what it shows at a tick: an input shows its stimuli at once
 abbrev pub read_tick : Part → Timing → ℕ → Option ℕ

@@ -1,8 +1,10 @@
 -- The state of a net's process and its steps.
-use Rattle.std.specs.Prelude.{ℕ, Bool, false, ◌+◌, ◌-◌, nat_lt, ◌==◌, if◌then◌else◌, min, max, List, [], ◌∷◌, map, slice_get, Option, option_map}
+use Rattle.std.specs.Prelude.{ℕ, zero, suc, Bool, false, ◌+◌, ◌-◌, nat_lt, ◌==◌, if◌then◌else◌, min, max, List, [], ◌∷◌, map, slice_get, Option, option_map}
 use Rattle.std.specs.Option.{option_map_or}
 use Rattle.logic3.specs.declared.value.Value.{Value}
+use Rattle.logic3.specs.declared.value.Value.TheVariants.{Unknown}
 use Rattle.logic3.specs.declared.change.Change.{Change}
+use Rattle.logic3.specs.Value.{is_same}
 use Rattle.logic3.specs.Wave.{Wave, value_at, last_value, changes_between}
 use Rattle.netlist.specs.declared.part.Part.{Part}
 use Rattle.netlist.specs.declared.part.Part.TheVariants.{Input, Gate, Flop}
@@ -11,7 +13,7 @@ use Rattle.design.specs.Samples.{first_asker, wire_at}
 use Rattle.design.specs.Equations.{equation}
 use Rattle.cmb_channels.specs.declared.message.Message.{Message}
 use Rattle.cmb_channels.specs.Lists.{update}
-use Rattle.gate_process.specs.Knowledge.{Knowledge, nothing_known, knowledge_of, seen_pins, told, kept_since, forgetting, news_of}
+use Rattle.gate_process.specs.Knowledge.{Knowledge, nothing_known, knowledge_of, seen_pins, as_known, told, kept_since, forgetting, news_of}
 
 -- the least of these and a bound
 abbrev pub least : ℕ → List ℕ → ℕ
@@ -66,12 +68,21 @@ seen_by process = seen_pins process.net.wires process.received
 abbrev pub safe_of : ProcessState → ℕ
 safe_of process = least_or process.end (map (λ (known : Knowledge). known.frontier) (seen_by process))
 
--- how far a net can be reckoned where its pins are known so far: to the first tick that asks for more, but not past the end
+-- how far a net can be reckoned where all its pins are known so far: to the first tick that asks for more, but not past the end
 abbrev pub frontier_of : Net → ℕ → ℕ → ℕ
 frontier_of net end safe = option_map_or (min end) (first_asker net safe) end
 
-abbrev pub next_frontier : ProcessState → ℕ
-next_frontier process = frontier_of process.net process.end (safe_of process)
+-- the first tick, of so many from one on, at which a signal is X; where there is none, the tick behind them
+abbrev pub first_unknown : (ℕ → Value) → ℕ → ℕ → ℕ
+first_unknown signal from zero = from
+first_unknown signal from (suc ticks) = if is_same (signal from) Unknown then from else first_unknown signal (from + 1) ticks
+
+-- a gate is reckoned on where what is known of its pins settles its value: from its frontier on, and from where some pin isn't
+-- known, to the first tick at which it doesn't
+abbrev pub reach_of_part : Part → (ℕ → Value) → ℕ → ℕ → ℕ → ℕ
+reach_of_part (Gate kind) signal end frontier sure = min end (first_unknown signal (max frontier sure) (end - max frontier sure))
+reach_of_part Input signal end frontier sure = sure
+reach_of_part Flop signal end frontier sure = sure
 
 -- from a frontier on a net asks for no tick of the source of the pin at a place before this one
 abbrev pub oldest_asked : Net → ℕ → ℕ → ℕ
@@ -90,9 +101,17 @@ abbrev pub all_kept : ProcessState → ℕ → List Knowledge → List Knowledge
 all_kept process place [] = []
 all_kept process place (received ∷ others) = kept process place received ∷ all_kept process (place + 1) others
 
--- what pins show, as far as it is known
+-- what pins show, as far as it is known, and X from there on
 abbrev pub signals_of : List Knowledge → List (ℕ → Value)
-signals_of received = map (λ (known : Knowledge). value_at known.wave) received
+signals_of received = map (λ (known : Knowledge). value_at (as_known known)) received
+
+-- how far a net is reckoned from a frontier on, where its pins show these signals and all of them are known so far
+abbrev pub reach : Net → ℕ → ℕ → ℕ → List (ℕ → Value) → ℕ
+reach net end frontier safe signals = reach_of_part net.part (equation net signals) end frontier (frontier_of net end safe)
+
+abbrev pub next_frontier : ProcessState → ℕ
+next_frontier process =
+    reach process.net process.end process.known.frontier (safe_of process) (signals_of (seen_by process))
 
 -- what a waveform shows up to a tick, and from there on another signal
 abbrev pub continued : Wave → ℕ → (ℕ → Value) → ℕ → Value

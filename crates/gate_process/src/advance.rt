@@ -1,91 +1,156 @@
 //! The steps of an advance.
-ghost use Rattle.std.specs.Prelude.{◌≡◌, ℕ, ◌+◌, ◌<◌, ◌≤◌, ◌==◌, if◌then◌else◌, [], All, slice_get, Some, length, OnOk, OnErr};
+ghost use Rattle.std.specs.Prelude.{◌≡◌, ◌≢◌, ◌⊎◌, ℕ, ◌+◌, ◌-◌, ◌<◌, ◌≤◌, ◌==◌, nat_lt, true, false, max, if◌then◌else◌, [], ◌∷◌, ◌++◌, All, slice_get, Some, length, IfOk, OnOk, OnErr};
 ghost use Rattle.logic3.specs.declared.value.Value.TheVariants.{Unknown};
 ghost use Rattle.logic3.specs.declared.change.Change.{Change};
 ghost use Rattle.logic3.specs.Wave.{value_at, value_before, last_value, joined, changes_between};
+ghost use Rattle.netlist.specs.declared.part.Part.TheVariants.{Input};
 ghost use Rattle.timing_text.specs.Ranges.{most_ticks};
 ghost use Rattle.design.specs.Equations.{equation};
+ghost use Rattle.cmb_channels.specs.declared.message.Message.TheVariants.{Null};
 ghost use Rattle.gate_process.specs.Knowledge.{Knowledge, seen_pins, news_of, kept_since, keeping};
 ghost use Rattle.gate_process.specs.Reading.{reads, shown};
-ghost use Rattle.gate_process.specs.Step.{signals_of, continued, oldest_asked};
+ghost use Rattle.gate_process.specs.Step.{signals_of, continued, first_unknown, oldest_asked, reach_of_part};
 
 use crate::cursor::Cursor;
 use crate::own_net::OwnNet;
 use crate::received::{Received, cursors_of};
 use cmb_channels::Message;
-use logic3::{Change, Waveform};
+use logic3::{Change, Value, Waveform};
 use std::alloc::AllocError;
 
+/// The ticks at which a net is reckoned: those from its frontier on; up to where all its pins are known,
+/// and, if it is a gate, on from there, but never past the end.
+#[derive(Clone, Copy, Debug)]
+pub struct Span {
+    pub from: u64,
+    pub sure: u64,
+    pub end: u64,
+}
+
 /// Carries a net's waveform on by its equation, and puts the messages that tell of it into the list.
+/// Answers how far that is: as far as what is known of its pins leads.
 ///
 /// It looks at a tick only where a pin's change or a stimulus may show, so ticks between cost nothing.
-/// Where there are no ticks it takes no memory.
+/// Where it stays it takes no memory.
 pub fn extend(
     net: &OwnNet<'_>,
     received: &[Received],
-    from: u64,
-    to: u64,
+    span: Span,
     wave: &mut Waveform,
     messages: &mut Vec<Message>,
-) -> Result<(), AllocError>
+) -> Result<u64, AllocError>
     requires empty { messages.old.items ≡ [] }
     requires pins { length received.now ≡ length net.now.pins }
-    requires ahead { from ≤ to }
-    requires end { to ≤ most_ticks + 1 }
-    requires past { All (λ (change : Change). change.tick < from) wave.old.changes }
-    requires last { last_value wave.old ≡ value_before (value_at wave.old) from }
-    ensures wave { OnOk result (wave.new ≡ joined wave.old (changes_between
-        (continued wave.old from (equation net.now (signals_of (seen_pins net.now.wires received.now)))) from to)) }
-    ensures news { OnOk result (messages.new.items ≡ (if to == from then [] else news_of (changes_between
-        (continued wave.old from (equation net.now (signals_of (seen_pins net.now.wires received.now)))) from to) to)) }
-    ensures memory { OnErr result (from < to) }
+    requires sure { span.sure ≤ span.end }
+    requires end { span.end ≤ most_ticks + 1 }
+    requires inputs { net.now.part ≡ Input → span.sure ≡ span.end }
+    requires ahead { span.from ≤ reach_of_part net.now.part
+        (equation net.now (signals_of (seen_pins net.now.wires received.now))) span.end span.from span.sure }
+    requires past { All (λ (change : Change). change.tick < span.from) wave.old.changes }
+    requires last { last_value wave.old ≡ value_before (value_at wave.old) span.from }
+    ensures to { IfOk result (λ to. to ≡ reach_of_part net.now.part
+        (equation net.now (signals_of (seen_pins net.now.wires received.now))) span.end span.from span.sure) }
+    ensures wave { IfOk result (λ to. wave.new ≡ joined wave.old (changes_between
+        (continued wave.old span.from (equation net.now (signals_of (seen_pins net.now.wires received.now)))) span.from to)) }
+    ensures news { IfOk result (λ to. messages.new.items ≡ (if to == span.from then [] else news_of (changes_between
+        (continued wave.old span.from (equation net.now (signals_of (seen_pins net.now.wires received.now)))) span.from to) to)) }
+    ensures memory { OnErr result (span.from < reach_of_part net.now.part
+        (equation net.now (signals_of (seen_pins net.now.wires received.now))) span.end span.from span.sure) }
 {
-    if from == to {
-        return Ok(());
+    let most = net.most(span.end, span.sure);
+    if stays(net, received, span, most) {
+        return Ok(span.from);
     }
+    reckon(net, received, span, most, wave, messages)
+}
+
+/// Carries a net's waveform on by its equation, and puts the messages that tell of it into the list.
+/// Answers how far that is: to the first tick of X, where not all pins are known.
+fn reckon(
+    net: &OwnNet<'_>,
+    received: &[Received],
+    span: Span,
+    most: u64,
+    wave: &mut Waveform,
+    messages: &mut Vec<Message>,
+) -> Result<u64, AllocError>
+    requires empty { messages.old.items ≡ [] }
+    requires pins { length received.now ≡ length net.now.pins }
+    requires ahead { span.from ≤ most }
+    requires sure { span.sure ≤ most }
+    requires end { most ≤ most_ticks + 1 }
+    requires past { All (λ (change : Change). change.tick < span.from) wave.old.changes }
+    requires last { last_value wave.old ≡ value_before (value_at wave.old) span.from }
+    ensures to { IfOk result (λ to. to ≡ first_unknown (equation net.now (signals_of (seen_pins net.now.wires received.now)))
+        (max span.from span.sure) (most - max span.from span.sure)) }
+    ensures wave { IfOk result (λ to. wave.new ≡ joined wave.old (changes_between
+        (continued wave.old span.from (equation net.now (signals_of (seen_pins net.now.wires received.now)))) span.from to)) }
+    ensures news { IfOk result (λ to. messages.new.items ≡ (if to == span.from then [] else news_of (changes_between
+        (continued wave.old span.from (equation net.now (signals_of (seen_pins net.now.wires received.now)))) span.from to) to)) }
+{
     let wires = net.wires();
     // Most gates have one pin or two, and these want no list of cursors. An input alone has none.
     match received {
-        [] => walk(net, &mut [net.stimuli()], from, to, wave, messages)?,
-        [pin] => walk(net, &mut [pin.cursor(wires[0])], from, to, wave, messages)?,
+        [] => walk(net, &mut [net.stimuli()], span, most, wave, messages),
+        [pin] => walk(net, &mut [pin.cursor(wires[0])], span, most, wave, messages),
         [first, second] => {
             let mut cursors = [first.cursor(wires[0]), second.cursor(wires[1])];
-            walk(net, &mut cursors, from, to, wave, messages)?;
+            walk(net, &mut cursors, span, most, wave, messages)
         }
         _ => {
             let mut cursors = cursors_of(*messages.allocator(), received, wires)?;
-            walk(net, cursors.as_mut_slice(), from, to, wave, messages)?;
+            walk(net, cursors.as_mut_slice(), span, most, wave, messages)
         }
     }
-    Ok(())
+}
+
+/// Whether a net can't be reckoned past its frontier.
+fn stays(net: &OwnNet<'_>, received: &[Received], span: Span, most: u64) -> bool
+    requires pins { length received.now ≡ length net.now.pins }
+    requires inputs { net.now.part ≡ Input → most ≤ span.sure }
+    ensures yes { result ≡ true → (most ≤ span.from) ⊎ ((span.sure ≤ span.from) ×
+        (equation net.now (signals_of (seen_pins net.now.wires received.now)) span.from ≡ Unknown)) }
+    ensures no { result ≡ false → (span.from < most) × ((span.from < span.sure) ⊎
+        (equation net.now (signals_of (seen_pins net.now.wires received.now)) span.from ≢ Unknown)) }
+{
+    if span.from >= most {
+        return true;
+    }
+    span.sure <= span.from && net.shows(received, span.from) == Value::Unknown
 }
 
 /// Carries a net's waveform on by what the net shows of what it reads, and puts the messages that tell
-/// of it into the list.
+/// of it into the list. Answers how far that is: to the first tick of X, where not all pins are known.
 fn walk(
     net: &OwnNet<'_>,
     read: &mut [Cursor<'_>],
-    from: u64,
-    to: u64,
+    span: Span,
+    most: u64,
     wave: &mut Waveform,
     messages: &mut Vec<Message>,
-) -> Result<(), AllocError>
+) -> Result<u64, AllocError>
     requires empty { messages.old.items ≡ [] }
     requires read { length read.old ≡ reads net.now }
-    requires ahead { from ≤ to }
-    requires end { to ≤ most_ticks + 1 }
-    requires past { All (λ (change : Change). change.tick < from) wave.old.changes }
-    requires last { last_value wave.old ≡ value_before (value_at wave.old) from }
-    ensures wave { OnOk result (wave.new ≡ joined wave.old
-        (changes_between (continued wave.old from (shown net.now read.old)) from to)) }
-    ensures news { OnOk result (messages.new.items ≡ (if to == from then [] else
-        news_of (changes_between (continued wave.old from (shown net.now read.old)) from to) to)) }
+    requires ahead { span.from ≤ most }
+    requires sure { span.sure ≤ most }
+    requires end { most ≤ most_ticks + 1 }
+    requires past { All (λ (change : Change). change.tick < span.from) wave.old.changes }
+    requires last { last_value wave.old ≡ value_before (value_at wave.old) span.from }
+    ensures to { IfOk result (λ to. to ≡
+        first_unknown (shown net.now read.old) (max span.from span.sure) (most - max span.from span.sure)) }
+    ensures wave { IfOk result (λ to. wave.new ≡ joined wave.old
+        (changes_between (continued wave.old span.from (shown net.now read.old)) span.from to)) }
+    ensures news { IfOk result (λ to. messages.new.items ≡ (if to == span.from then [] else
+        news_of (changes_between (continued wave.old span.from (shown net.now read.old)) span.from to) to)) }
 {
     // The messages so far tell of the net up to here.
-    let mut told = from;
-    let mut tick = from;
-    while tick < to {
-        let look = net.look(read, tick, to);
+    let mut told = span.from;
+    let mut tick = span.from;
+    while tick < most {
+        let look = net.look(read, tick, limit_at(tick, span.sure, most));
+        if waits(span.sure, tick, look.value) {
+            return tell_up_to(tick, told, messages);
+        }
         if look.value != wave.last_value() {
             let change = Change {
                 tick: tick as u32,
@@ -97,10 +162,40 @@ fn walk(
         }
         tick = look.until;
     }
-    if told < to {
-        messages.push(Message::Null(to))?;
+    tell_up_to(tick, told, messages)
+}
+
+/// Up to where a net is looked at from a tick on: to where not all of its pins are known, and then as far
+/// as it can be reckoned at most.
+fn limit_at(tick: u64, sure: u64, most: u64) -> u64
+    requires before { tick < most }
+    requires sure { sure ≤ most }
+    ensures above { tick < result }
+    ensures within { result ≤ most }
+    ensures sure { tick < sure → result ≡ sure }
+{
+    if tick < sure { sure } else { most }
+}
+
+/// Whether a net waits at a tick at which it would show this value: not all of its pins are known, and
+/// those that are don't settle what it shows.
+fn waits(sure: u64, tick: u64, value: Value) -> bool
+    ensures yes { result ≡ true → (sure ≤ tick) × (value ≡ Unknown) }
+    ensures no { result ≡ false → (tick < sure) ⊎ (value ≢ Unknown) }
+{
+    sure <= tick && value == Value::Unknown
+}
+
+/// Tells that the net is known up to a tick, where what was told so far doesn't say so, and answers it.
+fn tell_up_to(tick: u64, told: u64, messages: &mut Vec<Message>) -> Result<u64, AllocError>
+    ensures to { IfOk result (λ to. to ≡ tick) }
+    ensures messages { OnOk result (messages.new.items ≡
+        messages.old.items ++ (if nat_lt told tick then Null tick ∷ [] else [])) }
+{
+    if told < tick {
+        messages.push(Message::Null(tick))?;
     }
-    Ok(())
+    Ok(tick)
 }
 
 /// Forgets at each pin what is before the oldest tick of its source that the net asks for from a frontier

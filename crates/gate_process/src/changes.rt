@@ -1,4 +1,5 @@
-ghost use Rattle.std.specs.Prelude.{◌≡◌, ◌+◌, ◌≤◌, length, nat_le, nat_lt};
+ghost use Rattle.std.specs.Prelude.{◌≡◌, ◌+◌, ◌≤◌, false, length, nat_le, nat_lt};
+ghost use Rattle.std.specs.Option.{option_map_or};
 ghost use Rattle.std.specs.List.{prefix_len};
 ghost use Rattle.logic3.specs.declared.change.Change.{Change};
 ghost use Rattle.logic3.specs.Wave.{value_in_the_end};
@@ -10,6 +11,16 @@ pub fn seen_tick(change: Change, wire: u32) -> u64
     ensures { result ≡ change.tick + wire }
 {
     u64::from(change.tick) + u64::from(wire)
+}
+
+/// Whether the tick from which on nothing is known, where there is one, is seen up to this tick.
+pub fn is_unknown_at(unknown: Option<u32>, wire: u32, tick: u64) -> bool
+    ensures { result ≡ option_map_or (λ from. nat_le (from + wire) tick) unknown false }
+{
+    match unknown {
+        Some(from) => u64::from(from) + u64::from(wire) <= tick,
+        None => false,
+    }
 }
 
 /// The value of the last of the changes, else the value before them.

@@ -1,13 +1,13 @@
 //! Walks along changes.
-ghost use Rattle.std.specs.Prelude.{◌≡◌, ℕ, ◌<◌, ◌≤◌, All, length, map};
+ghost use Rattle.std.specs.Prelude.{◌≡◌, ℕ, ◌<◌, ◌≤◌, ◌++◌, All, length, map, option_map, slice_get};
 ghost use Rattle.logic3.specs.declared.change.Change.{Change};
 ghost use Rattle.logic3.specs.Rising.{TicksRise};
 ghost use Rattle.logic3.specs.Summary.{summary_of};
 ghost use Rattle.logic3.specs.Wave.{value_at};
 ghost use Rattle.design.specs.Equations.{values_at};
-ghost use Rattle.gate_process.specs.Knowledge.{delayed};
+ghost use Rattle.gate_process.specs.Knowledge.{delayed, unknown_from};
 
-use crate::changes::{due_changes, last_value, seen_tick};
+use crate::changes::{due_changes, is_unknown_at, last_value, seen_tick};
 use logic3::{Change, Summary, Value};
 use std::marker::Model;
 
@@ -24,19 +24,22 @@ pub struct Cursor<'c> {
     value: Value,
     // The changes that are left, at their source's ticks.
     later: &'c [Change],
+    // Behind them, the source's tick from which on X is shown, since nothing is known from there on.
+    unknown: Option<u32>,
     wire: u32,
 }
 
 impl<'c> Model for Cursor<'c> {
     ghost use Rattle.logic3.specs.Rising.{TicksRise};
     ghost use Rattle.logic3.specs.Wave.{Wave};
-    ghost use Rattle.gate_process.specs.Knowledge.{delayed};
+    ghost use Rattle.std.specs.Prelude.{◌++◌};
+    ghost use Rattle.gate_process.specs.Knowledge.{delayed, unknown_from};
 
     ghost Value = { Wave };
 
-    ghost view = { λ c. delayed c.wire (record { before = c.value; changes = c.later.now }) };
+    ghost view = { λ c. delayed c.wire (record { before = c.value; changes = c.later.now ++ unknown_from c.unknown }) };
 
-    ghost invariant = { λ c. TicksRise c.later.now };
+    ghost invariant = { λ c. TicksRise (c.later.now ++ unknown_from c.unknown) };
 }
 
 impl<'c> Default for Cursor<'c> {
@@ -46,19 +49,21 @@ impl<'c> Default for Cursor<'c> {
     ghost is_default = { λ c. c ≡ record { before = Unknown; changes = [] } };
 
     fn default() -> Cursor<'c> {
-        Cursor::new(Value::Unknown, Default::default(), 0)
+        Cursor::new(Value::Unknown, Default::default(), None, 0)
     }
 }
 
 impl<'c> Cursor<'c> {
-    /// Before all of the changes, which are seen later by the delay of the wire.
-    pub fn new(before: Value, changes: &'c [Change], wire: u32) -> Cursor<'c>
-        requires { TicksRise changes.now }
-        ensures { result ≡ delayed wire (record { before = before; changes = changes.now }) }
+    /// Before all of the changes, which are seen later by the delay of the wire, and before the tick from
+    /// which on nothing is known, where there is one.
+    pub fn new(before: Value, changes: &'c [Change], unknown: Option<u32>, wire: u32) -> Cursor<'c>
+        requires { TicksRise (changes.now ++ unknown_from unknown) }
+        ensures { result ≡ delayed wire (record { before = before; changes = changes.now ++ unknown_from unknown }) }
     {
         Cursor {
             value: before,
             later: changes,
+            unknown,
             wire,
         }
     }
@@ -69,6 +74,11 @@ impl<'c> Cursor<'c> {
         ensures left { (t : ℕ) → tick ≤ t → value_at self.new t ≡ value_at self.old t }
         ensures passed { All (λ (change : Change). tick < change.tick) self.new.changes }
     {
+        if is_unknown_at(self.unknown, self.wire, tick) {
+            // Nothing is left but X.
+            *self = Cursor::default();
+            return Value::Unknown;
+        }
         let due = due_changes(self.later, self.wire, tick);
         self.value = last_value(self.value, &self.later[..due]);
         self.later = &self.later[due..];
@@ -82,9 +92,20 @@ impl<'c> Cursor<'c> {
         ensures within { result ≤ limit }
         ensures steady { (t : ℕ) → t < result → value_at self.now t ≡ self.now.before }
     {
-        match self.later.first() {
-            Some(change) => limit.min(seen_tick(*change, self.wire)),
+        match self.first_change() {
+            Some(first) => limit.min(first),
             None => limit,
+        }
+    }
+
+    /// The tick at which the first change that is left is seen.
+    fn first_change(&self) -> Option<u64>
+        ensures tick { result ≡ option_map (λ (change : Change). change.tick) (slice_get self.now.changes 0) }
+        ensures rise { TicksRise self.now.changes }
+    {
+        match self.later.first() {
+            Some(change) => Some(seen_tick(*change, self.wire)),
+            None => Some(u64::from(self.unknown?) + u64::from(self.wire)),
         }
     }
 }

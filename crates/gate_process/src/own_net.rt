@@ -1,15 +1,19 @@
-ghost use Rattle.std.specs.Prelude.{◌≡◌, ℕ, ◌+◌, ◌<◌, ◌≤◌, min, List, length, slice_get, Some};
+ghost use Rattle.std.specs.Prelude.{◌≡◌, ◌≢◌, ℕ, ◌+◌, ◌<◌, ◌≤◌, min, List, length, slice_get, Some};
 ghost use Rattle.std.specs.Option.{option_map_or};
 ghost use Rattle.logic3.specs.declared.value.Value.{Value};
 ghost use Rattle.logic3.specs.declared.value.Value.TheVariants.{Unknown};
 ghost use Rattle.logic3.specs.Summary.{summary_of};
+ghost use Rattle.netlist.specs.declared.part.Part.TheVariants.{Input};
 ghost use Rattle.timing_text.specs.Ranges.{most_delay, most_ticks};
 ghost use Rattle.design.specs.Samples.{first_asker};
-ghost use Rattle.gate_process.specs.Reading.{reads, read_tick, made_of, shown};
-ghost use Rattle.gate_process.specs.Step.{frontier_of, oldest_asked};
+ghost use Rattle.design.specs.Equations.{equation};
+ghost use Rattle.gate_process.specs.Knowledge.{seen_pins};
+ghost use Rattle.gate_process.specs.Reading.{reads, read_tick, made_of, shown, most_of_part};
+ghost use Rattle.gate_process.specs.Step.{frontier_of, oldest_asked, signals_of};
 ghost use Rattle.gate_process.specs.Truth.{IsNet};
 
 use crate::cursor::{Cursor, read_at};
+use crate::received::{Received, seen_at};
 use design::{Design, asked_tick, first_asker};
 use logic3::{Change, Summary, Value};
 use netlist::Part;
@@ -105,8 +109,8 @@ impl<'d> OwnNet<'d> {
             .saturating_sub(u64::from(self.wires[place]))
     }
 
-    /// How far the net can be reckoned where its pins are known so far, as it sees them.
-    pub fn next_frontier(&self, end: u64, safe: u64) -> u64
+    /// How far the net can be reckoned where all its pins are known so far, as it sees them.
+    pub fn sure_frontier(&self, end: u64, safe: u64) -> u64
         requires end { end ≤ most_ticks + 1 }
         requires safe { safe ≤ most_ticks + 1 + most_delay }
         ensures { result ≡ frontier_of self.now end safe }
@@ -117,11 +121,21 @@ impl<'d> OwnNet<'d> {
         }
     }
 
+    /// How far it can be reckoned at most, where it is known how far all its pins lead.
+    pub fn most(&self, end: u64, sure: u64) -> u64
+        ensures { result ≡ most_of_part self.now.part end sure }
+    {
+        match self.part {
+            Part::Gate(_) => end,
+            _ => sure,
+        }
+    }
+
     /// What an input shows, before any tick.
     pub fn stimuli(&self) -> Cursor<'_>
         ensures { result ≡ record { before = Unknown; changes = self.now.stimuli } }
     {
-        Cursor::new(Value::Unknown, self.stimuli, 0)
+        Cursor::new(Value::Unknown, self.stimuli, None, 0)
     }
 
     /// What the net shows at a tick of what it reads, and up to where it stays, at most up to the limit.
@@ -150,6 +164,18 @@ impl<'d> OwnNet<'d> {
         Look {
             value: self.made_of(&reading.pins),
             until: self.until(reading.next, limit),
+        }
+    }
+
+    /// What a net that is no input shows at a tick of what was received at its pins. Takes no memory.
+    pub fn shows(&self, received: &[Received], tick: u64) -> Value
+        requires pins { length received.now ≡ length self.now.pins }
+        requires not_input { self.now.part ≢ Input }
+        ensures { result ≡ equation self.now (signals_of (seen_pins self.now.wires received.now)) tick }
+    {
+        match self.read_tick(tick) {
+            Some(at) => self.made_of(&seen_at(received, self.wires, at)),
+            None => self.timing.initial,
         }
     }
 

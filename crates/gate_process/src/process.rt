@@ -4,7 +4,7 @@ ghost use Rattle.gate_process.specs.Step.{running, started_process, pin_frontier
 ghost use Rattle.gate_process.specs.Quiet.{IsQuiet};
 ghost use Rattle.gate_process.specs.Truth.{IsProcess, CanHear};
 
-use crate::advance::{extend, keep_all};
+use crate::advance::{Span, extend, keep_all};
 use crate::own_net::OwnNet;
 use crate::received::{Received, least_frontier, nothing_received};
 use cmb_channels::Message;
@@ -108,9 +108,13 @@ impl<'d> Process<'d> {
         Ok(())
     }
 
-    /// Reckons the net as far as its pins are known, and puts the messages that tell of it in the place
-    /// of what the list held: each change, in order, and at the end a null message where no change comes
-    /// at the last tick. Each raises what is known of the net, so there is none where the frontier stays.
+    /// Reckons the net as far as what is known of its pins leads, and puts the messages that tell of it in
+    /// the place of what the list held: each change, in order, and at the end a null message where no
+    /// change comes at the last tick. Each raises what is known of the net, so there is none where the
+    /// frontier stays.
+    ///
+    /// A gate doesn't wait for all of its pins: where those that are known settle its value, as a 0 does at
+    /// an AND, it looks ahead to the first tick at which they don't.
     ///
     /// The cost grows with the changes and the pins, not with the ticks. Where the frontier stays, it
     /// takes no memory. After an `AllocError` the process has failed.
@@ -125,14 +129,17 @@ impl<'d> Process<'d> {
     {
         messages.clear();
         let safe = least_frontier(self.end, self.received.as_slice(), self.net.wires());
-        let to = self.net.next_frontier(self.end, safe);
+        let sure = self.net.sure_frontier(self.end, safe);
 
         self.failed = true;
-        extend(
+        let to = extend(
             &self.net,
             self.received.as_slice(),
-            self.frontier,
-            to,
+            Span {
+                from: self.frontier,
+                sure,
+                end: self.end,
+            },
             &mut self.wave,
             messages,
         )?;

@@ -1,15 +1,17 @@
 ghost use Rattle.std.specs.Prelude.{◌≡◌, true, ℕ, ◌+◌, ◌<◌, ◌≤◌, length, map, replicate, IfOk, OnOk, OnErr};
 ghost use Rattle.logic3.specs.declared.value.Value.TheVariants.{Unknown};
+ghost use Rattle.logic3.specs.Summary.{summary_of};
 ghost use Rattle.logic3.specs.Wave.{IsWave, last_value};
 ghost use Rattle.timing_text.specs.Ranges.{most_delay, most_ticks, HasWires};
+ghost use Rattle.design.specs.Equations.{values_at};
 ghost use Rattle.cmb_channels.specs.Kinds.{is_change};
-ghost use Rattle.gate_process.specs.Knowledge.{Knowledge, delayed, seen_pins, nothing_known, told, kept_since, forgetting, keeping};
-ghost use Rattle.gate_process.specs.Step.{least_or};
+ghost use Rattle.gate_process.specs.Knowledge.{Knowledge, seen, seen_pins, as_known, nothing_known, told, kept_since, forgetting, keeping};
+ghost use Rattle.gate_process.specs.Step.{least_or, signals_of};
 
 use crate::changes::{early_changes, last_value};
 use crate::cursor::{Cursor, FEW};
 use cmb_channels::Message;
-use logic3::{ChangeQueue, Value};
+use logic3::{ChangeQueue, Summary, Value};
 use smallvec::SmallVec;
 use std::alloc::{AllocError, Global};
 use std::marker::Model;
@@ -95,11 +97,13 @@ impl Received {
         self.changes.drop_front(early);
     }
 
-    /// Before all of the changes that are kept, which are seen later by the delay of the wire.
+    /// Before all of the changes that are kept, which are seen later by the delay of the wire; from where
+    /// nothing is known X is seen.
     pub fn cursor(&self, wire: u32) -> Cursor<'_>
-        ensures { result ≡ delayed wire self.now.wave }
+        ensures { result ≡ as_known (seen wire self.now) }
     {
-        Cursor::new(self.before, self.changes.as_slice(), wire)
+        let unknown = Some(self.frontier as u32);
+        Cursor::new(self.before, self.changes.as_slice(), unknown, wire)
     }
 
     /// The value of the last change, X where there was none.
@@ -128,14 +132,25 @@ pub fn cursors_of<'r>(
     wires: &[u32],
 ) -> Result<SmallVec<Cursor<'r>, FEW>, AllocError>
     requires { length wires.now ≡ length received.now }
-    ensures { IfOk result (λ cursors. cursors.items ≡
-        map (λ (known : Knowledge). known.wave) (seen_pins wires.now received.now)) }
+    ensures { IfOk result (λ cursors. cursors.items ≡ map as_known (seen_pins wires.now received.now)) }
 {
     let mut cursors = SmallVec::new(alloc);
     for (place, pin) in received.iter().enumerate() {
         cursors.push(pin.cursor(wires[place]))?;
     }
     Ok(cursors)
+}
+
+/// What these pins show at a tick, each with its wire, as far as it is known.
+pub fn seen_at(received: &[Received], wires: &[u32], tick: u64) -> Summary
+    requires { length wires.now ≡ length received.now }
+    ensures { result ≡ summary_of (values_at tick (signals_of (seen_pins wires.now received.now))) }
+{
+    let mut pins = Summary::new();
+    for (place, pin) in received.iter().enumerate() {
+        pins.add(pin.cursor(wires[place]).go_to(tick));
+    }
+    pins
 }
 
 /// The least of the pins' frontiers, each seen later by the delay of its wire; of no pins what stands for

@@ -1,91 +1,30 @@
-use Rattle.std.proofs.Common.{◌≡◌, ◌∷◌, [], ap, ◌∙◌, arith}
-use Rattle.logic3.specs.Wave.{Wave}
+use Rattle.std.proofs.Common.{◌≡◌, ◌-◌, max, ap, ◌∙◌}
+use Rattle.std.proofs.lemmas.Result.{IfOk-weaker}
+use Rattle.logic3.proofs.CallerLemmas.{OnErr_always}
+use Rattle.design.specs.Equations.{equation}
 use Rattle.gate_process.specs.Knowledge.{seen_pins}
-use Rattle.gate_process.specs.Reading.{read_by}
-use Rattle.gate_process.proofs.ReadBy.{stimuli_read, one_read, two_read, all_read, count_read, wave_goes_on, news_tell_of_it}
+use Rattle.gate_process.specs.Reading.{most_of_part}
+use Rattle.gate_process.specs.Step.{signals_of, first_unknown}
+use Rattle.gate_process.proofs.Reach.{most-sure, most-end, reach-stays, reach-moves, reach-walked}
 use Rattle.gate_process.proofs.advance.extend.Goals as goal
-use Rattle.gate_process.proofs.advance.extend.Goals.{After-stimuli, After-cursor, After-cursor-in-len2-2, After-as_mut_slice}
 
--- ---- what is read, by how many pins there are
+pub returns-then-stays-clause-to : goal.returns-then-stays-clause-to
+returns-then-stays-clause-to c =
+    reach-stays (equation c.args.net.now (signals_of (seen_pins c.args.net.now.wires c.args.received.now))) c.args.span.end c.args.span.from
+    c.args.span.sure c.requires.sure c.args.net.now.part c.requires.ahead (rw (← c.most-most.ensures) (c.stays.ensures.yes c.if-stays.true))
 
-none : (c : After-stimuli) → (c.stimuli.result ∷ []) ≡ read_by c.args.net.now (seen_pins c.args.net.now.wires c.args.received.now)
-none c =
-    ap (λ (w : Wave). w ∷ []) c.stimuli.ensures
-    ∙ stimuli_read c.args.net.now c.args.received.now c.wires-wires.ensures.well_formed c.requires.pins c.in-empty.len_below
+pub returns-clause-to : goal.returns-clause-to
+returns-clause-to c =
+    IfOk-weaker c.reckon.result _ _ (λ to reckoned.
+    reckoned
+    ∙ ap (λ most. first_unknown (equation c.args.net.now (signals_of (seen_pins c.args.net.now.wires c.args.received.now)))
+    (max c.args.span.from c.args.span.sure) (most - max c.args.span.from c.args.span.sure)) c.most-most.ensures
+    ∙ reach-walked (equation c.args.net.now (signals_of (seen_pins c.args.net.now.wires c.args.received.now))) c.args.span.end c.args.span.from
+    c.args.span.sure c.requires.sure c.args.net.now.part c.requires.ahead) c.reckon.ensures.to
 
-one : (c : After-cursor) → (c.cursor.result ∷ []) ≡ read_by c.args.net.now (seen_pins c.args.net.now.wires c.args.received.now)
-one c =
-    ap (λ (w : Wave). w ∷ []) c.cursor.ensures
-    ∙ one_read c.args.net.now c.args.received.now c.wires-wires.ensures.well_formed c.requires.pins c.wires-wires.result.now c.wires-wires.ensures.wires
-    c.pin-item.result c.in-len1.len_at_least c.in-len1.len_below c.pin-item.is
-
-two : (c : After-cursor-in-len2-2) → (c.cursor-in-len2.result ∷ c.cursor-in-len2-2.result ∷ [])
-    ≡ read_by c.args.net.now (seen_pins c.args.net.now.wires c.args.received.now)
-two c =
-    (λ i. c.cursor-in-len2.ensures i ∷ c.cursor-in-len2-2.ensures i ∷ [])
-    ∙ two_read c.args.net.now c.args.received.now c.wires-wires.ensures.well_formed c.requires.pins c.wires-wires.result.now c.wires-wires.ensures.wires
-    c.first-item.result c.second-item.result c.in-len2.len_at_least c.in-len2.len_below c.first-item.is c.second-item.is
-
-more : (c : After-as_mut_slice) → c.as_mut_slice.result.now ≡ read_by c.args.net.now (seen_pins c.args.net.now.wires c.args.received.now)
-more c =
-    c.as_mut_slice.ensures.value ∙ c.in_ok-cursors-in_default.ensures
-    ∙ all_read c.args.net.now c.args.received.now c.wires-wires.ensures.well_formed c.requires.pins c.wires-wires.result.now c.wires-wires.ensures.wires
-    (let some = c.in_default.len_at_least in omega arith)
-
-pub walk-requires-clause-read : goal.walk-requires-clause-read
-walk-requires-clause-read c =
-    count_read c.args.net.now c.args.received.now c.wires-wires.ensures.well_formed c.requires.pins _ (none (goal.at.walk-requires-clause-read c).After-stimuli)
-
-pub walk-requires-in-len1-clause-read : goal.walk-requires-in-len1-clause-read
-walk-requires-in-len1-clause-read c =
-    count_read c.args.net.now c.args.received.now c.wires-wires.ensures.well_formed c.requires.pins _ (one (goal.at.walk-requires-in-len1-clause-read c).After-cursor)
-
-pub walk-requires-in-len2-clause-read : goal.walk-requires-in-len2-clause-read
-walk-requires-in-len2-clause-read c =
-    count_read c.args.net.now c.args.received.now c.wires-wires.ensures.well_formed c.requires.pins _ (two (goal.at.walk-requires-in-len2-clause-read c).After-cursor-in-len2-2)
-
-pub walk-requires-in_default-clause-read : goal.walk-requires-in_default-clause-read
-walk-requires-in_default-clause-read c =
-    count_read c.args.net.now c.args.received.now c.wires-wires.ensures.well_formed c.requires.pins _ (more (goal.at.walk-requires-in_default-clause-read c).After-as_mut_slice)
-
--- ---- what comes of it
-
-pub returns-in_ok-walk-in-empty-clause-wave : goal.returns-in_ok-walk-in-empty-clause-wave
-returns-in_ok-walk-in-empty-clause-wave c =
-    wave_goes_on c.args.net.now (seen_pins c.args.net.now.wires c.args.received.now) _ (none (goal.at.returns-in_ok-walk-in-empty-clause-wave c).After-stimuli)
-    c.args.wave.now c.args.from c.args.to _ c.in_ok-walk-in-empty.ensures.wave
-
-pub returns-in_ok-walk-in-empty-clause-news : goal.returns-in_ok-walk-in-empty-clause-news
-returns-in_ok-walk-in-empty-clause-news c =
-    news_tell_of_it c.args.net.now (seen_pins c.args.net.now.wires c.args.received.now) _ (none (goal.at.returns-in_ok-walk-in-empty-clause-news c).After-stimuli)
-    c.args.wave.now c.args.from c.args.to _ c.in_ok-walk-in-empty.ensures.news
-
-pub returns-in_ok-walk-in-len1-clause-wave : goal.returns-in_ok-walk-in-len1-clause-wave
-returns-in_ok-walk-in-len1-clause-wave c =
-    wave_goes_on c.args.net.now (seen_pins c.args.net.now.wires c.args.received.now) _ (one (goal.at.returns-in_ok-walk-in-len1-clause-wave c).After-cursor)
-    c.args.wave.now c.args.from c.args.to _ c.in_ok-walk-in-len1.ensures.wave
-
-pub returns-in_ok-walk-in-len1-clause-news : goal.returns-in_ok-walk-in-len1-clause-news
-returns-in_ok-walk-in-len1-clause-news c =
-    news_tell_of_it c.args.net.now (seen_pins c.args.net.now.wires c.args.received.now) _ (one (goal.at.returns-in_ok-walk-in-len1-clause-news c).After-cursor)
-    c.args.wave.now c.args.from c.args.to _ c.in_ok-walk-in-len1.ensures.news
-
-pub returns-in_ok-walk-in-len2-clause-wave : goal.returns-in_ok-walk-in-len2-clause-wave
-returns-in_ok-walk-in-len2-clause-wave c =
-    wave_goes_on c.args.net.now (seen_pins c.args.net.now.wires c.args.received.now) _ (two (goal.at.returns-in_ok-walk-in-len2-clause-wave c).After-cursor-in-len2-2)
-    c.args.wave.now c.args.from c.args.to _ c.in_ok-walk-in-len2.ensures.wave
-
-pub returns-in_ok-walk-in-len2-clause-news : goal.returns-in_ok-walk-in-len2-clause-news
-returns-in_ok-walk-in-len2-clause-news c =
-    news_tell_of_it c.args.net.now (seen_pins c.args.net.now.wires c.args.received.now) _ (two (goal.at.returns-in_ok-walk-in-len2-clause-news c).After-cursor-in-len2-2)
-    c.args.wave.now c.args.from c.args.to _ c.in_ok-walk-in-len2.ensures.news
-
-pub returns-in_ok-walk-in_default-clause-wave : goal.returns-in_ok-walk-in_default-clause-wave
-returns-in_ok-walk-in_default-clause-wave c =
-    wave_goes_on c.args.net.now (seen_pins c.args.net.now.wires c.args.received.now) _ (more (goal.at.returns-in_ok-walk-in_default-clause-wave c).After-as_mut_slice)
-    c.args.wave.now c.args.from c.args.to _ c.in_ok-walk-in_default.ensures.wave
-
-pub returns-in_ok-walk-in_default-clause-news : goal.returns-in_ok-walk-in_default-clause-news
-returns-in_ok-walk-in_default-clause-news c =
-    news_tell_of_it c.args.net.now (seen_pins c.args.net.now.wires c.args.received.now) _ (more (goal.at.returns-in_ok-walk-in_default-clause-news c).After-as_mut_slice)
-    c.args.wave.now c.args.from c.args.to _ c.in_ok-walk-in_default.ensures.news
+pub returns-clause-memory : goal.returns-clause-memory
+returns-clause-memory c =
+    let goes_on = c.stays.ensures.no c.if-stays.false in
+    OnErr_always c.reckon.result
+    (reach-moves (equation c.args.net.now (signals_of (seen_pins c.args.net.now.wires c.args.received.now))) c.args.span.end c.args.span.from
+    c.args.span.sure c.requires.sure c.args.net.now.part (rw (← c.most-most.ensures) goes_on.0) goes_on.1)

@@ -1,35 +1,38 @@
-use Rattle.std.proofs.Common.{◌≡◌, ◌≢◌, ℕ, ◌<◌, ◌≤◌, refl, ap, sym, ◌∙◌, arith, rules, append-nil, map}
-use Rattle.std.proofs.lemmas.Bool.{lt-ltb, le-ltb}
+use Rattle.std.proofs.Common.{◌≡◌, ◌≢◌, ℕ, ◌+◌, ◌-◌, ◌<◌, ◌≤◌, ◌==◌, max, cond, [], ap, sym, ◌∙◌, false, arith, rules, ◌⊎◌, inl, inr}
+use Rattle.std.proofs.lemmas.Bool.{cases_lt}
+use Rattle.logic3.specs.declared.value.Value.TheVariants.{Unknown}
+use Rattle.std.proofs.lemmas.Result.{IfOk-weaker}
 use Rattle.logic3.specs.Wave.{last_value, changes_between}
-use Rattle.cmb_channels.specs.declared.message.Message.TheVariants.{Change as Changes}
+use Rattle.gate_process.specs.Knowledge.{news_of}
 use Rattle.gate_process.specs.Reading.{shown}
-use Rattle.gate_process.specs.Step.{continued}
-use Rattle.gate_process.proofs.Walks.{told_to, walked_past, walked_same, walked_change, news-told, continued-late}
+use Rattle.gate_process.specs.Step.{continued, first_unknown}
+use Rattle.gate_process.proofs.Reach.{first_unknown-is}
+use Rattle.gate_process.proofs.Walks.{walked_past, walked_same, walked_change, walked_news, continued-late, IfOk-both}
 use Rattle.gate_process.proofs.advance.walk.Goals as goal
-use Rattle.gate_process.proofs.advance.walk.Goals.{After-look-look, After-loop-tick}
+use Rattle.gate_process.proofs.advance.walk.Goals.{After-look-look, After-waits}
 
 pub push-requires-clause-later : goal.push-requires-clause-later
 push-requires-clause-later c =
-    walked_past _ c.args.from c.args.to c.loop-tick.tick c.loop-tick.told c.args.wave.now c.loop-tick.wave c.loop-tick.messages.items
+    walked_past _ c.args.span.from c.args.most c.loop-tick.tick c.loop-tick.told c.args.wave.now c.loop-tick.wave c.loop-tick.messages.items
     c.loop-tick.invariant.walked c.requires.past
 
 shows : (c : After-look-look) → c.look-look.result.value
-    ≡ continued c.args.wave.now c.args.from (shown c.args.net.now c.args.read.now) c.loop-tick.tick
+    ≡ continued c.args.wave.now c.args.span.from (shown c.args.net.now c.args.read.now) c.loop-tick.tick
 shows c =
     c.look-look.ensures.value
     ∙ c.loop-tick.invariant.left c.loop-tick.tick (omega arith)
-    ∙ sym (continued-late c.args.wave.now c.args.from (shown c.args.net.now c.args.read.now) c.loop-tick.tick c.loop-tick.invariant.walked.after)
+    ∙ sym (continued-late c.args.wave.now c.args.span.from (shown c.args.net.now c.args.read.now) c.loop-tick.tick c.loop-tick.invariant.walked.after)
 
 steady : (c : After-look-look) → (t : ℕ) → c.loop-tick.tick ≤ t → t < c.look-look.result.until →
-    continued c.args.wave.now c.args.from (shown c.args.net.now c.args.read.now) t
-    ≡ continued c.args.wave.now c.args.from (shown c.args.net.now c.args.read.now) c.loop-tick.tick
+    continued c.args.wave.now c.args.span.from (shown c.args.net.now c.args.read.now) t
+    ≡ continued c.args.wave.now c.args.span.from (shown c.args.net.now c.args.read.now) c.loop-tick.tick
 steady c t late early =
     let after = c.loop-tick.invariant.walked.after in
-    continued-late c.args.wave.now c.args.from (shown c.args.net.now c.args.read.now) t (omega (arith, after, late))
+    continued-late c.args.wave.now c.args.span.from (shown c.args.net.now c.args.read.now) t (omega (arith, after, late))
     ∙ sym (c.loop-tick.invariant.left t late)
     ∙ c.look-look.ensures.steady t late early
     ∙ c.loop-tick.invariant.left c.loop-tick.tick (omega arith)
-    ∙ sym (continued-late c.args.wave.now c.args.from (shown c.args.net.now c.args.read.now) c.loop-tick.tick after)
+    ∙ sym (continued-late c.args.wave.now c.args.span.from (shown c.args.net.now c.args.read.now) c.loop-tick.tick after)
 
 left : (c : After-look-look) → (t : ℕ) → c.look-look.result.until ≤ t →
     shown c.args.net.now c.look-look.new.read t ≡ shown c.args.net.now c.args.read.now t
@@ -37,65 +40,88 @@ left c t late =
     let later = c.look-look.ensures.later in
     let now : c.loop-tick.tick ≤ t = omega (arith, later, late) in c.look-look.ensures.left t now ∙ c.loop-tick.invariant.left t now
 
+settled : (c : After-waits) → c.waits.result ≡ false → (t : ℕ) → max c.args.span.from c.args.span.sure ≤ t → t < c.look-look.result.until →
+    shown c.args.net.now c.args.read.now t ≢ Unknown
+settled c goes_on t late early = go (cases_lt t c.loop-tick.tick) (c.waits.ensures.no goes_on)
+  where
+    go : (t < c.loop-tick.tick) ⊎ (c.loop-tick.tick ≤ t) → (c.loop-tick.tick < c.args.span.sure) ⊎ (c.look-look.result.value ≢ Unknown) →
+        shown c.args.net.now c.args.read.now t ≢ Unknown
+    go (inl before) way = c.loop-tick.invariant.settled t late before
+    go (inr now) (inl sure) =
+        let limit = c.limit_at.ensures.sure sure in
+        let within = c.look-look.ensures.within in
+        absurd (omega (arith, late, early, limit, within))
+    go (inr now) (inr known) = λ unknown.
+        known (c.look-look.ensures.value ∙ sym (c.look-look.ensures.steady t now early) ∙ c.loop-tick.invariant.left t now ∙ unknown)
+
 pub loop-tick-preserved-in_ok-push-2 : goal.loop-tick-preserved-in_ok-push-2
 loop-tick-preserved-in_ok-push-2 c =
     let at = (goal.at.loop-tick-preserved-in_ok-push-2 c).After-look-look in
+    let more = (goal.at.loop-tick-preserved-in_ok-push-2 c).After-waits in
     let differs : c.look-look.result.value ≢ last_value c.loop-tick.wave = search rules in
     record {
-      walked = walked_change (continued c.args.wave.now c.args.from (shown c.args.net.now c.args.read.now)) c.args.from c.args.to c.loop-tick.tick
+      walked = walked_change (continued c.args.wave.now c.args.span.from (shown c.args.net.now c.args.read.now)) c.args.span.from c.args.most c.loop-tick.tick
           c.loop-tick.told c.args.wave.now c.loop-tick.wave c.loop-tick.messages.items c.look-look.result.until c.look-look.result.value _ _
-          c.loop-tick.invariant.walked c.look-look.ensures.later c.look-look.ensures.within (steady at) (shows at) differs
+          c.loop-tick.invariant.walked c.look-look.ensures.later (omega (arith, c.look-look.ensures.within, c.limit_at.ensures.within)) (steady at) (shows at) differs
           c.in_ok-push.ensures.ok c.in_ok-push-2.ensures.items;
       left = left at;
       count = c.look-look.ensures.length ∙ c.loop-tick.invariant.count;
+      settled = settled more c.if-waits.false;
     }
 
 pub loop-tick-preserved : goal.loop-tick-preserved
 loop-tick-preserved c =
     let at = (goal.at.loop-tick-preserved c).After-look-look in
+    let more = (goal.at.loop-tick-preserved c).After-waits in
     let same : c.look-look.result.value ≡ last_value c.loop-tick.wave = search rules in
     record {
-      walked = walked_same (continued c.args.wave.now c.args.from (shown c.args.net.now c.args.read.now)) c.args.from c.args.to c.loop-tick.tick
+      walked = walked_same (continued c.args.wave.now c.args.span.from (shown c.args.net.now c.args.read.now)) c.args.span.from c.args.most c.loop-tick.tick
           c.loop-tick.told c.args.wave.now c.loop-tick.wave c.loop-tick.messages.items c.look-look.result.until c.look-look.result.value
-          c.loop-tick.invariant.walked c.look-look.ensures.later c.look-look.ensures.within (steady at) (shows at) same;
+          c.loop-tick.invariant.walked c.look-look.ensures.later (omega (arith, c.look-look.ensures.within, c.limit_at.ensures.within)) (steady at) (shows at) same;
       left = left at;
       count = c.look-look.ensures.length ∙ c.loop-tick.invariant.count;
+      settled = settled more c.if-waits.false;
     }
 
-done : (c : After-loop-tick) → c.loop-tick.tick ≡ c.args.to
-done c = let within = c.loop-tick.invariant.walked.within in omega arith
+-- where the net waits the walk is over
+pub returns-then-waits-clause-to : goal.returns-then-waits-clause-to
+returns-then-waits-clause-to c =
+    let waits = c.waits.ensures.yes c.if-waits.true in
+    let after = c.loop-tick.invariant.walked.after in
+    let unknown = sym (c.look-look.ensures.value ∙ c.loop-tick.invariant.left c.loop-tick.tick (omega arith)) ∙ waits.1 in
+    let first = first_unknown-is (shown c.args.net.now c.args.read.now) (max c.args.span.from c.args.span.sure)
+    (c.args.most - max c.args.span.from c.args.span.sure) c.loop-tick.tick (omega (arith, after, waits.0))
+    (omega (arith, c.loop-tick-test.true)) c.loop-tick.invariant.settled (λ before. unknown) in
+    IfOk-weaker c.tell_up_to.result (λ to. to ≡ c.loop-tick.tick) (λ to. to ≡ first_unknown (shown c.args.net.now c.args.read.now)
+    (max c.args.span.from c.args.span.sure) (c.args.most - max c.args.span.from c.args.span.sure)) (λ to is. is ∙ sym first) c.tell_up_to.ensures.to
 
-messages : (c : After-loop-tick) → c.loop-tick.messages.items
-    ≡ map Changes (changes_between (continued c.args.wave.now c.args.from (shown c.args.net.now c.args.read.now)) c.args.from c.args.to)
-messages c =
-    c.loop-tick.invariant.walked.messages_are
-    ∙ ap (λ tick. map Changes (changes_between (continued c.args.wave.now c.args.from (shown c.args.net.now c.args.read.now)) c.args.from tick)) (done c)
+pub returns-then-waits-clause-news : goal.returns-then-waits-clause-news
+returns-then-waits-clause-news c =
+    IfOk-both c.tell_up_to.result _ _ _ (λ to is told.
+    walked_news _ c.args.span.from c.args.most c.loop-tick.tick c.loop-tick.told c.args.wave.now c.loop-tick.wave c.loop-tick.messages.items _
+    c.loop-tick.invariant.walked told
+    ∙ ap (λ n. cond (n == c.args.span.from) []
+    (news_of (changes_between (continued c.args.wave.now c.args.span.from (shown c.args.net.now c.args.read.now)) c.args.span.from n) n)) (sym is))
+    c.tell_up_to.ensures.to c.tell_up_to.ensures.messages
 
-told : (c : After-loop-tick) → c.loop-tick.told
-    ≡ told_to c.args.from (changes_between (continued c.args.wave.now c.args.from (shown c.args.net.now c.args.read.now)) c.args.from c.args.to)
-told c =
-    c.loop-tick.invariant.walked.told_is
-    ∙ ap (λ tick. told_to c.args.from (changes_between (continued c.args.wave.now c.args.from (shown c.args.net.now c.args.read.now)) c.args.from tick)) (done c)
+-- else it comes to the limit
+pub returns-clause-to : goal.returns-clause-to
+returns-clause-to c =
+    let done = c.loop-tick-test.false in
+    let ahead = c.requires.ahead in
+    let sure = c.requires.sure in
+    let within = c.loop-tick.invariant.walked.within in
+    let first = first_unknown-is (shown c.args.net.now c.args.read.now) (max c.args.span.from c.args.span.sure)
+    (c.args.most - max c.args.span.from c.args.span.sure) c.loop-tick.tick (omega (arith, done, ahead, sure))
+    (omega (arith, within, ahead, sure)) c.loop-tick.invariant.settled (λ before. absurd (omega (arith, before, done, ahead, sure))) in
+    IfOk-weaker c.tell_up_to-2.result (λ to. to ≡ c.loop-tick.tick) (λ to. to ≡ first_unknown (shown c.args.net.now c.args.read.now)
+    (max c.args.span.from c.args.span.sure) (c.args.most - max c.args.span.from c.args.span.sure)) (λ to is. is ∙ sym first) c.tell_up_to-2.ensures.to
 
-pub returns-in_ok-push-3-clause-news : goal.returns-in_ok-push-3-clause-news
-returns-in_ok-push-3-clause-news c =
-    let at = (goal.at.returns-in_ok-push-3-clause-news c).After-loop-tick in
-    let more = lt-ltb c.loop-tick.told c.args.to c.if-told-to.true in
-    rw (
-      c.in_ok-push-3.ensures.items,
-      news-told (continued c.args.wave.now c.args.from (shown c.args.net.now c.args.read.now)) c.args.from c.args.to c.requires.ahead,
-      ← told at,
-      more,
-      messages at,
-    ) refl
-
-pub returns-else-told-to-clause-news : goal.returns-else-told-to-clause-news
-returns-else-told-to-clause-news c =
-    let at = (goal.at.returns-else-told-to-clause-news c).After-loop-tick in
-    let none = le-ltb c.loop-tick.told c.args.to c.if-told-to.false in
-    rw (
-      news-told (continued c.args.wave.now c.args.from (shown c.args.net.now c.args.read.now)) c.args.from c.args.to c.requires.ahead,
-      ← told at,
-      none,
-      messages at,
-    ) (sym (append-nil _))
+pub returns-clause-news : goal.returns-clause-news
+returns-clause-news c =
+    IfOk-both c.tell_up_to-2.result _ _ _ (λ to is told.
+    walked_news _ c.args.span.from c.args.most c.loop-tick.tick c.loop-tick.told c.args.wave.now c.loop-tick.wave c.loop-tick.messages.items _
+    c.loop-tick.invariant.walked told
+    ∙ ap (λ n. cond (n == c.args.span.from) []
+    (news_of (changes_between (continued c.args.wave.now c.args.span.from (shown c.args.net.now c.args.read.now)) c.args.span.from n) n)) (sym is))
+    c.tell_up_to-2.ensures.to c.tell_up_to-2.ensures.messages

@@ -1,5 +1,5 @@
 use Rattle.std.proofs.Common.{get_or, map, refl, ap, ◌∷◌, [], ◌++◌, ◌∙◌, arith}
-use Rattle.gate_process.specs.Knowledge.{Knowledge}
+use Rattle.gate_process.specs.Knowledge.{as_known}
 use Rattle.gate_process.proofs.SeenPins.{waves-more, all_seen}
 use Rattle.gate_process.proofs.received.cursors_of.Goals as goal
 
@@ -13,4 +13,4 @@ loop-place-preserved c =
 pub returns : goal.returns
 returns c =
     c.loop-place.invariant
-    ∙ ap (map (λ (known : Knowledge). known.wave)) (all_seen c.args.wires.now c.args.received.now c.loop-place.place c.requires (omega arith))
+    ∙ ap (map as_known) (all_seen c.args.wires.now c.args.received.now c.loop-place.place c.requires (omega arith))

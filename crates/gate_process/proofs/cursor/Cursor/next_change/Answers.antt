@@ -1,11 +1,19 @@
-use Rattle.std.proofs.Common.{◌≡◌, ap, sym, subst, ◌∙◌, arith}
-use Rattle.std.specs.Option.{option_copied}
+use Rattle.std.proofs.Common.{◌≡◌, None, Some, ap, sym, subst, ◌∙◌, arith}
 use Rattle.logic3.specs.Wave.{Wave, value_at}
-use Rattle.gate_process.proofs.Delayed.{before_first_delayed}
+use Rattle.gate_process.proofs.Passed.{first_tick-steady, no_first-steady, first_tick-later}
 use Rattle.gate_process.proofs.cursor.Cursor.next_change.Goals as goal
+
+pub returns-in-Some-clause-later : goal.returns-in-Some-clause-later
+returns-in-Some-clause-later c = λ tick early after.
+    let late = first_tick-later c.args.self.now.changes c.in-Some.first tick after (sym c.first_change.ensures.tick ∙ c.in-Some.is) in
+    let min = c.min.ensures in
+    omega (arith, early, late, min)
 
 pub returns-in-Some-clause-steady : goal.returns-in-Some-clause-steady
 returns-in-Some-clause-steady c = λ t early.
-    subst (λ (wave : Wave). value_at wave t ≡ wave.before) c.self.view_is
-    (before_first_delayed c.self.inside.wire c.self.inside.value c.self.inside.later.now c.in-Some.change.now t c.self.invariant
-    (sym c.first.ensures.value ∙ ap option_copied c.in-Some.is) (omega (arith, early, c.min.ensures, c.seen_tick.ensures)))
+    first_tick-steady c.args.self.now.before c.args.self.now.changes c.in-Some.first t c.first_change.ensures.rise
+    (sym c.first_change.ensures.tick ∙ c.in-Some.is) (omega (arith, early, c.min.ensures))
+
+pub returns-in-None-clause-steady : goal.returns-in-None-clause-steady
+returns-in-None-clause-steady c = λ t early.
+    no_first-steady c.args.self.now.before c.args.self.now.changes t (sym c.first_change.ensures.tick ∙ c.in-None.is)

@@ -1,6 +1,13 @@
+use Rattle.std.proofs.Common.{◌≡◌, ap, ◌∙◌}
+use Rattle.logic3.specs.declared.value.Value.TheVariants.{Unknown}
 use Rattle.logic3.proofs.CallerLemmas.{AllPairs-Alternates}
+use Rattle.gate_process.specs.Knowledge.{Knowledge, seen, as_known}
+use Rattle.gate_process.proofs.Delayed.{known_later}
+use Rattle.gate_process.proofs.Passed.{rise_with}
 use Rattle.gate_process.proofs.received.Received.cursor.Goals as goal
 
 pub new-requires : goal.new-requires
 new-requires c =
-    rw c.as_slice.ensures (AllPairs-Alternates c.self.inside.before 0 c.self.inside.changes c.self.invariant.known.wave)
+    rw c.as_slice.ensures
+    (rise_with c.self.inside.changes c.self.inside.frontier Unknown
+    (AllPairs-Alternates c.self.inside.before 0 c.self.inside.changes c.self.invariant.known.wave) c.self.invariant.known.past)

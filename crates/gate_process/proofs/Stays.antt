@@ -1,0 +1,87 @@
+-- A process that has advanced can't be reckoned farther until it hears.
+use Rattle.std.proofs.Common.{◌≡◌, ℕ, zero, suc, ◌+◌, ◌<◌, ◌≤◌, List, [], ◌∷◌, length, map, Some, slice_get, refl, ap, sym, ◌∙◌, arith, ◌⊎◌, inl, inr}
+use Rattle.std.proofs.lemmas.Bool.{cases_lt}
+use Rattle.std.proofs.lemmas.Option.{get_or_from_slice_get}
+use Rattle.logic3.specs.declared.value.Value.{Value}
+use Rattle.logic3.specs.Wave.{value_at, value_before}
+use Rattle.logic3.proofs.CallerLemmas.{value_at-wave_of}
+use Rattle.design.specs.Samples.{asked_tick, wire_at}
+use Rattle.design.specs.Equations.{values_at, equation}
+use Rattle.design.proofs.CallerLemmas.{same_later, same_values, source_tick-is}
+use Rattle.gate_process.specs.Knowledge.{Knowledge, seen, seen_pins, as_known}
+use Rattle.gate_process.specs.Step.{ProcessState, seen_by, safe_of, signals_of, frontier_of, reach_of_part, next_frontier, kept_from, kept, all_kept, extended, advanced}
+use Rattle.gate_process.specs.Truth.{IsProcess}
+use Rattle.gate_process.proofs.Delayed.{shows_later, shows_known, shows_unknown}
+use Rattle.gate_process.proofs.Events.{advanced-safe}
+use Rattle.gate_process.proofs.Heard.{nothing_forgotten}
+use Rattle.gate_process.proofs.Reach.{next-asked, next-end, sure-end, reach-again}
+
+-- what pins show at a tick, where each that is kept shows what it did
+same_kept : (process : ProcessState) (first : ℕ) (wires : List ℕ) (received : List Knowledge) (at : ℕ) →
+    ((place wire : ℕ) (known : Knowledge) → slice_get wires place ≡ Some wire → slice_get received place ≡ Some known →
+    value_at (as_known (seen wire (kept process (first + place) known))) at ≡ value_at (as_known (seen wire known)) at) →
+    values_at at (signals_of (seen_pins wires (all_kept process first received))) ≡ values_at at (signals_of (seen_pins wires received))
+same_kept process first [] received at h = refl
+same_kept process first (wire ∷ wires) [] at h = refl
+same_kept process first (wire ∷ wires) (known ∷ received) at h =
+    let here : first + 0 ≡ first = omega arith in
+    let head = ap (λ place. value_at (as_known (seen wire (kept process place known))) at) (sym here) ∙ h 0 wire known refl refl in
+    let rest = same_kept process (first + 1) wires received at (λ place w k a b.
+    let there : first + 1 + place ≡ first + suc place = omega arith in
+    ap (λ p. value_at (as_known (seen w (kept process p k))) at) there ∙ h (suc place) w k a b) in
+    λ i. head i ∷ rest i
+
+module _ (process : ProcessState) (ok : IsProcess process) where
+  -- a pin shows what it did, at each tick that the net may still ask for
+  kept_shows : (place wire at : ℕ) (known : Knowledge) → slice_get process.net.wires place ≡ Some wire →
+      slice_get process.received place ≡ Some known → next_frontier process ≤ at + process.net.timing.delay →
+      value_at (as_known (seen wire (kept (extended process) place known))) at ≡ value_at (as_known (seen wire known)) at
+  kept_shows place wire at known a c asked = go (cases_lt at (known.frontier + wire))
+    where
+      from : ℕ
+      from = kept_from (extended process) place known.frontier
+
+      here : wire_at process.net place ≡ wire
+      here = get_or_from_slice_get process.net.wires place wire 0 a
+
+      ahead : process.known.frontier ≤ next_frontier process
+      ahead = ok.ahead
+
+      begins : at < wire → kept_from (extended process) place known.frontier ≡ 0
+      begins early = omega (arith, here, asked, early)
+
+      began : at < wire → kept_from process place known.frontier ≡ 0
+      began early = omega (arith, here, asked, early, ahead)
+
+      go : (at < known.frontier + wire) ⊎ (known.frontier + wire ≤ at) →
+          value_at (as_known (seen wire (kept (extended process) place known))) at ≡ value_at (as_known (seen wire known)) at
+      go (inl below) =
+          shows_known (seen wire (kept (extended process) place known)) at below
+          ∙ shows_later wire (kept (extended process) place known).wave at (λ early. ap (value_before (value_at known.wave)) (begins early))
+          ∙ same_later (value_at (kept (extended process) place known).wave) (value_at known.wave) at wire (λ t is.
+          let there = source_tick-is wire at t is in
+          value_at-wave_of (value_at known.wave) (kept_from (extended process) place known.frontier) known.frontier t
+          (omega (arith, here, asked, there)) (omega (arith, there, below)))
+          ∙ sym (shows_later wire known.wave at (λ early. nothing_forgotten process place known ok c (began early)))
+          ∙ sym (shows_known (seen wire known) at below)
+      go (inr past) =
+          shows_unknown (seen wire (kept (extended process) place known)) at past ∙ sym (shows_unknown (seen wire known) at past)
+
+  -- so its equation gives the same from there on
+  advanced_shows : (tick : ℕ) → next_frontier process ≤ tick → tick < process.end →
+      equation process.net (signals_of (seen_by (advanced process))) tick ≡ equation process.net (signals_of (seen_by process)) tick
+  advanced_shows tick after before =
+      same_values process.net.part process.net _ _ tick (λ at is.
+      same_kept (extended process) 0 process.net.wires process.received at (λ place wire known a b.
+      let same : 0 + place ≡ place = omega arith in
+      ap (λ p. value_at (as_known (seen wire (kept (extended process) p known))) at) same
+      ∙ kept_shows place wire at known a b (next-asked process tick at ok.timed.timing.clock after before is)))
+
+  pub advanced_stays : next_frontier (advanced process) ≡ next_frontier process
+  advanced_stays =
+      ap (λ sure. reach_of_part process.net.part (equation process.net (signals_of (seen_by (advanced process)))) process.end
+      (next_frontier process) (frontier_of process.net process.end sure)) (advanced-safe process)
+      ∙ reach-again (equation process.net (signals_of (seen_by process))) (equation process.net (signals_of (seen_by (advanced process))))
+      process.net.part process.end process.known.frontier (frontier_of process.net process.end (safe_of process)) (sure-end process)
+      (let ahead = ok.ahead in let to = next-end process in omega (arith, ahead, to))
+      (λ before unknown. advanced_shows (next_frontier process) (omega arith) before ∙ unknown)

@@ -1,0 +1,99 @@
+use Rattle.std.proofs.Common.{◌≡◌, ◌∷◌, [], ◌-◌, max, ap, ◌∙◌, arith}
+use Rattle.logic3.specs.Wave.{Wave}
+use Rattle.gate_process.specs.Knowledge.{seen_pins}
+use Rattle.gate_process.specs.Reading.{read_by}
+use Rattle.gate_process.proofs.ReadBy.{stimuli_read, one_read, two_read, all_read, count_read, goes_to, wave_goes_on, news_tell_of_it}
+use Rattle.gate_process.proofs.advance.reckon.Goals as goal
+use Rattle.gate_process.proofs.advance.reckon.Goals.{After-stimuli, After-cursor, After-cursor-in-len2-2, After-as_mut_slice}
+
+-- ---- what is read, by how many pins there are
+
+none : (c : After-stimuli) → (c.stimuli.result ∷ []) ≡ read_by c.args.net.now (seen_pins c.args.net.now.wires c.args.received.now)
+none c =
+    ap (λ (w : Wave). w ∷ []) c.stimuli.ensures
+    ∙ stimuli_read c.args.net.now c.args.received.now c.wires-wires.ensures.well_formed c.requires.pins c.in-empty.len_below
+
+one : (c : After-cursor) → (c.cursor.result ∷ []) ≡ read_by c.args.net.now (seen_pins c.args.net.now.wires c.args.received.now)
+one c =
+    ap (λ (w : Wave). w ∷ []) c.cursor.ensures
+    ∙ one_read c.args.net.now c.args.received.now c.wires-wires.ensures.well_formed c.requires.pins c.wires-wires.result.now c.wires-wires.ensures.wires
+    c.pin-item.result c.in-len1.len_at_least c.in-len1.len_below c.pin-item.is
+
+two : (c : After-cursor-in-len2-2) → (c.cursor-in-len2.result ∷ c.cursor-in-len2-2.result ∷ [])
+    ≡ read_by c.args.net.now (seen_pins c.args.net.now.wires c.args.received.now)
+two c =
+    (λ i. c.cursor-in-len2.ensures i ∷ c.cursor-in-len2-2.ensures i ∷ [])
+    ∙ two_read c.args.net.now c.args.received.now c.wires-wires.ensures.well_formed c.requires.pins c.wires-wires.result.now c.wires-wires.ensures.wires
+    c.first-item.result c.second-item.result c.in-len2.len_at_least c.in-len2.len_below c.first-item.is c.second-item.is
+
+more : (c : After-as_mut_slice) → c.as_mut_slice.result.now ≡ read_by c.args.net.now (seen_pins c.args.net.now.wires c.args.received.now)
+more c =
+    c.as_mut_slice.ensures.value ∙ c.in_ok-cursors-in_default.ensures
+    ∙ all_read c.args.net.now c.args.received.now c.wires-wires.ensures.well_formed c.requires.pins c.wires-wires.result.now c.wires-wires.ensures.wires
+    (let some = c.in_default.len_at_least in omega arith)
+
+pub walk-requires-clause-read : goal.walk-requires-clause-read
+walk-requires-clause-read c =
+    count_read c.args.net.now c.args.received.now c.wires-wires.ensures.well_formed c.requires.pins _ (none (goal.at.walk-requires-clause-read c).After-stimuli)
+
+pub walk-requires-in-len1-clause-read : goal.walk-requires-in-len1-clause-read
+walk-requires-in-len1-clause-read c =
+    count_read c.args.net.now c.args.received.now c.wires-wires.ensures.well_formed c.requires.pins _ (one (goal.at.walk-requires-in-len1-clause-read c).After-cursor)
+
+pub walk-requires-in-len2-clause-read : goal.walk-requires-in-len2-clause-read
+walk-requires-in-len2-clause-read c =
+    count_read c.args.net.now c.args.received.now c.wires-wires.ensures.well_formed c.requires.pins _ (two (goal.at.walk-requires-in-len2-clause-read c).After-cursor-in-len2-2)
+
+pub walk-requires-in_default-clause-read : goal.walk-requires-in_default-clause-read
+walk-requires-in_default-clause-read c =
+    count_read c.args.net.now c.args.received.now c.wires-wires.ensures.well_formed c.requires.pins _ (more (goal.at.walk-requires-in_default-clause-read c).After-as_mut_slice)
+
+-- ---- what comes of it
+
+pub returns-in-len1-clause-to : goal.returns-in-len1-clause-to
+returns-in-len1-clause-to c =
+    goes_to c.args.net.now (seen_pins c.args.net.now.wires c.args.received.now) _ (one (goal.at.returns-in-len1-clause-to c).After-cursor) c.walk-in-len1.result c.args.span.from
+    (max c.args.span.from c.args.span.sure) (c.args.most - max c.args.span.from c.args.span.sure)
+    c.walk-in-len1.ensures.to
+
+pub returns-in-len1-clause-wave : goal.returns-in-len1-clause-wave
+returns-in-len1-clause-wave c =
+    wave_goes_on c.args.net.now (seen_pins c.args.net.now.wires c.args.received.now) _ (one (goal.at.returns-in-len1-clause-wave c).After-cursor) c.walk-in-len1.result c.args.span.from
+    c.args.wave.now _ c.walk-in-len1.ensures.wave
+
+pub returns-in-len1-clause-news : goal.returns-in-len1-clause-news
+returns-in-len1-clause-news c =
+    news_tell_of_it c.args.net.now (seen_pins c.args.net.now.wires c.args.received.now) _ (one (goal.at.returns-in-len1-clause-news c).After-cursor) c.walk-in-len1.result c.args.span.from
+    c.args.wave.now _ c.walk-in-len1.ensures.news
+
+pub returns-in-len2-clause-to : goal.returns-in-len2-clause-to
+returns-in-len2-clause-to c =
+    goes_to c.args.net.now (seen_pins c.args.net.now.wires c.args.received.now) _ (two (goal.at.returns-in-len2-clause-to c).After-cursor-in-len2-2) c.walk-in-len2.result c.args.span.from
+    (max c.args.span.from c.args.span.sure) (c.args.most - max c.args.span.from c.args.span.sure)
+    c.walk-in-len2.ensures.to
+
+pub returns-in-len2-clause-wave : goal.returns-in-len2-clause-wave
+returns-in-len2-clause-wave c =
+    wave_goes_on c.args.net.now (seen_pins c.args.net.now.wires c.args.received.now) _ (two (goal.at.returns-in-len2-clause-wave c).After-cursor-in-len2-2) c.walk-in-len2.result c.args.span.from
+    c.args.wave.now _ c.walk-in-len2.ensures.wave
+
+pub returns-in-len2-clause-news : goal.returns-in-len2-clause-news
+returns-in-len2-clause-news c =
+    news_tell_of_it c.args.net.now (seen_pins c.args.net.now.wires c.args.received.now) _ (two (goal.at.returns-in-len2-clause-news c).After-cursor-in-len2-2) c.walk-in-len2.result c.args.span.from
+    c.args.wave.now _ c.walk-in-len2.ensures.news
+
+pub returns-in_ok-cursors-in_default-clause-to : goal.returns-in_ok-cursors-in_default-clause-to
+returns-in_ok-cursors-in_default-clause-to c =
+    goes_to c.args.net.now (seen_pins c.args.net.now.wires c.args.received.now) _ (more (goal.at.returns-in_ok-cursors-in_default-clause-to c).After-as_mut_slice) c.walk-in_default.result c.args.span.from
+    (max c.args.span.from c.args.span.sure) (c.args.most - max c.args.span.from c.args.span.sure)
+    c.walk-in_default.ensures.to
+
+pub returns-in_ok-cursors-in_default-clause-wave : goal.returns-in_ok-cursors-in_default-clause-wave
+returns-in_ok-cursors-in_default-clause-wave c =
+    wave_goes_on c.args.net.now (seen_pins c.args.net.now.wires c.args.received.now) _ (more (goal.at.returns-in_ok-cursors-in_default-clause-wave c).After-as_mut_slice) c.walk-in_default.result c.args.span.from
+    c.args.wave.now _ c.walk-in_default.ensures.wave
+
+pub returns-in_ok-cursors-in_default-clause-news : goal.returns-in_ok-cursors-in_default-clause-news
+returns-in_ok-cursors-in_default-clause-news c =
+    news_tell_of_it c.args.net.now (seen_pins c.args.net.now.wires c.args.received.now) _ (more (goal.at.returns-in_ok-cursors-in_default-clause-news c).After-as_mut_slice) c.walk-in_default.result c.args.span.from
+    c.args.wave.now _ c.walk-in_default.ensures.news
