@@ -7,9 +7,9 @@ use std::process::Abort;
 use timing_text::StimulusFault;
 use vcd_dump::TimeUnit;
 use worked_examples::dumps::{
-    CLOCKED_DUMP, EDGE_DUMP, INVERTER_DUMP, OSCILLATOR_DUMP, OUTPUTS_DUMP, PRESET_RING_DUMP,
-    RING_COUNTER_DUMP, SAMPLER_DUMP, SELF_INVERTER_DUMP, SLOW_DUMP, WIRED_FLOP_DUMP,
-    WIRED_XOR_DUMP,
+    CLOCKED_DUMP, EDGE_DUMP, INVERTER_DUMP, LATCH_DUMP, OSCILLATOR_DUMP, OUTPUTS_DUMP,
+    PRESET_RING_DUMP, RING_COUNTER_DUMP, SAMPLER_DUMP, SELF_INVERTER_DUMP, SLOW_DUMP,
+    WIRED_FLOP_DUMP, WIRED_XOR_DUMP,
 };
 
 const INVERTER: Source<'static> = Source {
@@ -43,6 +43,13 @@ const OSCILLATOR: Source<'static> = Source {
     bench: b"INPUT(e)\ny = NAND(e, y)\n",
     delays: b"y 2",
     stimuli: b"0 e 0\n5 e 1\n",
+    ..INVERTER
+};
+
+// Its input settles the gate, whatever it shows itself.
+const LATCH: Source<'static> = Source {
+    bench: b"INPUT(a)\ny = AND(a, y)\n",
+    stimuli: b"0 a 0\n",
     ..INVERTER
 };
 
@@ -150,7 +157,7 @@ const FIFTY: &[u8] = b"advance y\nadvance y\nadvance y\nadvance y\nadvance y\n\
 type Run = (Source<'static>, u64, [u64; 4], [u64; 4], &'static [u8]);
 
 // What is counted and dumped, without schedules and with them.
-static RUNS: [Run; 16] = [
+static RUNS: [Run; 17] = [
     (INVERTER, 5, [0, 0, 0, 0], [7, 4, 3, 2], INVERTER_DUMP),
     (SLOW_INVERTER, 5, [0, 0, 0, 0], [2, 2, 2, 1], SLOW_DUMP),
     (EDGE, 8, [0, 0, 0, 0], [19, 7, 6, 3], EDGE_DUMP),
@@ -162,7 +169,8 @@ static RUNS: [Run; 16] = [
         [7, 0, 4, 4],
         SELF_INVERTER_DUMP,
     ),
-    (OSCILLATOR, 12, [0, 0, 0, 0], [24, 6, 5, 7], OSCILLATOR_DUMP),
+    (OSCILLATOR, 12, [0, 0, 0, 0], [20, 6, 6, 5], OSCILLATOR_DUMP),
+    (LATCH, 5, [0, 0, 0, 0], [7, 2, 3, 2], LATCH_DUMP),
     (SAMPLER, 9, [0, 0, 0, 0], [7, 4, 2, 2], SAMPLER_DUMP),
     (
         RING_COUNTER,

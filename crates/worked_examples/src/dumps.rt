@@ -28,6 +28,10 @@ pub const SELF_INVERTER_DUMP: &[u8] =
 pub const OSCILLATOR_DUMP: &[u8] =
     b"$version nullsim 1 $end\n$timescale 1 ns $end\n$scope module top $end\n$var wire 1 ! e $end\n$var wire 1 \" y $end\n$upscope $end\n$enddefinitions $end\n#0\n$dumpvars\n0!\nx\"\n$end\n#2\n1\"\n#5\n1!\n#7\n0\"\n#9\n1\"\n#11\n0\"\n#12\n";
 
+/// Of an AND at its own pin, which its input settles, up to tick 5.
+pub const LATCH_DUMP: &[u8] =
+    b"$version nullsim 1 $end\n$timescale 1 ns $end\n$scope module top $end\n$var wire 1 ! a $end\n$var wire 1 \" y $end\n$upscope $end\n$enddefinitions $end\n#0\n$dumpvars\n0!\nx\"\n$end\n#1\n0\"\n#5\n";
+
 /// Of a flip-flop of period 3 that samples its own opposite, up to tick 10.
 pub const RING_COUNTER_DUMP: &[u8] =
     b"$version nullsim 1 $end\n$timescale 1 ns $end\n$scope module top $end\n$var wire 1 ! q $end\n$var wire 1 \" n $end\n$upscope $end\n$enddefinitions $end\n#0\n$dumpvars\nx!\nx\"\n$end\n#10\n";
