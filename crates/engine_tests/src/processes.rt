@@ -5,7 +5,7 @@ ghost use Rattle.gate_process.specs.Knowledge.{Knowledge};
 
 use crate::circuits::{CROSSING, Circuit, INVERTER, SAMPLER, WIRED_INVERTER, WIRED_XOR};
 use Message::Null;
-use Step::{Drains, Hears, HearsFar, Keeps, Knows, PinKnows, Shows, Tells, TellsFar};
+use Step::{Drains, Hears, HearsFar, HearsNulls, Keeps, Knows, PinKnows, Shows, Tells, TellsFar};
 use Value::{One, Unknown, Zero};
 use cmb_channels::Message;
 use design::Design;
@@ -27,7 +27,8 @@ struct Probe<'d> {
     ghost ends: { process.failed ≡ false → process.state.end ≡ end },
 }
 
-// A pin is told messages, or a thousand changes; an advance tells just these messages, or a thousand
+// A pin is told messages, a thousand changes, or so many null messages, after each of which an advance tells
+// nothing; an advance tells just these messages, or a thousand
 // changes of which the first is to this value; how many ticks all pins know, and how many it knows
 // itself; how many ticks a pin knows, and its last value; what it shows at a tick; its changes before
 // a tick, which are taken out; or the tick from which on it is kept, and its value before and its
@@ -36,6 +37,7 @@ struct Probe<'d> {
 enum Step {
     Hears(u32, &'static [Message]),
     HearsFar,
+    HearsNulls(u32, u64),
     Tells(&'static [Message]),
     TellsFar(Value),
     Knows(u64, u64),
@@ -167,6 +169,15 @@ impl<'d> Probe<'d> {
         self.hear(rt, 0, &[Null(10_000_001)])
     }
 
+    // The pin at this place is told of so many ticks, one after the other, and nothing comes of it.
+    fn hear_nulls(&mut self, rt: &impl Abort, place: u32, ticks: u64) -> Result<(), Fail> {
+        for tick in 0..ticks {
+            self.hear_null(rt, place, tick.saturating_add(1))?;
+            self.tells(rt, &[])?;
+        }
+        Ok(())
+    }
+
     // It tells as much of that.
     fn tells_far(&mut self, rt: &impl Abort, first: Value) -> Result<(), Fail> {
         let messages = self.advance(rt)?;
@@ -190,6 +201,7 @@ impl<'d> Probe<'d> {
         match step {
             Hears(place, messages) => self.hear(rt, place, messages),
             HearsFar => self.hear_far(rt),
+            HearsNulls(place, ticks) => self.hear_nulls(rt, place, ticks),
             Tells(messages) => self.tells(rt, messages),
             TellsFar(first) => self.tells_far(rt, first),
             Drains(bound, changes) => self.drains(rt, bound, changes),
@@ -470,6 +482,20 @@ fn lookahead(rt: HostRuntime) -> Result<(), Fail> {
         follows(&rt, rt.alloc(), circuit, b"y", 6, steps)?;
     }
     Ok(())
+}
+
+// It waits for its first pin, whatever its second is told, and each look costs the same.
+const HELD: [Step; 5] = [
+    Hears(0, &[Message::Change(LOW_0), Null(9_000_000)]),
+    Tells(&[Message::Change(LOW_1), Null(9_000_001)]),
+    HearsNulls(1, 1_000_000),
+    Hears(0, &[Null(10_000_001)]),
+    Tells(&[Null(10_000_001)]),
+];
+
+#[test]
+fn held_for_long(rt: HostRuntime) -> Result<(), Fail> {
+    follows(&rt, rt.alloc(), AND, b"y", 10_000_000, &HELD)
 }
 
 const FLOP: Circuit = Circuit {
