@@ -9,7 +9,7 @@ use crate::comparing::{
     REFUSED_TWINS, TWINS_WITHOUT_TEXTS,
 };
 use crate::files::{FILES, Named};
-use crate::plainly::{DUMPS, REFUSED_PLAIN};
+use crate::plainly::{DUMPS, FAULTY_TIMINGS, REFUSED_PLAIN};
 use crate::running::{COUNTED_RUNS, EDGE_RUNS, REFUSED_RUNS, RUNS_WITHOUT_TEXTS};
 use nullsim::{ReadFault, Texts, command};
 use std::alloc::{AllocError, Global};
@@ -193,6 +193,8 @@ fn counted_runs(rt: HostRuntime) -> Result<(), Fail> {
 fn lines_that_are_refused(rt: HostRuntime) -> Result<(), Fail> {
     for (start, table) in [
         ("plain", REFUSED_PLAIN.as_slice()),
+        ("plain", FAULTY_TIMINGS.as_slice()),
+        ("run", FAULTY_TIMINGS.as_slice()),
         ("run --counts", REFUSED_RUNS.as_slice()),
         ("run", RUNS_WITHOUT_TEXTS.as_slice()),
         ("check", REFUSED_CHECKS.as_slice()),

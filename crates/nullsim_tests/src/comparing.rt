@@ -113,7 +113,7 @@ pub(crate) static EDGE_TWICE: [CarriedOut; 4] = [
 ];
 
 // The options of each side are its own.
-pub(crate) static INVERTER_TWICE: [CarriedOut; 7] = [
+pub(crate) static INVERTER_TWICE: [CarriedOut; 9] = [
     (
         "--first-delay 2",
         b"agree no\nfirst 2 1\nfirst 5 0\nsecond 1 1\nsecond 4 0\n",
@@ -133,6 +133,15 @@ pub(crate) static INVERTER_TWICE: [CarriedOut; 7] = [
     (
         "--first-delay 2 --second-delays wire.delays",
         b"agree no\nfirst 2 1\nfirst 5 0\nsecond 2 1\nsecond 5 0\n",
+    ),
+    // A wire and nothing else, seen in the waveform or not.
+    (
+        "--second-delays wire.delays",
+        b"agree no\nfirst 1 1\nfirst 4 0\nsecond 2 1\nsecond 5 0\n",
+    ),
+    (
+        "--second-delays far.delays --first-delays slow.delays --second-delay 9",
+        b"agree no\n",
     ),
     (
         "--second-delays slow.delays",

@@ -4,20 +4,40 @@ use worked_examples::{S27_BENCH, S27_STIMULI};
 /// A text with its name.
 pub(crate) type Named = (&'static str, &'static [u8]);
 
-pub(crate) static FILES: [Named; 48] = [
+pub(crate) static FILES: [Named; 62] = [
     ("inv.bench", b"INPUT(a)\nOUTPUT(y)\ny = NOT(a)\n"),
     ("inv.stim", b"0 a 0\n3 a 1\n"),
     ("slow.delays", b"y 9\n"),
     ("flop.bench", b"INPUT(d)\nq = DFF(d)\n"),
     ("flop.stim", b"4 d 1\n5 d 0\n"),
-    // Timing texts of the second version, of which the last two are faulty.
+    // Timing texts of the second version; a circuit for them; and faulty ones.
     ("clock.delays", b"timing version 2\nclock q 4 1\ninit q 0\n"),
     ("said.delays", b"timing version 2\nclock q 4 0\ninit q x\n"),
     ("phase.delays", b"timing version 2\nclock q 4 1\n"),
     ("start.delays", b"timing version 2\ninit q 0\n"),
     ("wire.delays", b"timing version 2\nwire y 0 1\n"),
+    ("late.delays", b"timing version 2\nwire q 0 1\n"),
+    ("far.delays", b"timing version 2\nwire y 0 1000000\n"),
+    ("ring.bench", b"q = DFF(n)\nn = NOT(q)\n"),
     ("bad-clock.delays", b"timing version 2\nclock q 4 4\n"),
     ("bad-wire.delays", b"timing version 2\n\nwire y 1 2\n"),
+    ("input-clock.delays", b"timing version 2\nclock d 4 1\n"),
+    ("input-init.delays", b"timing version 2\ninit d 1\n"),
+    ("no-period.delays", b"timing version 2\nclock q 0 0\n"),
+    ("no-value.delays", b"timing version 2\ninit q z\n"),
+    ("input-delay.delays", b"timing version 2\ndelay d 2\n"),
+    ("third.delays", b"timing version 3\nclock q 4 1\n"),
+    ("zero.delays", b"timing version 02\nclock q 4 1\n"),
+    (
+        "again.delays",
+        b"timing version 2 # and\ntiming version 2\n",
+    ),
+    (
+        "twice.delays",
+        b"timing version 2\nwire y 0 1\nwire y 00 2\n",
+    ),
+    ("too-far.delays", b"timing version 2\nwire y 0 1000001\n"),
+    ("input-wire.delays", b"timing version 2\nwire a 0 2\n"),
     ("bad.bench", b"INPUT(a)\nx y\n"),
     ("bad.delays", b"# none\nzz 2\n"),
     ("bad.stim", b"3 y 1\n"),

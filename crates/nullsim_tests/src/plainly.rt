@@ -1,11 +1,12 @@
 //! Command lines of `plain`.
 use crate::commanding::{CarriedOut, Refused};
 use worked_examples::dumps::{
-    CLOCKED_DUMP, INVERTER_DUMP, OUTPUTS_DUMP, SAMPLER_DUMP, SLOW_DUMP, WIRED_XOR_DUMP,
+    CLOCKED_DUMP, INVERTER_DUMP, OUTPUTS_DUMP, PRESET_RING_DUMP, SAMPLER_DUMP, SLOW_DUMP,
+    WIRED_FLOP_DUMP, WIRED_XOR_DUMP,
 };
 
 // Dumps under all options of `plain`.
-pub(crate) static DUMPS: [CarriedOut; 8] = [
+pub(crate) static DUMPS: [CarriedOut; 11] = [
     (
         "--bench inv.bench --stimuli inv.stim --horizon 5",
         INVERTER_DUMP,
@@ -37,6 +38,18 @@ pub(crate) static DUMPS: [CarriedOut; 8] = [
     (
         "--bench edge.bench --delays wire.delays --stimuli edge.stim --horizon 8",
         WIRED_XOR_DUMP,
+    ),
+    (
+        "--bench ring.bench --delays start.delays --period 3 --horizon 10",
+        PRESET_RING_DUMP,
+    ),
+    (
+        "--bench flop.bench --delays late.delays --stimuli flop.stim --period 4 --horizon 9",
+        WIRED_FLOP_DUMP,
+    ),
+    (
+        "--bench inv.bench --delays far.delays --stimuli inv.stim --horizon 5",
+        SLOW_DUMP,
     ),
 ];
 
@@ -124,6 +137,76 @@ pub(crate) static REFUSED_PLAIN: [Refused; 14] = [
         "--bench inv.bench --stimuli too-big --horizon 5",
         4,
         "memory:0: Memory\n",
+        2,
+    ),
+];
+
+// Faulty lines of the second version, and texts that have no header of it.
+pub(crate) static FAULTY_TIMINGS: [Refused; 11] = [
+    (
+        "--bench flop.bench --delays input-clock.delays --horizon 5",
+        1,
+        "input-clock.delays:2: NotAFlop\n",
+        2,
+    ),
+    (
+        "--bench flop.bench --delays input-init.delays --horizon 5",
+        1,
+        "input-init.delays:2: NotAFlop\n",
+        2,
+    ),
+    (
+        "--bench flop.bench --delays no-period.delays --horizon 5",
+        1,
+        "no-period.delays:2: BadPeriod\n",
+        2,
+    ),
+    (
+        "--bench flop.bench --delays no-value.delays --horizon 5",
+        1,
+        "no-value.delays:2: BadValue\n",
+        2,
+    ),
+    (
+        "--bench flop.bench --delays input-delay.delays --horizon 5",
+        1,
+        "input-delay.delays:2: IsInput\n",
+        2,
+    ),
+    (
+        "--bench flop.bench --delays third.delays --horizon 5",
+        1,
+        "third.delays:1: BadLine\n",
+        2,
+    ),
+    (
+        "--bench flop.bench --delays zero.delays --horizon 5",
+        1,
+        "zero.delays:1: BadLine\n",
+        2,
+    ),
+    (
+        "--bench flop.bench --delays again.delays --horizon 5",
+        1,
+        "again.delays:2: BadLine\n",
+        2,
+    ),
+    (
+        "--bench inv.bench --delays twice.delays --horizon 5",
+        1,
+        "twice.delays:3: Twice\n",
+        2,
+    ),
+    (
+        "--bench inv.bench --delays too-far.delays --horizon 5",
+        1,
+        "too-far.delays:2: BadTicks\n",
+        2,
+    ),
+    (
+        "--bench inv.bench --delays input-wire.delays --horizon 5",
+        1,
+        "input-wire.delays:2: BadPin\n",
         2,
     ),
 ];

@@ -1,13 +1,14 @@
 //! Command lines of `run`, with schedules and counts.
 use crate::commanding::{Counted, Refused};
 use worked_examples::dumps::{
-    CLOCKED_DUMP, EDGE_DUMP, INVERTER_DUMP, OUTPUTS_DUMP, WIRED_XOR_DUMP,
+    CLOCKED_DUMP, EDGE_DUMP, INVERTER_DUMP, OUTPUTS_DUMP, PRESET_RING_DUMP, SLOW_DUMP,
+    WIRED_FLOP_DUMP, WIRED_XOR_DUMP,
 };
 
 pub(crate) const COUNTS: &str = "events 7 changes 4 nulls 3 rounds 2\n";
 
-// The inverter, with and without counts, a flip-flop with a clock, and a gate with a wire.
-pub(crate) static COUNTED_RUNS: [Counted; 5] = [
+// The inverter, with and without counts, and circuits with clocks, initial values and wires.
+pub(crate) static COUNTED_RUNS: [Counted; 8] = [
     (
         "--bench inv.bench --stimuli inv.stim --horizon 5",
         INVERTER_DUMP,
@@ -32,6 +33,21 @@ pub(crate) static COUNTED_RUNS: [Counted; 5] = [
         "--bench edge.bench --delays wire.delays --stimuli edge.stim --horizon 8 --counts",
         WIRED_XOR_DUMP,
         "events 19 changes 5 nulls 6 rounds 3\n",
+    ),
+    (
+        "--bench ring.bench --delays start.delays --period 3 --horizon 10 --counts",
+        PRESET_RING_DUMP,
+        "events 27 changes 7 nulls 7 rounds 7\n",
+    ),
+    (
+        "--bench flop.bench --delays late.delays --stimuli flop.stim --period 4 --horizon 9 --counts",
+        WIRED_FLOP_DUMP,
+        "events 7 changes 3 nulls 2 rounds 2\n",
+    ),
+    (
+        "--bench inv.bench --delays far.delays --stimuli inv.stim --horizon 5 --counts",
+        SLOW_DUMP,
+        "events 2 changes 2 nulls 2 rounds 1\n",
     ),
 ];
 
