@@ -6,7 +6,7 @@ memory that they make, without it; then nullsim is run over faulty streams and f
 cut off or changed at random, and over texts and circuits as large as they may be. The last line is
 'N passed, M failed', over programs, commands, streams and texts.
 
-    check.py [--random COUNT] [--seed FIRST]    how many circuits are changed at random, and by which seeds
+    check.py [--random COUNT] [--seed FIRST]    how many circuits and decks are changed at random, and by which seeds
 """
 import argparse
 import subprocess
