@@ -6,7 +6,7 @@ memory that they make, without it; then nullsim is run over faulty streams and f
 cut off or changed at random, and over texts and circuits as large as they may be. The last line is
 'N passed, M failed', over programs, commands, streams and texts.
 
-    check.py [--random COUNT] [--seed FIRST]    how many circuits are changed at random, and by which seeds
+    check.py [--random COUNT] [--seed FIRST]    how many circuits and decks are changed at random, and by which seeds
 """
 import argparse
 import subprocess
@@ -34,6 +34,9 @@ def commands() -> list[tuple[list, bytes, int]]:
         *((words, b"", 0) for words in lines),
         ([*streams.RUN, "--schedule", "none.schedule"], b"", 3),
         ("run --bench hazard.bench --stimuli hazard.stimuli --horizon 8 --schedule hazard.schedule".split(), b"", 0),
+        ("run --bench latch.bench --stimuli latch.stimuli --horizon 5 --counts".split(), b"", 0),
+        ("run --bench clocks.bench --delays clocks.delays --horizon 40".split(), b"", 0),
+        ("plain --bench pulse.bench --delays pulse.delays --stimuli pulse.stimuli --horizon 22".split(), b"", 0),
         (streams.HELP, b"", 0),
         (["run", "--help"], b"", 0),
         (["run", "--horizon", "x"], b"", 2),

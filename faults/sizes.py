@@ -99,8 +99,8 @@ def long_chain(texts: Texts) -> str | None:
     cone = texts.over("cone", ["n99999"], bench=bench)
     fault = fault or differs(cone, Ended(0, bench + b"OUTPUT(n99999)\n", b""))
     dumped = texts.over("run --horizon 3", [], bench=bench, stimuli=b"0 n0 1\n").out
-    wanted = b"\n#1\n0\"\n#2\n1#\n#3\n0$\n"
-    return fault or (None if dumped.endswith(b"$end" + wanted) else f"{dumped[-100:]!r}")
+    first, rest = b"$dumpvars\n1!\nx\"\nx#\nx$\nx%\n", b"$end\n#1\n0\"\n#2\n1#\n#3\n0$\n"
+    return fault or (None if first in dumped and dumped.endswith(rest) else f"{dumped[-100:]!r}")
 
 
 def wide_run(texts: Texts) -> str | None:
@@ -184,6 +184,10 @@ def most_lines(texts: Texts) -> str | None:
     """As many lines that say something as a text of this length may have."""
     outputs = b"INPUT(a)\n" + b"OUTPUT(a)\n" * ((LONGEST - 9) // 10)
     ended = texts.over("run --horizon 0", [], bench=outputs)
+    if ended.status:
+        return f"{ended.err!r}"
+    changes = b"".join(b"%d a %d\n" % (tick, tick % 2) for tick in range(1_300_000))
+    ended = texts.over("run --horizon 0", [], bench=b"INPUT(a)\n", stimuli=changes)
     if ended.status:
         return f"{ended.err!r}"
     advances = b"advance a\n" * (LONGEST // 10)

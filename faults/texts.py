@@ -99,17 +99,13 @@ def cut_file(program: Path, folder: str, name: str, option: str, words: list) ->
 
 # ---- at random
 
+def examples_of(kind: str) -> dict[str, bytes]:
+    """All examples of a kind, by their names."""
+    return {file.stem: file.read_bytes() for file in sorted(EXAMPLES.glob(f"*.{kind}"))}
+
+
 # The examples that random texts are made of, by what they are.
-SOURCES = {
-    "bench": ["bigger", "clocks", "hazard", "oscillator", "parity", "pulse", "s27", "toggle"],
-    "delays": ["clocks", "oscillator", "preset", "pulse"],
-    "stimuli": ["bigger", "hazard", "idle", "oscillator", "parity", "pulse", "s27", "toggle"],
-}
-
-
-def example(kind: str, name: str) -> bytes:
-    """A text of an example; nothing where it has no such text."""
-    return (EXAMPLES / f"{name}.{kind}").read_bytes() if name in SOURCES[kind] else b""
+SOURCES = {kind: examples_of(kind) for kind in ("bench", "delays", "stimuli")}
 
 
 def change_byte(text: bytes, draw: random.Random) -> bytes:
@@ -142,18 +138,17 @@ def change_lines(text: bytes, draw: random.Random) -> bytes:
     return b"\n".join(lines)
 
 
-def spliced(text: bytes, kind: str, draw: random.Random) -> bytes:
+def spliced(text: bytes, others: list[bytes], draw: random.Random) -> bytes:
     """The beginning of one text and the end of another."""
-    other = example(kind, draw.choice(SOURCES[kind]))
+    other = draw.choice(others)
     return text[: draw.randrange(len(text) + 1)] + other[draw.randrange(len(other) + 1):]
 
 
-def changed(kind: str, name: str, draw: random.Random) -> bytes:
-    """Mostly the example's own text, else one with some changes or another's end."""
-    text = example(kind, name)
+def changed(text: bytes, others: list[bytes], draw: random.Random) -> bytes:
+    """Mostly the text as it is, else with some changes or the end of another one."""
     for _ in range(draw.choice((0, 0, 0, 1, 1, 2, 4))):
         text = draw.choice((change_byte, change_byte, change_lines))(text, draw)
-    return spliced(text, kind, draw) if draw.random() < 0.1 else text
+    return spliced(text, others, draw) if draw.random() < 0.1 else text
 
 
 def wrong_check(ended: Ended, lines: dict[bytes, int]) -> str | None:
@@ -169,10 +164,11 @@ def at_random(program: Path, folder: str, seed: int) -> tuple[bool, str | None]:
     """A run of random texts: whether it was accepted, and what is wrong with it."""
     draw = random.Random(seed)
     words, lines = [], {}
-    name = draw.choice(SOURCES["bench"])
-    for kind in SOURCES:
+    name = draw.choice(list(SOURCES["bench"]))
+    for kind, examples in SOURCES.items():
         file = Path(folder, f"random-{seed}.{kind}")
-        text = changed(kind, name, draw)
+        # An example may have no text of this kind.
+        text = changed(examples.get(name, b""), list(examples.values()), draw)
         file.write_bytes(text)
         words += [f"--{kind}", file]
         lines[str(file).encode()] = lines_of(text)
@@ -182,12 +178,21 @@ def at_random(program: Path, folder: str, seed: int) -> tuple[bool, str | None]:
     return ended.status == 0, wrong_check(ended, lines)
 
 
-def some_at_random(program: Path, folder: str, seeds: range) -> str | None:
+def deck_at_random(program: Path, seed: int) -> tuple[bool, str | None]:
+    """A run of a random deck: whether it was accepted, and what is wrong with it."""
+    draw = random.Random(seed)
+    decks = [*examples_of("deck").values(), WHOLE]
+    deck = changed(draw.choice(decks), decks, draw)
+    ended = run([program], input=deck)
+    return ended.status == 0, wrong_end(ended, deck_lines(deck))
+
+
+def some_at_random(what: str, one: Callable[[int], tuple[bool, str | None]], seeds: range) -> str | None:
     """Many of them have to be accepted, so that the engines are compared, and many refused."""
     with ThreadPoolExecutor(os.cpu_count()) as pool:
-        answers = list(pool.map(lambda seed: at_random(program, folder, seed), seeds))
+        answers = list(pool.map(one, seeds))
     accepted = sum(fine for fine, _fault in answers)
-    print(f"faults: of {len(seeds)} circuits changed at random {accepted} were accepted", flush=True)
+    print(f"faults: of {len(seeds)} {what} changed at random {accepted} were accepted", flush=True)
     for seed, (_fine, fault) in zip(seeds, answers):
         if fault:
             return f"seed {seed}: {fault}"
@@ -201,4 +206,6 @@ def cases(program: Path, folder: str, seeds: range) -> Iterator[tuple[str, Calla
     yield "a deck of four sections, cut off at each byte", lambda: cut_deck(program, WHOLE)
     yield "a netlist, cut off at each byte", lambda: cut_file(program, folder, "s27.bench", "--bench", [*s27[:3], *s27[5:]])
     yield "stimuli, cut off at each byte", lambda: cut_file(program, folder, "s27.stimuli", "--stimuli", s27[:5])
-    yield "texts changed at random", lambda: some_at_random(program, folder, seeds)
+    yield "circuits changed at random", lambda: some_at_random(
+        "circuits", lambda seed: at_random(program, folder, seed), seeds)
+    yield "decks changed at random", lambda: some_at_random("decks", lambda seed: deck_at_random(program, seed), seeds)
