@@ -1,14 +1,15 @@
 //! Command lines of `run`, with schedules and counts.
 use crate::commanding::{Counted, Refused};
 use worked_examples::dumps::{
-    CLOCKED_DUMP, EDGE_DUMP, INVERTER_DUMP, OUTPUTS_DUMP, PRESET_RING_DUMP, SLOW_DUMP,
+    CLOCKED_DUMP, EDGE_DUMP, INVERTER_DUMP, LATCH_DUMP, OUTPUTS_DUMP, PRESET_RING_DUMP, SLOW_DUMP,
     WIRED_FLOP_DUMP, WIRED_XOR_DUMP,
 };
 
 pub(crate) const COUNTS: &str = "events 7 changes 4 nulls 3 rounds 2\n";
 
-// The inverter, with and without counts, and circuits with clocks, initial values and wires.
-pub(crate) static COUNTED_RUNS: [Counted; 8] = [
+// The inverter, with and without counts; circuits with clocks, initial values and wires; a gate that
+// looks ahead.
+pub(crate) static COUNTED_RUNS: [Counted; 9] = [
     (
         "--bench inv.bench --stimuli inv.stim --horizon 5",
         INVERTER_DUMP,
@@ -48,6 +49,11 @@ pub(crate) static COUNTED_RUNS: [Counted; 8] = [
         "--bench inv.bench --delays far.delays --stimuli inv.stim --horizon 5 --counts",
         SLOW_DUMP,
         "events 2 changes 2 nulls 2 rounds 1\n",
+    ),
+    (
+        "--bench latch.bench --stimuli latch.stim --horizon 5 --counts",
+        LATCH_DUMP,
+        "events 7 changes 2 nulls 3 rounds 2\n",
     ),
 ];
 
