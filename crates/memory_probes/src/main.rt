@@ -7,6 +7,7 @@ mod dumps;
 mod faults;
 mod following;
 mod kernels;
+mod orders;
 mod processes;
 mod telling;
 mod texts;
@@ -26,4 +27,5 @@ fn main(rt: HostRuntime) {
     let _ = kernels::probe(alloc, &mut teller);
     let _ = dumps::probe(alloc, &mut teller);
     let _ = whole_runs::probe(alloc, &mut teller);
+    let _ = orders::probe(alloc, &mut teller);
 }
