@@ -23,7 +23,7 @@ use Rattle.cmb_channels.specs.Lists.{update, sent, taken}
 use Rattle.cmb_channels.specs.Packing.{tick_of, Fits}
 use Rattle.cmb_channels.proofs.CallerLemmas.{update-set, taken_at}
 use Rattle.gate_process.specs.Knowledge.{news_of, Tells}
-use Rattle.gate_process.specs.Step.{ProcessState, ProcessView, running, safe_of, next_frontier, reckoned, advanced, news, heard}
+use Rattle.gate_process.specs.Step.{ProcessState, ProcessView, running, next_frontier, reckoned, advanced, news, heard}
 use Rattle.gate_process.specs.Truth.{CanHear}
 use Rattle.gate_process.proofs.CallerLemmas.{next-end, news_true, no_news, Tells-le}
 use Rattle.cmb_kernel.specs.declared.counts.Counts.{Counts}

@@ -5,7 +5,7 @@ use Rattle.std.proofs.lemmas.List.Sums.{AllPass-from_list_all, list_all-from_All
 use Rattle.std.proofs.lemmas.Option.{slice_get-get_or, get_or_from_slice_get}
 use Rattle.std.proofs.Math.Nat.{suc-mul}
 use Rattle.design.specs.Circuit.{Circuit, IsCircuit}
-use Rattle.gate_process.specs.Step.{ProcessState, next_frontier, safe_of}
+use Rattle.gate_process.specs.Step.{ProcessState, next_frontier}
 use Rattle.gate_process.proofs.CallerLemmas.{next-end, get_below, least-bound}
 use Rattle.cmb_channels.proofs.CallerLemmas.{view_at}
 use Rattle.cmb_kernel.specs.State.{State, frontier_at, least_frontier, least_delay, IsComplete, is_complete}

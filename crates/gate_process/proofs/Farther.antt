@@ -1,10 +1,8 @@
 -- The more is known of its pins, and of itself, the farther a net is reckoned.
-use Rattle.std.proofs.Common.{◌≡◌, ◌≢◌, ℕ, zero, suc, ◌+◌, ◌<◌, ◌≤◌, min, List, [], ◌∷◌, length, map, Option, None, Some, slice_get, refl, ap, sym, subst, ◌∙◌, arith, ◌⊎◌, inl, inr}
-use Rattle.std.specs.Option.{option_map_or}
+use Rattle.std.proofs.Common.{◌≡◌, ℕ, zero, suc, ◌+◌, ◌<◌, ◌≤◌, min, List, [], ◌∷◌, length, map, Some, slice_get, refl, ap, sym, subst, ◌∙◌, arith, ◌⊎◌, inl, inr}
 use Rattle.std.proofs.lemmas.Bool.{cases_lt}
 use Rattle.logic3.specs.declared.value.Value.{Value}
 use Rattle.logic3.specs.declared.value.Value.TheVariants.{Unknown}
-use Rattle.logic3.specs.declared.gates.GateKind.{GateKind}
 use Rattle.logic3.specs.Gate.{Refines}
 use Rattle.logic3.specs.Wave.{value_at}
 use Rattle.netlist.specs.declared.part.Part.{Part}
@@ -12,7 +10,7 @@ use Rattle.netlist.specs.declared.part.Part.TheVariants.{Input, Gate, Flop}
 use Rattle.timing_text.specs.Ranges.{HasClock}
 use Rattle.design.specs.Circuit.{Net}
 use Rattle.design.specs.Samples.{asked_of_part, asked_tick}
-use Rattle.design.specs.Equations.{later, values_at, equation_of_part, equation}
+use Rattle.design.specs.Equations.{values_at, equation_of_part}
 use Rattle.gate_process.specs.Knowledge.{Knowledge, seen, seen_pins, as_known}
 use Rattle.gate_process.specs.Step.{ProcessState, least, least_or, frontier_of, reach_of_part, reach, next_frontier, signals_of}
 use Rattle.gate_process.specs.Truth.{Meets, KnowsTruth}

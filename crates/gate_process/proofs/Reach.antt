@@ -6,13 +6,12 @@ use Rattle.std.specs.Prelude.{nat_lt}
 use Rattle.logic3.specs.declared.value.Value.{Value}
 use Rattle.logic3.specs.declared.value.Value.TheVariants.{Unknown}
 use Rattle.logic3.specs.declared.gates.GateKind.{GateKind}
-use Rattle.logic3.specs.Value.{is_same, is_same_equiv}
+use Rattle.logic3.specs.Value.{is_same}
 use Rattle.logic3.proofs.CallerLemmas.{is_same-true}
 use Rattle.netlist.specs.declared.part.Part.{Part}
 use Rattle.netlist.specs.declared.part.Part.TheVariants.{Input, Gate, Flop}
 use Rattle.timing_text.specs.declared.timing.Timing.{Timing}
 use Rattle.timing_text.specs.Ranges.{HasClock}
-use Rattle.design.specs.Circuit.{Net}
 use Rattle.design.specs.Samples.{asked_of_part, asked_tick}
 use Rattle.design.specs.Equations.{equation}
 use Rattle.gate_process.specs.Reading.{most_of_part}

@@ -1,11 +1,10 @@
 -- A process that has advanced can't be reckoned farther until it hears.
-use Rattle.std.proofs.Common.{◌≡◌, ℕ, zero, suc, ◌+◌, ◌<◌, ◌≤◌, List, [], ◌∷◌, length, map, Some, slice_get, refl, ap, sym, ◌∙◌, arith, ◌⊎◌, inl, inr}
+use Rattle.std.proofs.Common.{◌≡◌, ℕ, suc, ◌+◌, ◌<◌, ◌≤◌, List, [], ◌∷◌, Some, slice_get, refl, ap, sym, ◌∙◌, arith, ◌⊎◌, inl, inr}
 use Rattle.std.proofs.lemmas.Bool.{cases_lt}
 use Rattle.std.proofs.lemmas.Option.{get_or_from_slice_get}
-use Rattle.logic3.specs.declared.value.Value.{Value}
 use Rattle.logic3.specs.Wave.{value_at, value_before}
 use Rattle.logic3.proofs.CallerLemmas.{value_at-wave_of}
-use Rattle.design.specs.Samples.{asked_tick, wire_at}
+use Rattle.design.specs.Samples.{wire_at}
 use Rattle.design.specs.Equations.{values_at, equation}
 use Rattle.design.proofs.CallerLemmas.{same_later, same_values, source_tick-is}
 use Rattle.gate_process.specs.Knowledge.{Knowledge, seen, seen_pins, as_known}

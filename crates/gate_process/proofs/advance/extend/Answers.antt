@@ -1,11 +1,10 @@
-use Rattle.std.proofs.Common.{◌≡◌, ◌-◌, max, ap, ◌∙◌}
+use Rattle.std.proofs.Common.{◌-◌, max, ap, ◌∙◌}
 use Rattle.std.proofs.lemmas.Result.{IfOk-weaker}
 use Rattle.logic3.proofs.CallerLemmas.{OnErr_always}
 use Rattle.design.specs.Equations.{equation}
 use Rattle.gate_process.specs.Knowledge.{seen_pins}
-use Rattle.gate_process.specs.Reading.{most_of_part}
 use Rattle.gate_process.specs.Step.{signals_of, first_unknown}
-use Rattle.gate_process.proofs.Reach.{most-sure, most-end, reach-stays, reach-moves, reach-walked}
+use Rattle.gate_process.proofs.Reach.{reach-stays, reach-moves, reach-walked}
 use Rattle.gate_process.proofs.advance.extend.Goals as goal
 
 pub returns-then-stays-clause-to : goal.returns-then-stays-clause-to

@@ -1,4 +1,4 @@
-use Rattle.std.proofs.Common.{◌≡◌, ◌≢◌, ℕ, ◌+◌, ◌-◌, ◌<◌, ◌≤◌, ◌==◌, max, cond, [], ap, sym, ◌∙◌, false, arith, rules, ◌⊎◌, inl, inr}
+use Rattle.std.proofs.Common.{◌≡◌, ◌≢◌, ℕ, ◌-◌, ◌<◌, ◌≤◌, ◌==◌, max, cond, [], ap, sym, ◌∙◌, false, arith, rules, ◌⊎◌, inl, inr}
 use Rattle.std.proofs.lemmas.Bool.{cases_lt}
 use Rattle.logic3.specs.declared.value.Value.TheVariants.{Unknown}
 use Rattle.std.proofs.lemmas.Result.{IfOk-weaker}

@@ -1,10 +1,10 @@
-use Rattle.std.proofs.Common.{◌≡◌, ◌++◌, Some, option_map, slice_get, sym, subst, ◌∙◌, ap}
+use Rattle.std.proofs.Common.{◌++◌, Some, option_map, slice_get, sym, subst, ◌∙◌, ap}
 use Rattle.std.specs.Option.{option_copied}
 use Rattle.logic3.specs.declared.change.Change.{Change}
 use Rattle.logic3.specs.Rising.{TicksRise}
 use Rattle.logic3.specs.Wave.{Wave}
 use Rattle.gate_process.specs.Knowledge.{unknown_from}
-use Rattle.gate_process.proofs.Delayed.{delayed_rise, first_delayed, first_unknown_delayed}
+use Rattle.gate_process.proofs.Delayed.{delayed_rise, first_delayed}
 use Rattle.gate_process.proofs.cursor.Cursor.first_change.Goals as goal
 
 pub returns-in-Some-clause-tick : goal.returns-in-Some-clause-tick

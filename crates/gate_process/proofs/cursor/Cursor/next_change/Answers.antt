@@ -1,5 +1,4 @@
-use Rattle.std.proofs.Common.{◌≡◌, None, Some, ap, sym, subst, ◌∙◌, arith}
-use Rattle.logic3.specs.Wave.{Wave, value_at}
+use Rattle.std.proofs.Common.{sym, ◌∙◌, arith}
 use Rattle.gate_process.proofs.Passed.{first_tick-steady, no_first-steady, first_tick-later}
 use Rattle.gate_process.proofs.cursor.Cursor.next_change.Goals as goal
 

@@ -1,4 +1,4 @@
-use Rattle.std.proofs.Common.{◌≡◌, ap, sym, ◌∙◌}
+use Rattle.std.proofs.Common.{ap, sym, ◌∙◌}
 use Rattle.logic3.specs.Summary.{summary_of}
 use Rattle.design.specs.Circuit.{Net}
 use Rattle.design.specs.Equations.{values_at}

@@ -1,8 +1,5 @@
-use Rattle.std.proofs.Common.{◌≡◌, ap, ◌∙◌}
 use Rattle.logic3.specs.declared.value.Value.TheVariants.{Unknown}
 use Rattle.logic3.proofs.CallerLemmas.{AllPairs-Alternates}
-use Rattle.gate_process.specs.Knowledge.{Knowledge, seen, as_known}
-use Rattle.gate_process.proofs.Delayed.{known_later}
 use Rattle.gate_process.proofs.Passed.{rise_with}
 use Rattle.gate_process.proofs.received.Received.cursor.Goals as goal
 
