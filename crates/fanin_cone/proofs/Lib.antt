@@ -4,6 +4,7 @@ pub mod CallerLemmas
 mod DesignNets
 mod Extracted
 mod Extracting
+mod Flipped
 mod KnownNames
 mod Least
 mod Listed

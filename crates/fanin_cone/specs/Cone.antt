@@ -26,3 +26,9 @@ pub record IsConeOf (netlist : NetlistView) (names : List (List ℕ)) (numbers :
   pub rising : Rises numbers
   pub nets : (number : ℕ) →
       Contains numbers number ↔ ((number < length netlist.nets) × InCone netlist names (name_at netlist number))
+
+-- the numbers of the nets outside the cone of these names, rising
+pub record IsOutsideOf (netlist : NetlistView) (names : List (List ℕ)) (numbers : List ℕ) : Type 0 where
+  pub rising : Rises numbers
+  pub nets : (number : ℕ) →
+      Contains numbers number ↔ ((number < length netlist.nets) × (InCone netlist names (name_at netlist number) → ⊥))

@@ -1,7 +1,7 @@
 //! The walk from nets back over their pins.
-ghost use Rattle.std.specs.Prelude.{◌<◌, ◌≤◌, ◌^◌, ◌∷◌, [], length, map, All, IfOk, OnOk};
+ghost use Rattle.std.specs.Prelude.{◌≡◌, ◌<◌, ◌≤◌, ◌^◌, ◌∷◌, [], length, map, not, All, IfOk, OnOk};
 ghost use Rattle.netlist.specs.Netlist.{name_at};
-ghost use Rattle.fanin_cone.specs.Cone.{IsConeOf};
+ghost use Rattle.fanin_cone.specs.Cone.{IsConeOf, IsOutsideOf};
 ghost use Rattle.fanin_cone.specs.Walk.{Marks, MarksCone, NumbersMarked};
 
 use design::Design;
@@ -38,10 +38,36 @@ pub(crate) fn cone_of(
     marked_nets(alloc, marks.as_slice())
 }
 
+/// The numbers of the nets outside the cone of these nets, rising: none of these hangs on them.
+///
+/// Takes time and memory in proportion to the nets and pins.
+///
+/// # Errors
+/// An `AllocError` where a growth was refused.
+pub fn outside(alloc: Global, netlist: &Netlist, starts: &[u32]) -> Result<Vec<u32>, AllocError>
+    requires { All (λ start. start < length netlist.now.nets) starts.now }
+    ensures { IfOk result
+        (λ nets. IsOutsideOf netlist.now (map (name_at netlist.now) starts.now) nets.items) }
+{
+    let mut marks = marked_cone(alloc, netlist, starts)?;
+    flip(marks.as_mut_slice());
+    marked_nets(alloc, marks.as_slice())
+}
+
+/// Marks what isn't marked, and nothing else.
+fn flip(marks: &mut [bool])
+    ensures { marks.new ≡ map not marks.old }
+{
+    for mark in marks.iter_mut() {
+        *mark = !*mark;
+    }
+}
+
 /// Which nets are in the cone of these nets.
 fn marked_cone(alloc: Global, netlist: &Netlist, starts: &[u32]) -> Result<Vec<bool>, AllocError>
     requires { All (λ start. start < length netlist.now.nets) starts.now }
     ensures few { IfOk result (λ marks. length marks.items ≤ 100_000) }
+    ensures size { IfOk result (λ marks. length marks.items ≡ length netlist.now.nets) }
     ensures cone { IfOk result
         (λ marks. MarksCone netlist.now (map (name_at netlist.now) starts.now) marks.items) }
 {

@@ -9,6 +9,6 @@ mod fault;
 pub mod laws;
 
 pub use agreement::agree;
-pub use cones::cone;
+pub use cones::{cone, outside};
 pub use extraction::extract;
 pub use fault::ConeFault;

@@ -1,0 +1,49 @@
+-- Counts of the pins of all nets.
+use Rattle.std.proofs.Common.{◌≡◌, ℕ, suc, ◌+◌, ◌<◌, ◌≤◌, ◌==◌, List, [], ◌∷◌, length, get_or, set, take, count_by, true, false, sym, ap, ◌∙◌, arith, All, inl, inr}
+use Rattle.std.specs.List.{flat_map}
+use Rattle.std.proofs.lemmas.Bool.{cases_eq}
+use Rattle.std.proofs.lemmas.Bool.Decides.{nat_tests}
+use Rattle.std.proofs.lemmas.List.{get_or-set_same, get_or-set_other, length-take-le}
+use Rattle.std.proofs.lemmas.List.Concat.{length-flat_map}
+use Rattle.std.proofs.lemmas.List.Elements.{All-nil, All-append}
+use Rattle.std.proofs.lemmas.List.Sums.{count_by-le-length, count_by_more_yes, count_by_more_no}
+use Rattle.netlist.specs.Netlist.{NetView, NetlistView, IsNetlist}
+use Rattle.circuit_info.specs.Counts.{all_pins}
+
+is_itself : (net : ℕ) → (net == net) ≡ true
+is_itself net = grind (arith, nat_tests)
+
+test_fails : (m n : ℕ) → (m ≡ n → ⊥) → (m == n) ≡ false
+test_fails m n other = grind (arith, nat_tests)
+
+All-flat : (P : ℕ → Type 0) (nets : List NetView) → All (λ (net : NetView). All P net.pins) nets → All P (flat_map (λ (net : NetView). net.pins) nets)
+All-flat P [] all = All-nil P
+All-flat P (net ∷ nets) all = All-append P net.pins _ (all 0 net (omega arith)) (All-flat P nets (λ k d within. all (suc k) d (omega (arith, within))))
+
+pub pins_within : (netlist : NetlistView) → IsNetlist netlist → All (λ pin. pin < length netlist.nets) (all_pins netlist)
+pins_within netlist ok = All-flat (λ pin. pin < length netlist.nets) netlist.nets ok.pins
+
+pub few_pins : (netlist : NetlistView) → IsNetlist netlist → length (all_pins netlist) ≤ 1_000_000
+few_pins netlist ok = omega (arith, ok.pin_limit, length-flat_map (λ (net : NetView). net.pins) netlist.nets)
+
+abbrev pub times : ℕ → List ℕ → ℕ
+times net pins = count_by (λ pin. pin == net) pins
+
+pub few_times : (net : ℕ) (pins : List ℕ) (i : ℕ) → i ≤ length pins → times net (take i pins) ≤ i
+few_times net pins i within = omega (arith, count_by-le-length (λ pin. pin == net) (take i pins), length-take-le i pins within)
+
+-- the pin at hand is counted
+pub counted_more : (counts pins : List ℕ) (i : ℕ) → i < length pins → get_or pins i 0 < length counts →
+    ((net : ℕ) → net < length counts → get_or counts net 0 ≡ times net (take i pins)) → (net : ℕ) → net < length counts →
+    get_or (set counts (get_or pins i 0) (get_or counts (get_or pins i 0) 0 + 1)) net 0 ≡ times net (take (i + 1) pins)
+counted_more counts pins i within below each net inside = elim (cases_eq (get_or pins i 0) net) [
+  | inl same ↦
+      ap (λ n. get_or (set counts (get_or pins i 0) (get_or counts (get_or pins i 0) 0 + 1)) n 0) (sym same)
+      ∙ get_or-set_same counts (get_or pins i 0) _ 0 below
+      ∙ ap (λ n. n + 1) (ap (λ n. get_or counts n 0) same ∙ each net inside)
+      ∙ sym (count_by_more_yes (λ pin. pin == net) pins i 0 within (ap (λ n. n == net) same ∙ is_itself net))
+  | inr apart ↦
+      get_or-set_other counts (get_or pins i 0) net _ 0 (λ same. apart (sym same))
+      ∙ each net inside
+      ∙ sym (count_by_more_no (λ pin. pin == net) pins i 0 within (test_fails (get_or pins i 0) net apart))
+]

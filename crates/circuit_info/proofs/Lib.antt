@@ -1,0 +1,8 @@
+pub mod CallerLemmas
+mod Climbing
+mod Ends
+mod Counting
+mod Levelling
+mod Links
+mod Marks
+mod Tops

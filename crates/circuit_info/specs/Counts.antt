@@ -1,0 +1,47 @@
+-- What is counted of a netlist.
+use Rattle.std.specs.Prelude.{◌≡◌, ℕ, ◌<◌, ◌≤◌, ◌==◌, List, length, map, count_by, slice_index_or}
+use Rattle.std.specs.List.{flat_map}
+use Rattle.logic3.specs.declared.gates.GateKind.TheVariants.{And, Nand, Or, Nor, Xor, Xnor, Not, Buf}
+use Rattle.netlist.specs.declared.part.Part.{Part}
+use Rattle.netlist.specs.declared.part.Part.TheVariants.{Input, Gate, Flop}
+use Rattle.netlist.specs.Netlist.{NetView, NetlistView}
+
+-- a number for each part, no two alike
+abbrev pub part_code : Part → ℕ
+part_code Input = 0
+part_code (Gate And) = 1
+part_code (Gate Nand) = 2
+part_code (Gate Or) = 3
+part_code (Gate Nor) = 4
+part_code (Gate Xor) = 5
+part_code (Gate Xnor) = 6
+part_code (Gate Not) = 7
+part_code (Gate Buf) = 8
+part_code Flop = 9
+
+-- how many nets this part drives
+abbrev pub part_count : NetlistView → Part → ℕ
+part_count netlist part = count_by (λ (net : NetView). part_code net.part == part_code part) netlist.nets
+
+-- the pins of all nets, net after net
+abbrev pub all_pins : NetlistView → List ℕ
+all_pins netlist = flat_map (λ (net : NetView). net.pins) netlist.nets
+
+-- for each net how many pins it has
+abbrev pub fan_ins : NetlistView → List ℕ
+fan_ins netlist = map (λ (net : NetView). length net.pins) netlist.nets
+
+-- at how many pins a net stands
+abbrev pub fan_out : NetlistView → ℕ → ℕ
+fan_out netlist net = count_by (λ pin. pin == net) (all_pins netlist)
+
+-- for each net at how many pins it stands
+pub record IsFanOuts (netlist : NetlistView) (counts : List ℕ) : Type 0 where
+  pub size : length counts ≡ length netlist.nets
+  pub each : (net : ℕ) → net < length netlist.nets → slice_index_or counts net 0 ≡ fan_out netlist net
+
+-- the first place of the greatest number
+pub record IsFirstGreatest (numbers : List ℕ) (place : ℕ) : Type 0 where
+  pub within : place < length numbers
+  pub greatest : (other : ℕ) → other < length numbers → slice_index_or numbers other 0 ≤ slice_index_or numbers place 0
+  pub first : (earlier : ℕ) → earlier < place → slice_index_or numbers earlier 0 < slice_index_or numbers place 0

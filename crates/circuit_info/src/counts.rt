@@ -1,0 +1,97 @@
+//! What is counted of a netlist's nets and pins.
+ghost use Rattle.std.specs.Prelude.{◌≡◌, ◌<◌, ◌≤◌, length, All, IfOk};
+ghost use Rattle.circuit_info.specs.Counts.{all_pins, fan_ins, part_code, part_count, IsFanOuts, IsFirstGreatest};
+
+use logic3::GateKind;
+use netlist::{Netlist, Part};
+use std::alloc::{AllocError, Global};
+
+/// How many nets this part drives: 0 to 100,000.
+pub fn part_count(netlist: &Netlist, part: Part) -> u32
+    ensures { result ≡ part_count netlist.now part }
+{
+    let mut count = 0;
+    for net in 0..netlist.nets() {
+        if part_code(netlist.part(net)) == part_code(part) {
+            count += 1;
+        }
+    }
+    count
+}
+
+/// A number for each part, no two alike.
+fn part_code(part: Part) -> u8
+    ensures { result ≡ part_code part }
+{
+    match part {
+        Part::Input => 0,
+        Part::Gate(GateKind::And) => 1,
+        Part::Gate(GateKind::Nand) => 2,
+        Part::Gate(GateKind::Or) => 3,
+        Part::Gate(GateKind::Nor) => 4,
+        Part::Gate(GateKind::Xor) => 5,
+        Part::Gate(GateKind::Xnor) => 6,
+        Part::Gate(GateKind::Not) => 7,
+        Part::Gate(GateKind::Buf) => 8,
+        Part::Flop => 9,
+    }
+}
+
+/// The numbers of the nets at the pins of all nets, net after net, in order.
+///
+/// # Errors
+/// An `AllocError` where a growth was refused.
+pub fn all_pins(alloc: Global, netlist: &Netlist) -> Result<Vec<u32>, AllocError>
+    ensures { IfOk result (λ pins. pins.items ≡ all_pins netlist.now) }
+{
+    let mut pins = Vec::new(alloc);
+    for net in 0..netlist.nets() {
+        pins.extend_from_slice(netlist.pins_of(net))?;
+    }
+    Ok(pins)
+}
+
+/// For each net how many pins it has, in order.
+///
+/// # Errors
+/// An `AllocError` where a growth was refused.
+pub fn fan_ins(alloc: Global, netlist: &Netlist) -> Result<Vec<usize>, AllocError>
+    ensures { IfOk result (λ counts. counts.items ≡ fan_ins netlist.now) }
+{
+    let mut counts = Vec::new(alloc);
+    for net in 0..netlist.nets() {
+        counts.push(netlist.pins_of(net).len())?;
+    }
+    Ok(counts)
+}
+
+/// For each net at how many pins it stands, in order; a net that stands at two pins of one net counts twice.
+///
+/// Takes time and memory in proportion to the nets and pins.
+///
+/// # Errors
+/// An `AllocError` where a growth was refused.
+pub fn fan_outs(alloc: Global, netlist: &Netlist) -> Result<Vec<usize>, AllocError>
+    ensures { IfOk result (λ counts. IsFanOuts netlist.now counts.items) }
+{
+    let pins = all_pins(alloc, netlist)?;
+    let mut counts = vec![in alloc; 0; netlist.nets() as usize]?;
+    for pin in &pins {
+        counts[*pin as usize] += 1;
+    }
+    Ok(counts)
+}
+
+/// The first place of the greatest of these numbers. There is at least one.
+pub fn first_greatest(numbers: &[usize]) -> usize
+    requires { 0 < length numbers.now }
+    ensures { IsFirstGreatest numbers.now result }
+{
+    let mut greatest = 0;
+    for place in 1..numbers.len() {
+        if numbers[place] > numbers[greatest] {
+            greatest = place;
+        }
+    }
+    greatest
+}
