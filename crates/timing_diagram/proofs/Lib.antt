@@ -1,0 +1,4 @@
+mod Escapes
+mod Joined
+mod Nets
+mod Steady
