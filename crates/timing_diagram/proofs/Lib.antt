@@ -1,4 +1,5 @@
 mod Escapes
 mod Joined
 mod Nets
+mod Shown
 mod Steady

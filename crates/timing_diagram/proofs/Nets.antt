@@ -1,12 +1,11 @@
 -- The shown nets, one after the other.
-use Rattle.std.proofs.Common.{◌≡◌, ◌∙◌, refl, sym, ap, arith, ℕ, zero, suc, ◌+◌, ◌*◌, ◌-◌, ◌<◌, ◌≤◌, max, List, [], ◌∷◌, ◌++◌, length, drop, flat_map, get_or, Option, None, Some, slice_get, option_map, drop-cons, add-one, append_assoc, codes}
+use Rattle.std.proofs.Common.{◌≡◌, ◌∙◌, refl, ap, arith, ℕ, suc, ◌+◌, ◌<◌, max, List, [], ◌∷◌, ◌++◌, length, drop, flat_map, get_or, Option, None, Some, slice_get, option_map, drop-cons, add-one, append_assoc, codes}
 use Rattle.std.specs.List.{enumerate_from}
 use Rattle.std.specs.Option.{option_map_or}
-use Rattle.std.proofs.lemmas.Option.{slice_get-get_or}
 use Rattle.logic3.specs.Wave.{Wave, value_at}
 use Rattle.design.specs.Circuit.{Net, Circuit}
 use Rattle.vcd_dump.specs.Dump.{Trace}
-use Rattle.vcd_dump.specs.Traces.{name_of, traces}
+use Rattle.vcd_dump.specs.Traces.{traces}
 use Rattle.timing_diagram.specs.Columns.{Ticks, column_count}
 use Rattle.timing_diagram.specs.Picture.{widest, left_edge, picture_height, heading, grid, row, svg_text}
 use Rattle.timing_diagram.proofs.Joined.{joined₄}

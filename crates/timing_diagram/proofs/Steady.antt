@@ -1,5 +1,5 @@
 -- A waveform stays until its next change.
-use Rattle.std.proofs.Common.{◌≡◌, ◌≢◌, ◌∙◌, refl, sym, ap, arith, ℕ, zero, suc, ◌+◌, ◌-◌, ◌<◌, ◌≤◌, nat_le, nat_lt, Bool, true, false, List, [], ◌∷◌, length, Option, None, Some, slice_get, ◌⊎◌, inl, inr, add-one, subst, get_or, drop, take}
+use Rattle.std.proofs.Common.{◌≡◌, ◌≢◌, ◌∙◌, refl, sym, ap, arith, ℕ, zero, suc, ◌+◌, ◌-◌, ◌<◌, ◌≤◌, nat_le, nat_lt, Bool, true, false, List, [], ◌∷◌, length, Option, None, Some, slice_get, ◌⊎◌, inl, inr, add-one, subst, drop, take}
 use Rattle.std.specs.Prelude.{Contains}
 use Rattle.std.proofs.lemmas.List.{take_rest}
 use Rattle.std.specs.List.Sorted.{IsPartitionPoint}
@@ -29,7 +29,7 @@ steady_at signal v first last same = ap is_empty (quiet signal (first + 1) (last
     go (suc tick) a b = same (suc tick) (omega arith) ∙ sym (same tick (omega arith))
 
 -- a change makes it unsteady
-changes_there : (signal : ℕ → Value) (first last at : ℕ) (v : Value) → first < at → at ≤ last → signal at ≡ v → signal (at - 1) ≢ v →
+pub changes_there : (signal : ℕ → Value) (first last at : ℕ) (v : Value) → first < at → at ≤ last → signal at ≡ v → signal (at - 1) ≢ v →
     is_steady signal first last ≡ false
 changes_there signal first last zero v after within now differs = absurd (omega arith)
 changes_there signal first last (suc at) v after within now differs =

@@ -1,5 +1,5 @@
 -- The text of a drawing.
-use Rattle.std.specs.Prelude.{ℕ, ◌+◌, ◌-◌, ◌*◌, ◌/◌, max, List, [], ◌∷◌, ◌++◌, length, map, flat_map, replicate, codes, decimal}
+use Rattle.std.specs.Prelude.{ℕ, ◌+◌, ◌-◌, ◌*◌, ◌/◌, List, ◌++◌, length, map, flat_map, replicate, codes, decimal}
 use Rattle.std.specs.List.{range_with_len}
 use Rattle.logic3.specs.declared.value.Value.{Value}
 use Rattle.vcd_dump.specs.Dump.{Trace}

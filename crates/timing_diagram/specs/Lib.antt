@@ -7,3 +7,4 @@ pub mod Faults
 pub mod Marks
 pub mod Picture
 pub mod Drawing
+pub mod Read

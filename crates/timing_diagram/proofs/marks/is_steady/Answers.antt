@@ -1,9 +1,9 @@
-use Rattle.std.proofs.Common.{rules, leb, ◌≡◌, ◌∙◌, sym, ap, subst, Option, Some, None, nat_lt}
+use Rattle.std.proofs.Common.{rules, leb, ◌∙◌, sym, ap, subst, Some, None, nat_lt}
 use Rattle.std.proofs.lemmas.List.Sorted.{IsPartitionPoint-from_clause, IsPartitionedBy-leb}
 use Rattle.logic3.specs.declared.change.Change.{Change}
 use Rattle.logic3.specs.Rising.{TicksRise}
 use Rattle.logic3.proofs.CallerLemmas.{RisesBy-ascends, AllPairs-Alternates}
-use Rattle.timing_diagram.proofs.Steady.{is_late, steady-found}
+use Rattle.timing_diagram.proofs.Steady.{steady-found}
 use Rattle.timing_diagram.proofs.marks.is_steady.Goals as goal
 
 pub returns-in-Some : goal.returns-in-Some

@@ -1,4 +1,4 @@
-use Rattle.std.proofs.Common.{arith, ◌∙◌, ◌+◌, ◌++◌, ap, sym, append_assoc, drop, get_or}
+use Rattle.std.proofs.Common.{arith, ◌∙◌, ◌+◌, ◌++◌, ap, append_assoc, drop, get_or}
 use Rattle.logic3.specs.Wave.{value_at}
 use Rattle.vcd_dump.specs.Traces.{traces}
 use Rattle.timing_diagram.specs.Picture.{name_row, signal_row}

@@ -1,4 +1,4 @@
-use Rattle.std.proofs.Common.{◌∙◌, ◌+◌, ◌*◌, ap, sym, refl, min}
+use Rattle.std.proofs.Common.{◌∙◌, ◌+◌, ◌*◌, ap, sym, min}
 use Rattle.vcd_dump.specs.Traces.{traces}
 use Rattle.timing_diagram.proofs.Nets.{length-traces, svg-joined}
 use Rattle.timing_diagram.proofs.picture.push_svg.Goals as goal

@@ -1,4 +1,4 @@
-use Rattle.std.proofs.Common.{arith, ◌∙◌, ◌+◌, ap, max, drop, length, []}
+use Rattle.std.proofs.Common.{arith, ◌∙◌, ◌+◌, ap, max, drop, []}
 use Rattle.logic3.specs.declared.value.Value.TheVariants.{Unknown}
 use Rattle.vcd_dump.specs.Traces.{traces}
 use Rattle.timing_diagram.specs.Picture.{widest}
