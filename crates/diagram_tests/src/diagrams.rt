@@ -1,0 +1,161 @@
+//! The worked circuits, drawn.
+use crate::circuits::{CROSSING, Circuit, HAZARD, INVERTER, MARKED, S27, SAMPLER};
+use Form::{Svg, Text};
+use design::{Design, plain_waves};
+use logic3::Waveform;
+use std::alloc::Global;
+use std::process::Abort;
+use std::test::Fail;
+use timing_diagram::{Columns, Form, draw};
+use timing_text::Horizon;
+
+// A circuit, its horizon, the ticks from one to another by a step, a form, and what is drawn.
+type Row = (Circuit, u64, (u64, u64, u64), Form, &'static [u8]);
+
+const INVERTER_SVG: &[u8] =
+    b"<svg xmlns=\"http://www.w3.org/2000/svg\" width=\"164\" height=\"100\" font-family=\"monospace\" font-size=\"12\">\n\
+      <rect width=\"100%\" height=\"100%\" fill=\"white\"/>\n\
+      <path d=\"M24 20V100\" stroke=\"#ccc\"/><text y=\"14\" x=\"24\">0</text>\n\
+      <text x=\"8\" y=\"44\">a</text><path transform=\"translate(24 30)\" d=\"M0 16h10M10 16h10M20 16h10M30 16v-16h10M40 0h10M50 0h10\" fill=\"none\" stroke=\"black\"/>\n\
+      <text x=\"8\" y=\"74\">y</text><path transform=\"translate(24 60)\" d=\"M0 0h10m-10 16h10m-10 0l10-16M10 16v-16h10M20 0h10M30 0h10M40 0v16h10M50 16h10\" fill=\"none\" stroke=\"black\"/>\n\
+      </svg>\n";
+
+// Where a net changes within a column there is a cross.
+const HAZARD_SVG: &[u8] =
+    b"<svg xmlns=\"http://www.w3.org/2000/svg\" width=\"134\" height=\"130\" font-family=\"monospace\" font-size=\"12\">\n\
+      <rect width=\"100%\" height=\"100%\" fill=\"white\"/>\n\
+      <path d=\"M24 20V130\" stroke=\"#ccc\"/><text y=\"14\" x=\"24\">4</text>\n\
+      <text x=\"8\" y=\"44\">a</text><path transform=\"translate(24 30)\" d=\"M0 0l10 16m-10 0l10-16M10 0h10M20 0h10\" fill=\"none\" stroke=\"black\"/>\n\
+      <text x=\"8\" y=\"74\">b</text><path transform=\"translate(24 60)\" d=\"M0 16h10M10 16v-16h10M20 0h10\" fill=\"none\" stroke=\"black\"/>\n\
+      <text x=\"8\" y=\"104\">y</text><path transform=\"translate(24 90)\" d=\"M0 16h10M10 0l10 16m-10 0l10-16M20 16h10\" fill=\"none\" stroke=\"black\"/>\n\
+      </svg>\n";
+
+const MARKED_SVG: &[u8] =
+    b"<svg xmlns=\"http://www.w3.org/2000/svg\" width=\"154\" height=\"70\" font-family=\"monospace\" font-size=\"12\">\n\
+      <rect width=\"100%\" height=\"100%\" fill=\"white\"/>\n\
+      <path d=\"M64 20V70\" stroke=\"#ccc\"/><text y=\"14\" x=\"64\">7</text>\n\
+      <text x=\"8\" y=\"44\">a&lt;b&amp;c&gt;</text><path transform=\"translate(64 30)\" d=\"M0 0h10m-10 16h10m-10 0l10-16\" fill=\"none\" stroke=\"black\"/>\n\
+      </svg>\n";
+
+const S27_TEXT: &[u8] = b"     0.........10........20........30........\n\
+      G0   ------------\\_______________________\n\
+      G1   ----------------------\\_____________\n\
+      G2   ____________/-----------------------\n\
+      G3   ______________________/-------------\n\
+      G5   xxxxxxxxxxx/---------\\______________\n\
+      G6   xxxxxxxxxxx\\___________________/----\n\
+      G7   xxxxxxxxxxx/---------\\______________\n\
+      G14  x\\___________/----------------------\n\
+      G17  xxxxxx/--------------------\\________\n\
+      G8   xx\\_____________________________/---\n\
+      G15  xxx\\____________________/-----------\n\
+      G16  xxx\\___________________/------------\n\
+      G9   xxxx/--------------------\\__________\n\
+      G10  xxxxxx/-------\\_____________________\n\
+      G11  xxxxx\\____________________/---------\n\
+      G12  x\\_____________________/------------\n\
+      G13  xx/----------\\______________________\n";
+
+static DRAWN: [Row; 10] = [
+    (
+        INVERTER,
+        5,
+        (0, 5, 1),
+        Text,
+        b"   0.........\na  ___/--\ny  x/--\\_\n",
+    ),
+    (INVERTER, 5, (5, 5, 7), Text, b"   5.........\na  -\ny  _\n"),
+    (
+        HAZARD,
+        8,
+        (0, 8, 1),
+        Text,
+        b"   0.........\na  _____/---\nb  x\\____/--\ny  xx\\___/\\_\n",
+    ),
+    (
+        HAZARD,
+        8,
+        (0, 8, 2),
+        Text,
+        b"   0.........\na  __|--\nb  |__/-\ny  x\\_|_\n",
+    ),
+    (
+        CROSSING,
+        6,
+        (0, 6, 1),
+        Text,
+        b"   0.........\na  ----\\__\nb  ____/--\ny  x\\_____\n",
+    ),
+    (
+        SAMPLER,
+        12,
+        (0, 12, 1),
+        Text,
+        b"   0.........10........\nd  xxxx/\\_______\nq  xxxxx/---\\___\n",
+    ),
+    (S27, 35, (0, 35, 1), Text, S27_TEXT),
+    (INVERTER, 5, (0, 5, 1), Svg, INVERTER_SVG),
+    (HAZARD, 8, (4, 8, 2), Svg, HAZARD_SVG),
+    (MARKED, 7, (7, 7, 1), Svg, MARKED_SVG),
+];
+
+// The diagram of these nets is this text.
+fn is_drawn(
+    rt: &impl Abort,
+    alloc: Global,
+    design: &Design,
+    shown: &[u32],
+    waves: &[Waveform],
+    columns: Columns,
+    form: Form,
+    text: &[u8],
+) {
+    let nets = design.nets();
+    assert!(rt; shown.iter().all(|net| *net < nets));
+    assert!(rt; waves.len() == shown.len());
+    assert!(rt; shown.len() as u64 <= u64::from(nets));
+    let mut out = Vec::new(alloc);
+    let answer = draw(alloc, &mut out, design, shown, waves, columns, form);
+    assert!(rt; answer == Ok(()));
+    assert!(rt; out.as_slice() == text);
+}
+
+// The diagram of all nets.
+fn shows(rt: &impl Abort, alloc: Global, row: &Row) -> Result<(), Fail> {
+    let (circuit, horizon, (from, to, step), form, text) = *row;
+    let design = circuit.build(alloc)?;
+    let waves = plain_waves(alloc, &design, Horizon::new(horizon)?)?;
+    let mut shown = Vec::new(alloc);
+    for net in 0..design.nets() {
+        shown.push(net)?;
+    }
+    let columns = Columns::new(from, to, step)?;
+    is_drawn(
+        rt,
+        alloc,
+        &design,
+        shown.as_slice(),
+        waves.as_slice(),
+        columns,
+        form,
+        text,
+    );
+    Ok(())
+}
+
+#[test]
+fn worked_circuits(rt: HostRuntime) -> Result<(), Fail> {
+    for row in &DRAWN {
+        shows(&rt, rt.alloc(), row)?;
+    }
+    Ok(())
+}
+
+#[test]
+fn no_net(rt: HostRuntime) -> Result<(), Fail> {
+    let design = INVERTER.build(rt.alloc())?;
+    let columns = Columns::new(3, 14, 1)?;
+    let text = b"  3.........13........\n";
+    is_drawn(&rt, rt.alloc(), &design, &[], &[], columns, Text, text);
+    Ok(())
+}

@@ -1,0 +1,5 @@
+mod Escapes
+mod Joined
+mod Nets
+mod Shown
+mod Steady

@@ -1,0 +1,16 @@
+use Rattle.std.proofs.Common.{◌+◌, ◌*◌, codes}
+use Rattle.logic3.specs.Wave.{value_at}
+use Rattle.timing_diagram.specs.Picture.{numbered, signal_path}
+use Rattle.timing_diagram.proofs.Joined.{joined₅}
+use Rattle.timing_diagram.proofs.picture.push_signal_row.Goals as goal
+
+pub returns : goal.returns
+returns c =
+    joined₅ _ _ _ _ _ _
+    (numbered (codes "<path transform=\"translate(") c.args.left)
+    (numbered (codes " ") (30 * c.args.place + 30))
+    (codes ")\" d=\"")
+    (signal_path (value_at c.args.wave.now) c.args.columns)
+    (codes "\" fill=\"none\" stroke=\"black\"/>\n")
+    c.in_ok-push_numbered.ensures c.in_ok-push_numbered-2.ensures c.in_ok-extend_from_slice.ensures.items
+    c.in_ok-push_signal.ensures c.in_ok-extend_from_slice-2.ensures.items

@@ -1,0 +1,12 @@
+-- The lines so far and those to come are all.
+use Rattle.std.proofs.Common.{◌≡◌, ◌++◌, drop, flat_map}
+use Rattle.vcd_dump.specs.Traces.{traces}
+use Rattle.timing_diagram.specs.Picture.{widest}
+use Rattle.timing_diagram.specs.Drawing.{line_text, drawn_text}
+use Rattle.timing_diagram.proofs.text.push_text.Given as goal
+
+abbrev pub invariant-loop-place : goal.invariant-loop-place
+invariant-loop-place l =
+    l.text.items ++ flat_map (line_text (widest (traces l.design.circuit l.shown l.waves)) l.columns)
+    (traces l.design.circuit (drop l.place l.shown) (drop l.place l.waves))
+    ≡ l.fn.text.items ++ drawn_text l.columns (traces l.design.circuit l.shown l.waves)

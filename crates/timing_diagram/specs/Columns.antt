@@ -1,0 +1,40 @@
+-- The ticks that are drawn, and their columns.
+use Rattle.std.specs.Prelude.{ℕ, ◌+◌, ◌-◌, ◌*◌, ◌/◌, ◌≤◌, ◌==◌, nat_lt, if◌then◌else◌, min, Result, Ok, Err}
+use Rattle.timing_diagram.specs.declared.fault.ColumnsFault.{ColumnsFault}
+use Rattle.timing_diagram.specs.declared.fault.ColumnsFault.TheVariants.{NoStep, Backwards, TooManyColumns}
+
+-- the ticks from one to another, so many of them a column
+pub record Ticks : Type 0 where
+  pub from : ℕ
+  pub to : ℕ
+  pub step : ℕ
+
+-- the most columns of a drawing
+abbrev pub most_columns : ℕ
+most_columns = 1_000
+
+-- as many columns as hold all the ticks
+abbrev pub column_count : Ticks → ℕ
+column_count ticks = (ticks.to - ticks.from) / ticks.step + 1
+
+-- the first tick of a column
+abbrev pub first_tick : Ticks → ℕ → ℕ
+first_tick ticks column = ticks.from + column * ticks.step
+
+-- the last tick of a column
+abbrev pub last_tick : Ticks → ℕ → ℕ
+last_tick ticks column = min (first_tick ticks column + (ticks.step - 1)) ticks.to
+
+-- ticks that can be drawn
+pub record IsDrawable (ticks : Ticks) : Type 0 where
+  pub some : 1 ≤ ticks.step
+  pub forward : ticks.from ≤ ticks.to
+  pub few : column_count ticks ≤ most_columns
+
+-- the ticks from one to another by a step, where they can be drawn
+abbrev pub columns_of : ℕ → ℕ → ℕ → Result Ticks ColumnsFault
+columns_of from to step =
+    if step == 0 then Err NoStep
+    else if nat_lt to from then Err Backwards
+    else if nat_lt most_columns ((to - from) / step + 1) then Err TooManyColumns
+    else Ok (record { from = from; to = to; step = step })

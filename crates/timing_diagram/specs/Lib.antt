@@ -1,0 +1,10 @@
+pub use Rattle.vcd_dump.specs.Bytes
+pub use Rattle.vcd_dump.specs.Traces
+pub use Rattle.logic3.specs.Wave
+pub use Rattle.design.specs.Circuit
+pub mod Columns
+pub mod Faults
+pub mod Marks
+pub mod Picture
+pub mod Drawing
+pub mod Read

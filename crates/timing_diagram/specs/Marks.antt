@@ -1,0 +1,32 @@
+-- What a drawing shows of a signal in a column.
+use Rattle.std.specs.Prelude.{ℕ, ◌+◌, ◌-◌, ◌==◌, ◌&&◌, not, Bool, if◌then◌else◌}
+use Rattle.logic3.specs.declared.value.Value.{Value}
+use Rattle.logic3.specs.declared.value.Value.TheVariants.{Zero, One, Unknown}
+use Rattle.logic3.specs.Value.{is_same}
+use Rattle.logic3.specs.Wave.{changes_between}
+use Rattle.text_lines.specs.Text.{is_empty}
+use Rattle.timing_diagram.specs.declared.mark.Mark.{Mark}
+use Rattle.timing_diagram.specs.declared.mark.Mark.TheVariants.{Low, Fall, High, Rise, Unsure, Changing}
+use Rattle.timing_diagram.specs.Columns.{Ticks, first_tick, last_tick}
+
+-- whether a signal stays from one tick to another
+abbrev pub is_steady : (ℕ → Value) → ℕ → ℕ → Bool
+is_steady signal first last = is_empty (changes_between signal (first + 1) (last + 1))
+
+-- whether a signal comes to a column with an edge; before the first column nothing is shown
+abbrev pub has_edge : (ℕ → Value) → Ticks → ℕ → Bool
+has_edge signal ticks column =
+    not (column == 0) && not (is_same (signal (first_tick ticks column - 1)) (signal (first_tick ticks column)))
+
+-- the mark of a value, with an edge before it or without
+abbrev pub level_mark : Bool → Value → Mark
+level_mark edge Zero = if edge then Fall else Low
+level_mark edge One = if edge then Rise else High
+level_mark edge Unknown = Unsure
+
+-- the mark of a column
+abbrev pub mark_at : (ℕ → Value) → Ticks → ℕ → Mark
+mark_at signal ticks column =
+    if is_steady signal (first_tick ticks column) (last_tick ticks column)
+    then level_mark (has_edge signal ticks column) (signal (first_tick ticks column))
+    else Changing

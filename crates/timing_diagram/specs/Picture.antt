@@ -1,0 +1,95 @@
+-- The text of a drawing as a picture.
+use Rattle.std.specs.Prelude.{ℕ, ◌+◌, ◌*◌, ◌/◌, ◌==◌, if◌then◌else◌, min, max, List, [], ◌∷◌, ◌++◌, length, flat_map, codes, decimal}
+use Rattle.std.specs.List.{enumerate_from, range_with_len}
+use Rattle.logic3.specs.declared.value.Value.{Value}
+use Rattle.vcd_dump.specs.Dump.{Trace}
+use Rattle.timing_diagram.specs.declared.mark.Mark.{Mark}
+use Rattle.timing_diagram.specs.declared.mark.Mark.TheVariants.{Low, Fall, High, Rise, Unsure, Changing}
+use Rattle.timing_diagram.specs.Columns.{Ticks, column_count, first_tick}
+use Rattle.timing_diagram.specs.Marks.{mark_at}
+
+-- the bytes of the longest name
+abbrev pub widest : List Trace → ℕ
+widest [] = 0
+widest ((name, signal) ∷ traces) = max (length name) (widest traces)
+
+-- a number behind a text
+abbrev pub numbered : List ℕ → ℕ → List ℕ
+numbered text number = text ++ decimal number
+
+-- a byte as XML asks
+abbrev pub escaped_byte : ℕ → List ℕ
+escaped_byte byte =
+    if byte == 38 then codes "&amp;"
+    else if byte == 60 then codes "&lt;"
+    else if byte == 62 then codes "&gt;"
+    else byte ∷ []
+
+-- a name as XML asks
+abbrev pub escaped : List ℕ → List ℕ
+escaped name = flat_map escaped_byte name
+
+-- where the columns begin: right of the names, of at most 255 bytes
+abbrev pub left_edge : List Trace → ℕ
+left_edge traces = 8 * min (widest traces) 255 + 16
+
+abbrev pub picture_height : List Trace → ℕ
+picture_height traces = 30 * length traces + 40
+
+-- a mark ten wide and sixteen high, from the left end of its column on
+abbrev pub mark_path : Mark → List ℕ
+mark_path Low = codes " 16h10"
+mark_path Fall = codes " 0v16h10"
+mark_path High = codes " 0h10"
+mark_path Rise = codes " 16v-16h10"
+mark_path Unsure = codes " 0h10m-10 16h10m-10 0l10-16"
+mark_path Changing = codes " 0l10 16m-10 0l10-16"
+
+abbrev pub column_path : (ℕ → Value) → Ticks → ℕ → List ℕ
+column_path signal ticks column = numbered (codes "M") (10 * column) ++ mark_path (mark_at signal ticks column)
+
+-- the lines of a signal
+abbrev pub signal_path : (ℕ → Value) → Ticks → List ℕ
+signal_path signal ticks = flat_map (column_path signal ticks) (range_with_len 0 (column_count ticks))
+
+abbrev pub heading : ℕ → ℕ → ℕ → List ℕ
+heading left height columns =
+    numbered (codes "<svg xmlns=\"http://www.w3.org/2000/svg\" width=\"") (left + 10 * columns + 80)
+    ++ numbered (codes "\" height=\"") height
+    ++ codes "\" font-family=\"monospace\" font-size=\"12\">\n<rect width=\"100%\" height=\"100%\" fill=\"white\"/>\n"
+
+-- every tenth column: its first tick, and a line of the grid
+abbrev pub grid_line : ℕ → ℕ → Ticks → ℕ → List ℕ
+grid_line left height ticks place =
+    numbered (codes "<path d=\"M") (left + 100 * place)
+    ++ numbered (codes " 20V") height
+    ++ numbered (codes "\" stroke=\"#ccc\"/><text y=\"14\" x=\"") (left + 100 * place)
+    ++ numbered (codes "\">") (first_tick ticks (10 * place))
+    ++ codes "</text>\n"
+
+-- the name at a place
+abbrev pub name_row : ℕ → List ℕ → List ℕ
+name_row place name =
+    numbered (codes "<text x=\"8\" y=\"") (30 * place + 44) ++ codes "\">" ++ escaped name ++ codes "</text>"
+
+-- the lines at a place
+abbrev pub signal_row : ℕ → Ticks → ℕ → (ℕ → Value) → List ℕ
+signal_row left ticks place signal =
+    numbered (codes "<path transform=\"translate(") left
+    ++ numbered (codes " ") (30 * place + 30)
+    ++ codes ")\" d=\"" ++ signal_path signal ticks ++ codes "\" fill=\"none\" stroke=\"black\"/>\n"
+
+abbrev pub row : ℕ → Ticks → ℕ × Trace → List ℕ
+row left ticks (place, (name, signal)) = name_row place name ++ signal_row left ticks place signal
+
+abbrev pub grid : ℕ → ℕ → Ticks → List ℕ
+grid left height ticks =
+    flat_map (grid_line left height ticks) (range_with_len 0 ((column_count ticks + 9) / 10))
+
+-- the drawing as an SVG text
+abbrev pub svg_text : Ticks → List Trace → List ℕ
+svg_text ticks traces =
+    heading (left_edge traces) (picture_height traces) (column_count ticks)
+    ++ grid (left_edge traces) (picture_height traces) ticks
+    ++ flat_map (row (left_edge traces) ticks) (enumerate_from 0 traces)
+    ++ codes "</svg>\n"

@@ -1,0 +1,78 @@
+ghost use Rattle.std.specs.Prelude.{◌≡◌, ◌<◌, ◌≤◌, ◌*◌, ◌+◌, ◌/◌, Result, Ok, Err};
+ghost use Rattle.timing_diagram.specs.Columns.{most_columns};
+
+use crate::fault::ColumnsFault;
+use std::marker::Model;
+
+/// The most columns of a diagram.
+const MOST_COLUMNS: u64 = 1_000;
+
+/// The ticks of a diagram, from one to another, cut into columns of some ticks each: at most 1,000
+/// columns, of which the last may be shorter.
+#[derive(Clone, Copy, Debug, PartialEq, Eq)]
+pub struct Columns {
+    from: u64,
+    to: u64,
+    step: u64,
+}
+
+impl Model for Columns {
+    ghost use Rattle.timing_diagram.specs.Columns.{Ticks, IsDrawable};
+
+    ghost Value = { Ticks };
+
+    ghost view = { λ c. record { from = c.from; to = c.to; step = c.step } };
+
+    ghost invariant = { λ c. IsDrawable (record { from = c.from; to = c.to; step = c.step }) };
+
+    ghost inverse = { λ t. record { from = t.from; to = t.to; step = t.step } };
+}
+
+impl Columns {
+    ghost use Rattle.timing_diagram.specs.Columns.{columns_of, column_count, first_tick, last_tick};
+
+    /// The ticks from `from` to `to`, in columns of `step` ticks.
+    ///
+    /// # Errors
+    /// [`ColumnsFault::NoStep`] where `step` is 0, else [`ColumnsFault::Backwards`] where `to` is before
+    /// `from`, else [`ColumnsFault::TooManyColumns`] where that is more than 1,000 columns.
+    pub fn new(from: u64, to: u64, step: u64) -> Result<Columns, ColumnsFault>
+        ensures { result ≡ columns_of from to step }
+    {
+        if step == 0 {
+            return Err(ColumnsFault::NoStep);
+        }
+        if to < from {
+            return Err(ColumnsFault::Backwards);
+        }
+        if (to - from) / step >= MOST_COLUMNS {
+            return Err(ColumnsFault::TooManyColumns);
+        }
+        Ok(Columns { from, to, step })
+    }
+
+    /// How many columns there are: 1 to 1,000.
+    pub fn count(self) -> u64
+        ensures count { result ≡ column_count self }
+        ensures few { result ≤ most_columns }
+    {
+        (self.to - self.from) / self.step + 1
+    }
+
+    /// The first tick of a column.
+    pub fn first(self, column: u64) -> u64
+        requires { column < column_count self }
+        ensures { result ≡ first_tick self column }
+    {
+        self.from + column * self.step
+    }
+
+    /// The last tick of a column.
+    pub fn last(self, column: u64) -> u64
+        requires { column < column_count self }
+        ensures { result ≡ last_tick self column }
+    {
+        let first = self.first(column);
+        first.saturating_add(self.step - 1).min(self.to)
+    }
+}

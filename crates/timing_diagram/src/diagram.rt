@@ -1,0 +1,70 @@
+ghost use Rattle.std.specs.Prelude.{◌≡◌, ◌≢◌, ◌<◌, ◌≤◌, ◌++◌, ℕ, length, All, OnOk, OnErr, IfErr};
+ghost use Rattle.std.specs.Io.KnownBytes.{Appends};
+ghost use Rattle.vcd_dump.specs.Bytes.{AppendsPrefix};
+ghost use Rattle.vcd_dump.specs.Traces.{traces};
+ghost use Rattle.timing_diagram.specs.Drawing.{drawing};
+
+use crate::columns::Columns;
+use crate::form::Form;
+use crate::picture::push_svg;
+use crate::text::push_text;
+use design::Design;
+use logic3::Waveform;
+use std::alloc::{AllocError, Global};
+use std::io::Write;
+use vcd_dump::{DumpFault, write_all_bytes};
+
+fn push_drawing(
+    text: &mut Vec<u8>,
+    design: &Design,
+    shown: &[u32],
+    waves: &[Waveform],
+    columns: Columns,
+    form: Form,
+) -> Result<(), AllocError>
+    requires shown_exist { All (λ net. net < length design.now.circuit) shown.now }
+    requires one_wave_each { length waves.now ≡ length shown.now }
+    requires few { length shown.now ≤ length design.now.circuit }
+    ensures { OnOk result (text.new.items ≡ text.old.items
+        ++ drawing form columns (traces design.now.circuit shown.now waves.now)) }
+{
+    match form {
+        Form::Text => push_text(text, design, shown, waves, columns),
+        Form::Svg => {
+            prove!(shown.len() as u64 <= u64::from(design.nets()));
+            push_svg(text, design, shown, waves, columns)
+        }
+    }
+}
+
+/// Writes the timing diagram of the shown nets, from their waveforms.
+///
+/// It is made whole before its first byte goes out: a character or some 20 bytes for each net and
+/// column. Nothing is flushed.
+///
+/// # Errors
+/// [`DumpFault::Write`] where a `write` answers a fault, also an interruption,
+/// [`DumpFault::WroteNothing`] where a `write` takes none of some bytes, and [`DumpFault::Memory`],
+/// before anything was written; never [`DumpFault::Failed`].
+pub fn draw<W: Write>(
+    alloc: Global,
+    out: &mut W,
+    design: &Design,
+    shown: &[u32],
+    waves: &[Waveform],
+    columns: Columns,
+    form: Form,
+) -> Result<(), DumpFault>
+    requires shown_exist { All (λ net. net < length design.now.circuit) shown.now }
+    requires one_wave_each { length waves.now ≡ length shown.now }
+    requires few { length shown.now ≤ length design.now.circuit }
+    ensures ok { OnOk result (Appends (W.contents out.old) (W.contents out.new)
+        (drawing form columns (traces design.now.circuit shown.now waves.now))) }
+    ensures err { OnErr result (AppendsPrefix (W.contents out.old) (W.contents out.new)
+        (drawing form columns (traces design.now.circuit shown.now waves.now))) }
+    ensures fault { IfErr result (λ fault. fault ≢ DumpFault.Failed) }
+{
+    let mut text = Vec::new(alloc);
+    push_drawing(&mut text, design, shown, waves, columns, form)?;
+    write_all_bytes(out, text.as_slice())
+}

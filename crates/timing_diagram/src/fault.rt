@@ -1,0 +1,37 @@
+ghost use Rattle.std.specs.Prelude.{◌≡◌, Some};
+ghost use Rattle.timing_diagram.specs.Faults.{name_of};
+
+use std::fmt;
+use thiserror::Error;
+
+/// Why ticks can't be drawn.
+#[derive(Clone, Copy, Debug, PartialEq, Eq, Error)]
+pub enum ColumnsFault {
+    /// A column would have no tick.
+    NoStep,
+    /// The last tick is before the first.
+    Backwards,
+    /// More than 1,000 columns.
+    TooManyColumns,
+}
+
+impl ColumnsFault {
+    /// The fault's name, which is its text.
+    pub fn name(&self) -> &'static str
+        ensures { result.now ≡ name_of self.now }
+    {
+        match self {
+            ColumnsFault::NoStep => "NoStep",
+            ColumnsFault::Backwards => "Backwards",
+            ColumnsFault::TooManyColumns => "TooManyColumns",
+        }
+    }
+}
+
+impl fmt::Display for ColumnsFault {
+    ghost output = { λ fault. Some (name_of fault) };
+
+    fn fmt<W: fmt::Write>(&self, f: &mut fmt::Formatter<W>) -> Result<(), fmt::Error> {
+        f.write_str(self.name())
+    }
+}

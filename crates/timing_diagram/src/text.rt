@@ -1,0 +1,113 @@
+ghost use Rattle.std.specs.Prelude.{◌≡◌, ◌<◌, ◌≤◌, ◌++◌, ◌*◌, length, All, OnOk};
+ghost use Rattle.logic3.specs.Wave.{value_at};
+ghost use Rattle.vcd_dump.specs.Traces.{traces};
+ghost use Rattle.timing_diagram.specs.Columns.{column_count};
+ghost use Rattle.timing_diagram.specs.Drawing.{mark_byte, marks_text, line_text, ruler_label, ruler_text, drawn_text};
+ghost use Rattle.timing_diagram.specs.Picture.{widest};
+
+use crate::columns::Columns;
+use crate::mark::Mark;
+use crate::marks::mark_at;
+use crate::pieces::push_times;
+use design::Design;
+use itoa::Buffer;
+use logic3::Waveform;
+use std::alloc::AllocError;
+
+fn mark_byte(mark: Mark) -> u8
+    ensures { result ≡ mark_byte mark }
+{
+    match mark {
+        Mark::Low => b'_',
+        Mark::Fall => b'\\',
+        Mark::High => b'-',
+        Mark::Rise => b'/',
+        Mark::Unsure => b'x',
+        Mark::Changing => b'|',
+    }
+}
+
+fn push_marks(text: &mut Vec<u8>, wave: &Waveform, columns: Columns) -> Result<(), AllocError>
+    ensures { OnOk result
+        (text.new.items ≡ text.old.items ++ marks_text (value_at wave.now) columns) }
+{
+    for column in 0..columns.count() {
+        text.push(mark_byte(mark_at(wave, columns, column)))?;
+    }
+    Ok(())
+}
+
+// The line of a net, whose name is no longer than the width.
+fn push_line(
+    text: &mut Vec<u8>,
+    width: usize,
+    name: &[u8],
+    wave: &Waveform,
+    columns: Columns,
+) -> Result<(), AllocError>
+    ensures { OnOk result
+        (text.new.items ≡ text.old.items ++ line_text width columns (name.now, value_at wave.now)) }
+{
+    text.extend_from_slice(name)?;
+    push_times(text, b' ', width.saturating_sub(name.len()))?;
+    text.extend_from_slice(b"  ")?;
+    push_marks(text, wave, columns)?;
+    text.push(b'\n')?;
+    Ok(())
+}
+
+fn push_label(text: &mut Vec<u8>, columns: Columns, place: u64) -> Result<(), AllocError>
+    requires { 10 * place < column_count columns }
+    ensures { OnOk result (text.new.items ≡ text.old.items ++ ruler_label columns place) }
+{
+    let mut buffer = Buffer::new();
+    let tick = buffer.format(columns.first(10 * place)).as_bytes();
+    text.extend_from_slice(tick)?;
+    push_times(text, b'.', 10usize.saturating_sub(tick.len()))
+}
+
+fn push_ruler(text: &mut Vec<u8>, width: usize, columns: Columns) -> Result<(), AllocError>
+    ensures { OnOk result (text.new.items ≡ text.old.items ++ ruler_text width columns) }
+{
+    push_times(text, b' ', width)?;
+    text.extend_from_slice(b"  ")?;
+    for place in 0..(columns.count() + 9) / 10 {
+        push_label(text, columns, place)?;
+    }
+    text.push(b'\n')?;
+    Ok(())
+}
+
+/// The bytes of the longest name of some nets.
+pub fn widest(design: &Design, shown: &[u32], waves: &[Waveform]) -> usize
+    requires shown_exist { All (λ net. net < length design.now.circuit) shown.now }
+    requires one_wave_each { length waves.now ≡ length shown.now }
+    ensures { result ≡ widest (traces design.now.circuit shown.now waves.now) }
+{
+    let mut width = 0;
+    for net in shown {
+        width = design.name(*net).len().max(width);
+    }
+    width
+}
+
+/// Adds the drawing of some nets as text.
+pub fn push_text(
+    text: &mut Vec<u8>,
+    design: &Design,
+    shown: &[u32],
+    waves: &[Waveform],
+    columns: Columns,
+) -> Result<(), AllocError>
+    requires shown_exist { All (λ net. net < length design.now.circuit) shown.now }
+    requires one_wave_each { length waves.now ≡ length shown.now }
+    ensures { OnOk result (text.new.items ≡ text.old.items
+        ++ drawn_text columns (traces design.now.circuit shown.now waves.now)) }
+{
+    let width = widest(design, shown, waves);
+    push_ruler(text, width, columns)?;
+    for (place, net) in shown.iter().enumerate() {
+        push_line(text, width, design.name(*net), &waves[place], columns)?;
+    }
+    Ok(())
+}
