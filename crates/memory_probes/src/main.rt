@@ -7,7 +7,6 @@ mod dumps;
 mod faults;
 mod following;
 mod kernels;
-mod orders;
 mod processes;
 mod telling;
 mod texts;
@@ -27,5 +26,4 @@ fn main(rt: HostRuntime) {
     let _ = kernels::probe(alloc, &mut teller);
     let _ = dumps::probe(alloc, &mut teller);
     let _ = whole_runs::probe(alloc, &mut teller);
-    let _ = orders::probe(alloc, &mut teller);
 }
