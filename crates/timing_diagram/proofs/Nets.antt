@@ -7,7 +7,7 @@ use Rattle.design.specs.Circuit.{Net, Circuit}
 use Rattle.vcd_dump.specs.Dump.{Trace}
 use Rattle.vcd_dump.specs.Traces.{traces}
 use Rattle.timing_diagram.specs.Columns.{Ticks, column_count}
-use Rattle.timing_diagram.specs.Picture.{widest, left_edge, picture_height, heading, grid, row, svg_text}
+use Rattle.timing_diagram.specs.Picture.{widest, left_edge, picture_height, heading, grid, trace_row, svg_text}
 use Rattle.timing_diagram.proofs.Joined.{joined₄}
 
 named : (entry : Option Net) (name : List ℕ) → option_map (λ (n : Net). n.name) entry ≡ Some name → option_map_or (λ (n : Net). n.name) entry [] ≡ name
@@ -36,10 +36,10 @@ texts-next text x items rest xs ys next is = rw (next, is) (append_assoc xs (tex
 
 -- a row for each of them
 pub rows-next : (left : ℕ) (ticks : Ticks) (place : ℕ) (trace : Trace) (items rest : List Trace) (xs ys : List ℕ) → items ≡ trace ∷ rest →
-    ys ≡ xs ++ row left ticks (place, trace) →
-    ys ++ flat_map (row left ticks) (enumerate_from (place + 1) rest) ≡ xs ++ flat_map (row left ticks) (enumerate_from place items)
+    ys ≡ xs ++ trace_row left ticks (place, trace) →
+    ys ++ flat_map (trace_row left ticks) (enumerate_from (place + 1) rest) ≡ xs ++ flat_map (trace_row left ticks) (enumerate_from place items)
 rows-next left ticks place trace items rest xs ys next is =
-    rw (next, is) (append_assoc xs (row left ticks (place, trace)) (flat_map (row left ticks) (enumerate_from (place + 1) rest)))
+    rw (next, is) (append_assoc xs (trace_row left ticks (place, trace)) (flat_map (trace_row left ticks) (enumerate_from (place + 1) rest)))
 
 longest : (width name rest : ℕ) → max (max name width) rest ≡ max width (max name rest)
 longest width name rest = omega arith
@@ -52,7 +52,7 @@ widest-next (name, signal) items rest width next = rw next (longest width (lengt
 pub svg-joined : (ticks : Ticks) (shown : List Trace) (left height count : ℕ) (l l₁ l₂ l₃ l₄ : List ℕ) →
     left ≡ left_edge shown → height ≡ picture_height shown → count ≡ column_count ticks →
     l₁ ≡ l ++ heading left height count → l₂ ≡ l₁ ++ grid left height ticks →
-    l₃ ≡ l₂ ++ flat_map (row left ticks) (enumerate_from 0 shown) → l₄ ≡ l₃ ++ codes "</svg>\n" → l₄ ≡ l ++ svg_text ticks shown
+    l₃ ≡ l₂ ++ flat_map (trace_row left ticks) (enumerate_from 0 shown) → l₄ ≡ l₃ ++ codes "</svg>\n" → l₄ ≡ l ++ svg_text ticks shown
 svg-joined ticks shown left height count l l₁ l₂ l₃ l₄ a b d p q r s =
-    joined₄ l l₁ l₂ l₃ l₄ (heading left height count) (grid left height ticks) (flat_map (row left ticks) (enumerate_from 0 shown)) (codes "</svg>\n") p q r s
+    joined₄ l l₁ l₂ l₃ l₄ (heading left height count) (grid left height ticks) (flat_map (trace_row left ticks) (enumerate_from 0 shown)) (codes "</svg>\n") p q r s
     ∙ rw (a, b, d) refl

@@ -79,8 +79,8 @@ signal_row left ticks place signal =
     ++ numbered (codes " ") (30 * place + 30)
     ++ codes ")\" d=\"" ++ signal_path signal ticks ++ codes "\" fill=\"none\" stroke=\"black\"/>\n"
 
-abbrev pub row : ℕ → Ticks → ℕ × Trace → List ℕ
-row left ticks (place, (name, signal)) = name_row place name ++ signal_row left ticks place signal
+abbrev pub trace_row : ℕ → Ticks → ℕ × Trace → List ℕ
+trace_row left ticks (place, (name, signal)) = name_row place name ++ signal_row left ticks place signal
 
 abbrev pub grid : ℕ → ℕ → Ticks → List ℕ
 grid left height ticks =
@@ -91,5 +91,5 @@ abbrev pub svg_text : Ticks → List Trace → List ℕ
 svg_text ticks traces =
     heading (left_edge traces) (picture_height traces) (column_count ticks)
     ++ grid (left_edge traces) (picture_height traces) ticks
-    ++ flat_map (row (left_edge traces) ticks) (enumerate_from 0 traces)
+    ++ flat_map (trace_row (left_edge traces) ticks) (enumerate_from 0 traces)
     ++ codes "</svg>\n"

@@ -3,7 +3,7 @@ ghost use Rattle.std.specs.List.{enumerate_from};
 ghost use Rattle.logic3.specs.Wave.{value_at};
 ghost use Rattle.vcd_dump.specs.Traces.{traces};
 ghost use Rattle.timing_diagram.specs.Columns.{column_count};
-ghost use Rattle.timing_diagram.specs.Picture.{escaped_byte, escaped, mark_path, column_path, signal_path, heading, grid_line, grid, name_row, signal_row, row, svg_text};
+ghost use Rattle.timing_diagram.specs.Picture.{escaped_byte, escaped, mark_path, column_path, signal_path, heading, grid_line, grid, name_row, signal_row, trace_row, svg_text};
 
 use crate::columns::Columns;
 use crate::mark::Mark;
@@ -160,7 +160,7 @@ fn push_rows(
     requires one_wave_each { length waves.now ≡ length shown.now }
     requires few { length shown.now < 2 ^ 32 }
     ensures { OnOk result (text.new.items ≡ text.old.items
-        ++ flat_map (row left columns) (enumerate_from 0 (traces design.now.circuit shown.now waves.now))) }
+        ++ flat_map (trace_row left columns) (enumerate_from 0 (traces design.now.circuit shown.now waves.now))) }
 {
     for (place, net) in shown.iter().enumerate() {
         push_name(text, place as u64, design.name(*net))?;
