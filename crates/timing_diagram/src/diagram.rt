@@ -1,4 +1,4 @@
-ghost use Rattle.std.specs.Prelude.{◌≡◌, ◌≢◌, ◌<◌, ◌≤◌, ◌++◌, ℕ, length, All, OnOk, OnErr, IfErr};
+ghost use Rattle.std.specs.Prelude.{◌≡◌, ◌≢◌, ◌<◌, ◌≤◌, ◌++◌, ℕ, length, All, OnOk, OnErr, IfErr, Err};
 ghost use Rattle.std.specs.Io.KnownBytes.{Appends};
 ghost use Rattle.vcd_dump.specs.Bytes.{AppendsPrefix};
 ghost use Rattle.vcd_dump.specs.Traces.{traces};
@@ -63,6 +63,7 @@ pub fn draw<W: Write>(
     ensures err { OnErr result (AppendsPrefix (W.contents out.old) (W.contents out.new)
         (drawing form columns (traces design.now.circuit shown.now waves.now))) }
     ensures fault { IfErr result (λ fault. fault ≢ DumpFault.Failed) }
+    ensures memory { result ≡ Err DumpFault.Memory → W.contents out.new ≡ W.contents out.old }
 {
     let mut text = Vec::new(alloc);
     push_drawing(&mut text, design, shown, waves, columns, form)?;
