@@ -2,6 +2,7 @@ mod Answer
 pub mod CallerLemmas
 mod Checks
 mod Cones
+mod Diagrams
 mod Drains
 mod Ends
 mod Isolated

@@ -4,6 +4,7 @@ use Rattle.bench_text.specs.Faults as of_bench
 use Rattle.timing_text.specs.Faults.{delay_line, delay_name, option_name, stimulus_line, stimulus_name}
 use Rattle.cmb_events.specs.ScheduleFaults as of_schedule
 use Rattle.vcd_dump.specs.Faults as of_dump
+use Rattle.timing_diagram.specs.Faults as of_columns
 use Rattle.bench_text.specs.declared.fault.BenchFault.{BenchFault}
 use Rattle.bench_text.specs.declared.fault.BenchFault.TheVariants as bench
 use Rattle.design.specs.declared.fault.BuildFault.{BuildFault}
@@ -17,7 +18,7 @@ use Rattle.fanin_cone.specs.declared.fault.ConeFault.TheVariants as cone
 use Rattle.vcd_dump.specs.declared.fault.DumpFault.{DumpFault}
 use Rattle.vcd_dump.specs.declared.fault.DumpFault.TheVariants as dump
 use Rattle.runs.specs.declared.fault.SimFault.{SimFault}
-use Rattle.runs.specs.declared.fault.SimFault.TheVariants.{Setting, Bench, Timing, Stimulus, Schedule, UnknownNet, Dump, Memory}
+use Rattle.runs.specs.declared.fault.SimFault.TheVariants.{Setting, Bench, Timing, Stimulus, Schedule, Columns, UnknownNet, Dump, Memory}
 
 -- the line that a fault names, and 0 for one without a line
 abbrev pub line_of : SimFault → ℕ
@@ -33,6 +34,7 @@ name_of (Bench fault) = of_bench.name_of fault
 name_of (Timing fault) = delay_name fault
 name_of (Stimulus fault) = stimulus_name fault
 name_of (Schedule fault) = of_schedule.name_of fault
+name_of (Columns fault) = of_columns.name_of fault
 name_of UnknownNet = codes "UnknownNet"
 name_of (Dump fault) = of_dump.name_of fault
 name_of Memory = codes "Memory"

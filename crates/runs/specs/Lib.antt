@@ -1,6 +1,7 @@
 pub mod Checked
 pub mod ConeText
 pub mod Drained
+pub mod Drawn
 pub mod Ends
 pub mod Events
 pub mod Faults

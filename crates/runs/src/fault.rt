@@ -10,13 +10,14 @@ use fanin_cone::ConeFault;
 use std::alloc::AllocError;
 use std::fmt;
 use thiserror::Error;
+use timing_diagram::ColumnsFault;
 use timing_text::{DelayFault, OptionFault, StimulusFault};
 use vcd_dump::DumpFault;
 
 /// Why a run ended early.
 ///
 /// The first fault decides: the settings (default delay, period, horizon), the netlist, the delays,
-/// the stimuli, the schedule, the names of nets. A want of memory of any layer is [`Memory`](Self::Memory).
+/// the stimuli, the schedule, the names of nets; of a timing diagram its ticks before the netlist. A want of memory of any layer is [`Memory`](Self::Memory).
 #[derive(Clone, Copy, Debug, PartialEq, Eq, Error)]
 pub enum SimFault {
     Setting(OptionFault),
@@ -24,6 +25,8 @@ pub enum SimFault {
     Timing(DelayFault),
     Stimulus(StimulusFault),
     Schedule(ScheduleFault),
+    /// The ticks of a timing diagram can't be drawn.
+    Columns(ColumnsFault),
     /// No net has a name that was asked for.
     UnknownNet,
     /// The dump broke off.
@@ -42,7 +45,11 @@ impl SimFault {
             SimFault::Timing(fault) => fault.line(),
             SimFault::Stimulus(fault) => fault.line(),
             SimFault::Schedule(fault) => fault.line(),
-            SimFault::Setting(_) | SimFault::UnknownNet | SimFault::Dump(_) | SimFault::Memory => 0,
+            SimFault::Setting(_)
+            | SimFault::Columns(_)
+            | SimFault::UnknownNet
+            | SimFault::Dump(_)
+            | SimFault::Memory => 0,
         }
     }
 
@@ -56,6 +63,7 @@ impl SimFault {
             SimFault::Timing(fault) => fault.name(),
             SimFault::Stimulus(fault) => fault.name(),
             SimFault::Schedule(fault) => fault.name(),
+            SimFault::Columns(fault) => fault.name(),
             SimFault::UnknownNet => "UnknownNet",
             SimFault::Dump(fault) => fault.name(),
             SimFault::Memory => "Memory",
@@ -141,6 +149,14 @@ impl From<ConeFault> for SimFault {
             ConeFault::UnknownNet { .. } => SimFault::UnknownNet,
             ConeFault::Memory => SimFault::Memory,
         }
+    }
+}
+
+impl From<ColumnsFault> for SimFault {
+    ghost from_gives = { λ fault e. e ≡ sim.Columns fault };
+
+    fn from(fault: ColumnsFault) -> SimFault {
+        SimFault::Columns(fault)
     }
 }
 

@@ -3,6 +3,7 @@
 
 mod check_run;
 mod cone_run;
+mod diagram_run;
 mod draining;
 mod dumping;
 mod fault;
@@ -22,6 +23,7 @@ mod windows;
 
 pub use check_run::{CheckAnswer, check};
 pub use cone_run::cone_text;
+pub use diagram_run::{DiagramView, diagram};
 pub use fault::SimFault;
 pub use plain_run::plain;
 pub use simulation::{Report, simulate};

@@ -1,4 +1,4 @@
-ghost use Rattle.std.specs.Prelude.{◌≡◌, ◌<◌, ◌≤◌, ◌*◌, ◌+◌, ◌/◌, Result, Ok, Err};
+ghost use Rattle.std.specs.Prelude.{◌≡◌, ◌<◌, ◌≤◌, ◌*◌, ◌+◌, ◌/◌, Result, Ok, Err, IfOk};
 ghost use Rattle.timing_diagram.specs.Columns.{most_columns};
 
 use crate::fault::ColumnsFault;
@@ -30,7 +30,7 @@ impl Model for Columns {
 }
 
 impl Columns {
-    ghost use Rattle.timing_diagram.specs.Columns.{columns_of, column_count, first_tick, last_tick};
+    ghost use Rattle.timing_diagram.specs.Columns.{IsDrawable, columns_of, column_count, first_tick, last_tick};
 
     /// The ticks from `from` to `to`, in columns of `step` ticks, of a run to this horizon.
     ///
@@ -39,7 +39,9 @@ impl Columns {
     /// `from`, else [`ColumnsFault::PastHorizon`] where `to` is past the horizon, else
     /// [`ColumnsFault::TooManyColumns`] where that is more than 1,000 columns.
     pub fn new(from: u64, to: u64, step: u64, horizon: Horizon) -> Result<Columns, ColumnsFault>
-        ensures { result ≡ columns_of from to step horizon }
+        ensures exact { result ≡ columns_of from to step horizon }
+        ensures drawable { IfOk result IsDrawable }
+        ensures within { IfOk result (λ ticks. ticks.to ≤ horizon) }
     {
         if step == 0 {
             return Err(ColumnsFault::NoStep);
