@@ -4,6 +4,7 @@
 mod check;
 mod cone;
 mod described;
+mod draw;
 mod help;
 mod options;
 mod plain;

@@ -1,7 +1,9 @@
 //! The subcommand `run`: what it takes, and the order that it is.
 use crate::described::{Absent, Described, Takes};
 use crate::help::{mistake, subcommand_named};
-use crate::options::{ALONE, SCHEDULE, SOURCE, VIEW, number_given, source_given, view_given};
+use crate::options::{
+    ALONE, SCHEDULE, SHOWN, SOURCE, UNITS, number_given, source_given, view_given,
+};
 use clap::error::ErrorKind;
 use clap::{ArgMatches, Command, Error};
 use orders::{Order, PickOptions};
@@ -36,7 +38,12 @@ pub(super) fn subcommand<'a>(alloc: Global) -> Result<Command<'a>, AllocError> {
         "run",
         ABOUT,
         USAGE,
-        &[SOURCE.as_slice(), VIEW.as_slice(), OPTIONS.as_slice()],
+        &[
+            SOURCE.as_slice(),
+            SHOWN.as_slice(),
+            UNITS.as_slice(),
+            OPTIONS.as_slice(),
+        ],
     )
 }
 

@@ -3,7 +3,7 @@ use crate::commanding::{Answer, answer_to, contains};
 use std::process::Abort;
 use std::test::Fail;
 
-// No command, and none of the five.
+// No command, and none of those that there are.
 static NO_COMMAND: [&str; 2] = ["", "plane"];
 
 // Options that are missing, twice there, of another command or out of range.
@@ -53,6 +53,17 @@ static WITH_CHECK: [&str; 6] = [
     "check --bench inv.bench --horizon 5 y",
 ];
 
+// No netlist or horizon, numbers that are none, and options of other commands.
+static WITH_DRAW: [&str; 7] = [
+    "draw --bench inv.bench",
+    "draw --horizon 5",
+    "draw --bench inv.bench --horizon 5 --step x",
+    "draw --bench inv.bench --horizon 5 --to",
+    "draw --bench inv.bench --horizon 5 --svg --svg",
+    "draw --bench inv.bench --horizon 5 --unit ns",
+    "draw --bench inv.bench --horizon 5 --schedule ahead.sched",
+];
+
 // No names or no netlist, and a name that would be an option.
 static WITH_CONE: [&str; 5] = [
     "cone",
@@ -92,6 +103,7 @@ fn wrong_words(rt: HostRuntime) -> Result<(), Fail> {
         WITH_PLAIN.as_slice(),
         WITH_RUN.as_slice(),
         WITH_CHECK.as_slice(),
+        WITH_DRAW.as_slice(),
         WITH_CONE.as_slice(),
         WITH_TWIN.as_slice(),
     ] {
@@ -104,10 +116,11 @@ fn wrong_words(rt: HostRuntime) -> Result<(), Fail> {
 }
 
 // The commands, which the help of the program lists.
-static COMMANDS: [&str; 7] = [
+static COMMANDS: [&str; 8] = [
     "\nUsage: nullsim <COMMAND> [OPTIONS]\n",
     "\n  run ",
     "\n  plain ",
+    "\n  draw ",
     "\n  cone ",
     "\n  twin ",
     "\n  check ",
@@ -143,6 +156,22 @@ static OF_PLAIN: [&str; 10] = [
     "--horizon <N>",
     "--show <",
     "--unit <",
+];
+
+// Those of `draw`.
+static OF_DRAW: [&str; 12] = [
+    "\nUsage: nullsim draw --bench <FILE> --horizon <N> [OPTIONS]\n",
+    "--bench <FILE>",
+    "--delays <FILE>",
+    "--stimuli <FILE>",
+    "--delay <N>",
+    "--period <N>",
+    "--horizon <N>",
+    "--show <",
+    "--from <N>",
+    "--to <N>",
+    "--step <N>",
+    "--svg ",
 ];
 
 // Those of `cone`.
@@ -213,6 +242,11 @@ fn help(rt: HostRuntime) -> Result<(), Fail> {
             "plain --bench inv.bench --horizon 5 --help",
             OF_PLAIN.as_slice(),
             &[],
+        ),
+        (
+            "draw --help",
+            OF_DRAW.as_slice(),
+            &["--unit <", "--picks <"],
         ),
         ("cone --help", OF_CONE.as_slice(), &["--horizon <"]),
         ("cone y -h", OF_CONE.as_slice(), &[]),

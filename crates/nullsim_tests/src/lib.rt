@@ -8,6 +8,8 @@ mod commanding;
 #[cfg(test)]
 mod comparing;
 #[cfg(test)]
+mod drawing;
+#[cfg(test)]
 mod files;
 #[cfg(test)]
 mod helping;

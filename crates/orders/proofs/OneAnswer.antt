@@ -15,7 +15,7 @@ use Rattle.fanin_cone.specs.Cone.{IsConeOf}
 use Rattle.fanin_cone.specs.Extract.{IsExtract, first_unknown}
 use Rattle.runs.specs.declared.fault.SimFault.{SimFault}
 use Rattle.orders.specs.declared.order.Order.{Order}
-use Rattle.orders.specs.declared.order.Order.TheVariants.{Run, Plain, Cone, Twin, Check}
+use Rattle.orders.specs.declared.order.Order.TheVariants.{Run, Plain, Draw, Cone, Twin, Check}
 use Rattle.orders.specs.declared.order.SourceOptions.{SourceOptions}
 use Rattle.runs.specs.declared.twin_run.TwinAnswer.{TwinAnswer}
 use Rattle.runs.specs.declared.twin_run.TwinFault.{TwinFault}
@@ -199,4 +199,5 @@ module _ (texts : List ℕ → List ℕ) where
   one_answer (Twin first second net horizon) a b =
       one_for_source first _ _ a b (λ one.
       one_for_source second _ _ a b (λ other. one_twin_answer (twins_of one other net.now horizon) net.now horizon a b))
+  one_answer (Draw options view) a b = one_for_source options _ _ a b (λ source is other_is. is ∙ sym other_is)
   one_answer (Check options horizon) a b = one_for_source options _ _ a b (λ source is other_is. is ∙ sym other_is)

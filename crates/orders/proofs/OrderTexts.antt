@@ -2,6 +2,7 @@
 use Rattle.std.proofs.Common.{◌≡◌, ℕ, Bool, List, Option, Some, None, Result, IfSome, Bor, Vec, unwrap_or, refl, ap, subst, ◌∙◌}
 use Rattle.std.specs.declared.alloc.Global.{Global}
 use Rattle.netlist.specs.Names.{seen_names}
+use Rattle.runs.specs.declared.diagram_run.DiagramView.{DiagramView}
 use Rattle.runs.specs.declared.fault.SimFault.{SimFault}
 use Rattle.runs.specs.declared.view.View.{View}
 use Rattle.runs.specs.Checked.{checked}
@@ -16,9 +17,9 @@ use Rattle.program_io.specs.declared.program_fault.ProgramFault.{ProgramFault}
 use Rattle.orders.specs.declared.source_texts.SourceTexts.{SourceTexts}
 use Rattle.program_io.specs.AnswerText.{check_text}
 use Rattle.orders.specs.Options.{IsRead, IsSourceOf, KnownTexts, ReadsSource, picks_of_options, schedule_file, source_from, text_named}
-use Rattle.program_io.specs.Answers.{Answer, IsAnswerOfCone, IsAnswerOfTwin, IsTwinAnswer, answered, check_answer, just, plain_answer, run_answer, with_counts}
+use Rattle.program_io.specs.Answers.{Answer, IsAnswerOfCone, IsAnswerOfTwin, IsTwinAnswer, answered, check_answer, diagram_answer, just, plain_answer, run_answer, with_counts}
 use Rattle.orders.specs.OrderAnswer.{ForSource, IsAnswer}
-use Rattle.program_io.proofs.CallerLemmas.{cut, cut_picks, cut_source, dump_of_source-cut, netlist_of-cut, run_of_source-cut, simulated-cut, twins_of-cut}
+use Rattle.program_io.proofs.CallerLemmas.{cut, cut_picks, cut_source, diagram_of_source-cut, dump_of_source-cut, netlist_of-cut, run_of_source-cut, simulated-cut, twins_of-cut}
 
 pub unwrap_or-known : (known : Option (List ℕ)) (other : List ℕ) → IfSome known (λ all. unwrap_or known other ≡ all)
 unwrap_or-known None other = tt
@@ -80,6 +81,11 @@ module _ (known : KnownTexts) (options : SourceOptions) (texts : SourceTexts) (s
   pub IsAnswer-plain : (view : View) (answer : Result Answer ProgramFault) → answer ≡ plain_answer seen view → IsAnswer known (orders.Plain options view) answer
   IsAnswer-plain view answer same =
       ForSource-read _ (λ source is_cut. same ∙ ap (λ s. plain_answer s view) is_cut ∙ ap (answered just) (dump_of_source-cut source view))
+
+  pub IsAnswer-diagram : (view : DiagramView) (answer : Result Answer ProgramFault) → answer ≡ diagram_answer seen view →
+      IsAnswer known (orders.Draw options view) answer
+  IsAnswer-diagram view answer same =
+      ForSource-read _ (λ source is_cut. same ∙ ap (λ s. diagram_answer s view) is_cut ∙ ap (answered just) (diagram_of_source-cut source view))
 
   pub IsAnswer-run : (view : View) (counts : Bool) (answer : Result Answer ProgramFault) → answer ≡ run_answer seen view counts →
       IsAnswer known (orders.Run options view counts) answer

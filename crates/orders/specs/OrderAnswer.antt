@@ -4,9 +4,9 @@ use Rattle.netlist.specs.Names.{seen_names}
 use Rattle.cmb_kernel.specs.declared.counts.Counts.{Counts}
 use Rattle.runs.specs.Source.{SourceView}
 use Rattle.program_io.specs.declared.program_fault.ProgramFault.{ProgramFault}
-use Rattle.program_io.specs.Answers.{Answer, AnswerEndsBy, GoesOut, IsAnswerOfCone, IsAnswerOfTwin, check_answer, plain_answer, run_answer}
+use Rattle.program_io.specs.Answers.{Answer, AnswerEndsBy, GoesOut, IsAnswerOfCone, IsAnswerOfTwin, check_answer, diagram_answer, plain_answer, run_answer}
 use Rattle.orders.specs.declared.order.Order.{Order}
-use Rattle.orders.specs.declared.order.Order.TheVariants.{Run, Plain, Cone, Twin, Check}
+use Rattle.orders.specs.declared.order.Order.TheVariants.{Run, Plain, Draw, Cone, Twin, Check}
 use Rattle.orders.specs.declared.order.SourceOptions.{SourceOptions}
 use Rattle.orders.specs.Options.{IsSourceOf, KnownTexts}
 
@@ -18,6 +18,7 @@ ForSource known options P = (source : SourceView) × IsSourceOf known options so
 abbrev pub IsAnswer : KnownTexts → Order → Result Answer ProgramFault → Type 0
 IsAnswer known (Run options view counts) answer = ForSource known options (λ source. answer ≡ run_answer source view counts)
 IsAnswer known (Plain options view) answer = ForSource known options (λ source. answer ≡ plain_answer source view)
+IsAnswer known (Draw options view) answer = ForSource known options (λ source. answer ≡ diagram_answer source view)
 IsAnswer known (Cone bench names) answer =
     (text : List ℕ) × IfSome (known bench.now) (λ all. text ≡ all) × IsAnswerOfCone text (seen_names names.items) answer
 IsAnswer known (Twin first second net horizon) answer =

@@ -5,7 +5,7 @@ ghost use Rattle.program_io.specs.Place.{called};
 ghost use Rattle.orders.specs.FileNames.{file_names, names_of};
 
 use program_io::TextNames;
-use runs::{Side, View};
+use runs::{DiagramView, Side, View};
 
 /// The files of a run, by their names, and the numbers that go with them.
 #[derive(Clone, Copy, Debug)]
@@ -53,6 +53,11 @@ pub enum Order<'a> {
         source: SourceOptions<'a>,
         view: View,
     },
+    /// Write the timing diagram of a run. Nothing is picked.
+    Draw {
+        source: SourceOptions<'a>,
+        view: DiagramView,
+    },
     /// Write the nets in the fan-in cones of these names, in the .bench notation.
     Cone {
         bench: &'a str,
@@ -83,6 +88,7 @@ impl<'a> Order<'a> {
         match (self, side) {
             (Order::Run { source, .. }, _) => source.text_names(),
             (Order::Plain { source, .. }, _) => source.text_names(),
+            (Order::Draw { source, .. }, _) => source.text_names(),
             (Order::Check { source, .. }, _) => source.text_names(),
             (Order::Twin { first, .. }, Side::First) => first.text_names(),
             (Order::Twin { second, .. }, Side::Second) => second.text_names(),

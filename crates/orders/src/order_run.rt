@@ -8,8 +8,10 @@ use crate::order::{Order, SourceOptions};
 use crate::source_texts::{SourceTexts, file_text};
 use crate::texts::Texts;
 use cmb_kernel::Counts;
-use program_io::{ProgramFault, write_check, write_cone, write_plain, write_run, write_twin};
-use runs::View;
+use program_io::{
+    ProgramFault, write_check, write_cone, write_diagram, write_plain, write_run, write_twin,
+};
+use runs::{DiagramView, View};
 use std::alloc::Global;
 use std::io::Write;
 
@@ -44,6 +46,7 @@ impl<'a> Order<'a> {
                 counts,
             } => carry_out_run(alloc, source, view, *counts, texts, out),
             Order::Plain { source, view } => carry_out_plain(alloc, source, view, texts, out),
+            Order::Draw { source, view } => carry_out_diagram(alloc, source, view, texts, out),
             Order::Cone { bench, names } => carry_out_cone(alloc, bench, names, texts, out),
             Order::Twin {
                 first,
@@ -97,6 +100,26 @@ fn carry_out_plain<'a, T: Texts, W: Write>(
 {
     let read = SourceTexts::read(alloc, options, texts)?;
     write_plain(alloc, &read.source(options), view, out)
+}
+
+fn carry_out_diagram<'a, T: Texts, W: Write>(
+    alloc: Global,
+    options: &SourceOptions<'a>,
+    view: &DiagramView,
+    texts: &mut T,
+    out: &mut W,
+) -> Result<Option<Counts>, ProgramFault<'a>>
+    ensures ok { IfOk result (Answered (T.known texts.old) (order.Draw options.now view.now)
+        (W.contents out.old) (W.contents out.new)) }
+    ensures err { IfErr result (OrderEndsBy (T.known texts.old) (order.Draw options.now view.now)
+        (W.contents out.old) (W.contents out.new)) }
+    ensures read { OnOk result
+        (ReadsAll (files_of (order.Draw options.now view.now)) (T.readings texts.old) (T.readings texts.new)) }
+    ensures stopped { IfErr result
+        (ReadsUntil (files_of (order.Draw options.now view.now)) (T.readings texts.old) (T.readings texts.new)) }
+{
+    let read = SourceTexts::read(alloc, options, texts)?;
+    write_diagram(alloc, &read.source(options), view, out)
 }
 
 fn carry_out_cone<'a, T: Texts, W: Write>(

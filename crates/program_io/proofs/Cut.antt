@@ -24,7 +24,11 @@ use Rattle.cmb_events.specs.Schedule.{events_after, events_of}
 use Rattle.runs.specs.declared.fault.SimFault.{SimFault}
 use Rattle.runs.specs.declared.fault.SimFault.TheVariants.{Setting}
 use Rattle.runs.specs.declared.view.View.{View}
+use Rattle.runs.specs.declared.diagram_run.DiagramView.{DiagramView}
+use Rattle.runs.specs.Drawn.{diagram_of_source}
 use Rattle.runs.specs.Events.{PicksView, events_of_picks}
+use Rattle.runs.specs.declared.diagram_run.DiagramView.{DiagramView}
+use Rattle.runs.specs.Drawn.{diagram_of_source}
 use Rattle.runs.specs.Events as picks
 use Rattle.runs.specs.Faults.{sim_of_bench, sim_of_build, sim_of_schedule}
 use Rattle.runs.specs.Source.{SourceView, design_of_source, dump_of_source, or_fault}
@@ -107,6 +111,10 @@ design_of_source-cut source ticks =
 pub dump_of_source-cut : (source : SourceView) (view : View) → dump_of_source (cut_source source) view ≡ dump_of_source source view
 unfolding dump_of_source
 dump_of_source-cut source view = rw (design_of_source-cut source view.horizon) refl
+
+pub diagram_of_source-cut : (source : SourceView) (view : DiagramView) → diagram_of_source (cut_source source) view ≡ diagram_of_source source view
+unfolding diagram_of_source
+diagram_of_source-cut source view = rw (design_of_source-cut source view.horizon) refl
 
 -- the run, from what the settings and texts give, and the picks
 abbrev run_by : Result (ℕ × DesignView) SimFault → (Circuit → Result (List Event) ScheduleFault) → Result RunView SimFault

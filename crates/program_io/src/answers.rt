@@ -6,13 +6,15 @@ ghost use Rattle.netlist.specs.Names.{seen_names};
 ghost use Rattle.runs.specs.Ends.{RunEndsBy};
 ghost use Rattle.runs.specs.Simulated.{dump_in, simulated};
 ghost use Rattle.runs.specs.Source.{seen_source};
-ghost use Rattle.program_io.specs.Answers.{AnswerEndsBy, GoesOut, IsAnswerOfCone, IsAnswerOfTwin, IsNoRead, check_answer, plain_answer, run_answer};
+ghost use Rattle.program_io.specs.Answers.{AnswerEndsBy, GoesOut, IsAnswerOfCone, IsAnswerOfTwin, IsNoRead, check_answer, diagram_answer, plain_answer, run_answer};
 
 use crate::answer_text::{check_text, twin_text};
 use crate::output::{flush, write_text};
 use crate::program_fault::ProgramFault;
 use cmb_kernel::Counts;
-use runs::{SimFault, Source, View, check, cone_text, plain, simulate, sweep, twin};
+use runs::{
+    DiagramView, SimFault, Source, View, check, cone_text, diagram, plain, simulate, sweep, twin,
+};
 use std::alloc::Global;
 use std::io::Write;
 
@@ -78,6 +80,27 @@ pub fn write_plain<W: Write>(
     ensures no_read { IfErr result IsNoRead }
 {
     plain(alloc, source, view, out)?;
+    flush(out)?;
+    Ok(None)
+}
+
+/// Writes the timing diagram of a run and flushes once. Nothing is picked.
+///
+/// # Errors
+/// As [`write_run`].
+pub fn write_diagram<W: Write>(
+    alloc: Global,
+    source: &Source<'_>,
+    view: &DiagramView,
+    out: &mut W,
+) -> Result<Option<Counts>, ProgramFault<'static>>
+    ensures ok { IfOk result (GoesOut (λ answer. answer ≡ diagram_answer (seen_source source.now) view.now)
+        (W.contents out.old) (W.contents out.new)) }
+    ensures err { IfErr result (AnswerEndsBy (λ answer. answer ≡ diagram_answer (seen_source source.now) view.now)
+        (W.contents out.old) (W.contents out.new)) }
+    ensures no_read { IfErr result IsNoRead }
+{
+    diagram(alloc, source, view, out)?;
     flush(out)?;
     Ok(None)
 }
