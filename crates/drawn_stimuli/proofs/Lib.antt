@@ -1,0 +1,3 @@
+mod KeptDrives
+mod Quiet
+mod Drawn
