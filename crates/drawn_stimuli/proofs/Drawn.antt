@@ -1,5 +1,5 @@
 -- The text where no drive is faulty.
-use Rattle.std.proofs.Common.{◌≡◌, ◌≢◌, ℕ, ◌==◌, ◌∙◌, Bool, true, false, cond, List, [], map, Option, None, Some, Result, Ok, Err, refl, sym, ap, arith}
+use Rattle.std.proofs.Common.{◌≡◌, ◌≢◌, ℕ, ◌∙◌, cond, List, [], Option, None, Some, Result, Ok, Err, refl, sym, ap}
 use Rattle.std.specs.Option.{option_map_or}
 use Rattle.std.proofs.lemmas.Bool.{ne_eqb}
 use Rattle.text_lines.specs.Text.{unless_too_long}
@@ -8,7 +8,7 @@ use Rattle.drawn_stimuli.specs.declared.drive.Drive.{Drive}
 use Rattle.drawn_stimuli.specs.declared.drive.Draws.{Draws}
 use Rattle.drawn_stimuli.specs.declared.fault.DriveFault.{DriveFault}
 use Rattle.drawn_stimuli.specs.declared.fault.DriveFault.TheVariants.{BadEvery, TooLong}
-use Rattle.drawn_stimuli.specs.Inputs.{DriveView, InputView, drawn_count, drives_of_nets, first_fault, inputs_of}
+use Rattle.drawn_stimuli.specs.Inputs.{DriveView, InputView, drawn_count, first_fault, inputs_of}
 use Rattle.drawn_stimuli.specs.StimulusText.{drawn_text, lines_text, rounds_of}
 
 -- drives that were all kept have no fault

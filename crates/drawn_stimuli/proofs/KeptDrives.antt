@@ -1,5 +1,5 @@
 -- The drives kept so far, by net number.
-use Rattle.std.proofs.Common.{◌≡◌, ℕ, ◌≢◌, ◌+◌, ◌<◌, ◌≤◌, true, false, Bool, cond, not, List, [], ◌∷◌, ◌++◌, length, map, get_or, set, replicate, Option, None, Some, append_assoc, append-nil, refl, sym, ap, ◌∙◌, arith}
+use Rattle.std.proofs.Common.{◌≡◌, ℕ, ◌≢◌, ◌+◌, ◌<◌, true, false, cond, not, List, [], ◌∷◌, ◌++◌, length, get_or, set, replicate, Option, None, Some, append_assoc, append-nil, refl, sym, ap, ◌∙◌}
 use Rattle.std.specs.Option.{is_some, option_or}
 use Rattle.std.specs.Str.{bytes_eq}
 use Rattle.std.proofs.lemmas.List.{get_or-map, length-map, length_push}

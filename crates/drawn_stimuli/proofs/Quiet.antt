@@ -1,5 +1,5 @@
 -- Where nothing changes there are no lines.
-use Rattle.std.proofs.Common.{◌≡◌, ◌≢◌, ℕ, zero, suc, ◌+◌, ◌-◌, ◌*◌, ◌/◌, ◌%◌, ◌<◌, ◌≤◌, ◌&&◌, ◌==◌, min, nat_lt, nat_le, Bool, true, false, cond, List, [], ◌∷◌, ◌++◌, map, flat_map, filter, All, length, Ok, Err, ◌⊎◌, inl, inr, add-zero, append_assoc, refl, sym, ap, ◌∙◌, arith}
+use Rattle.std.proofs.Common.{◌≡◌, ◌≢◌, ℕ, zero, suc, ◌+◌, ◌-◌, ◌*◌, ◌/◌, ◌%◌, ◌<◌, ◌≤◌, ◌&&◌, ◌==◌, min, nat_lt, nat_le, Bool, true, false, cond, List, [], ◌∷◌, ◌++◌, map, flat_map, filter, All, length, Ok, Err, ◌⊎◌, inl, inr, add-zero, append-nil, append_assoc, refl, sym, ap, ◌∙◌, arith}
 use Rattle.std.specs.List.{fold, range_with_len}
 use Rattle.std.proofs.Math.Nat.{div-lt_iff_lt-mul, div-mul-le_self, mod-eq-sub-div-mul, mod-lt, mod_self, suc-mod, zero-mod}
 use Rattle.std.proofs.lemmas.Bool.{cases_lt, lt-ltb}
@@ -7,13 +7,14 @@ use Rattle.std.proofs.lemmas.Bool.Decides.{nat_tests}
 use Rattle.std.proofs.lemmas.List.{length-append}
 use Rattle.std.proofs.lemmas.List.Elements.{All-cons, All-filter, All-head, All-nil, All-tail, All-weaker}
 use Rattle.logic3.specs.declared.value.Value.{Value}
+use Rattle.logic3.specs.declared.change.Change.{Change}
 use Rattle.logic3.specs.Value.{is_same, is_same_equiv}
 use Rattle.logic3.specs.Wave.{change_at, value_before}
 use Rattle.text_lines.specs.Text.{longest_text, unless_too_long}
+use Rattle.text_lines.proofs.CallerLemmas.{unless_too_long-short}
 use Rattle.netlist.specs.Netlist.{NetlistView}
 use Rattle.drawn_stimuli.specs.declared.drive.Drive.TheVariants.{Clock, Hold, Pulse}
 use Rattle.drawn_stimuli.specs.declared.drive.Rounds.{Rounds}
-use Rattle.drawn_stimuli.specs.declared.fault.DriveFault.{DriveFault}
 use Rattle.drawn_stimuli.specs.declared.fault.DriveFault.TheVariants.{TooLong}
 use Rattle.drawn_stimuli.specs.declared.input.InputNet.{InputNet}
 use Rattle.drawn_stimuli.specs.declared.input.Source.{Source}
@@ -76,7 +77,7 @@ quiet_input : (netlist : NetlistView) (rounds : Rounds) (input : InputNet) (tick
     suc at < next_multiple rounds.draws.every tick → (is_moving input.source ≡ true → suc at < next_change input.source tick) →
     input_text rounds (suc at) (seen_input netlist input) ≡ []
 quiet_input netlist rounds input tick at fit sound from drawn moved =
-    ap (flat_map (change_line (seen_input netlist input).name))
+    ap (λ (changes : List Change). flat_map change_line (map (λ change. record { name = (seen_input netlist input).name; change = change }) changes))
     (unchanged (signal_of rounds input.source) (suc at) (stays rounds input.source tick at fit sound from drawn moved))
 
 -- ---- several inputs
@@ -259,3 +260,11 @@ pub too_long : (text rest whole : List ℕ) → text ++ rest ≡ whole → longe
 too_long text rest whole joined long =
     let longer : longest_text < length whole = omega (arith, long, ap length joined, length-append text rest) in
     ap (λ too. cond too (Err TooLong) (Ok whole)) (lt-ltb longest_text (length whole) longer)
+
+-- where no tick is left, the lines so far are the text
+pub all_lines : (lines : ℕ → List ℕ) (at end : ℕ) (text whole : List ℕ) → end ≤ at → text ++ flat_map lines (range_with_len at (end - at)) ≡ whole →
+    length text ≤ longest_text → Ok text ≡ unless_too_long TooLong Ok whole
+all_lines lines at end text whole past joined short =
+    let none : end - at ≡ 0 = omega arith in
+    let same : text ≡ whole = sym (append-nil text) ∙ ap (λ n. text ++ flat_map lines (range_with_len at n)) (sym none) ∙ joined in
+    sym (unless_too_long-short TooLong Ok text short) ∙ ap (unless_too_long TooLong Ok) same

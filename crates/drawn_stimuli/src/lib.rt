@@ -5,6 +5,7 @@
 mod drive;
 mod fault;
 mod input;
+pub mod laws;
 mod lines;
 mod signals;
 mod stimuli;

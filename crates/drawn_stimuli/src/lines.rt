@@ -26,7 +26,7 @@ fn value_word(value: Value) -> &'static [u8]
 /// Adds the line of a change.
 fn push_change(text: &mut Vec<u8>, tick: u64, name: &[u8], value: Value) -> Result<(), AllocError>
     ensures { OnOk result (text.new.items
-        ≡ text.old.items ++ change_line name.now (record { tick = tick; value = value })) }
+        ≡ text.old.items ++ change_line (record { name = name.now; change = record { tick = tick; value = value } })) }
 {
     let mut buffer = Buffer::new();
     text.extend_from_slice(buffer.format(tick).as_bytes())?;

@@ -1,10 +1,10 @@
-use Rattle.std.proofs.Common.{◌≡◌, ◌+◌, ◌∙◌, All, List, Option, None, Some, ap, map, replicate, subst, sym}
+use Rattle.std.proofs.Common.{◌∙◌, All, Option, None, Some, ap, map, replicate, subst, sym}
 use Rattle.std.specs.Prelude.{IfSome}
 use Rattle.std.proofs.lemmas.List.{drop_more}
 use Rattle.std.proofs.lemmas.List.Elements.{All-replicate, All-set}
 use Rattle.drawn_stimuli.specs.declared.drive.Drive.{Drive}
 use Rattle.drawn_stimuli.specs.Inputs.{IsDrive, seen_drive}
-use Rattle.drawn_stimuli.proofs.KeptDrives.{Kept-first, Kept-length, Kept-more}
+use Rattle.drawn_stimuli.proofs.KeptDrives.{Kept-first, Kept-more}
 use Rattle.drawn_stimuli.proofs.input.drives_by_net.Goals as goal
 
 pub loop-place-init : goal.loop-place-init

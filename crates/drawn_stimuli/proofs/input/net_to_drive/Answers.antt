@@ -1,4 +1,4 @@
-use Rattle.std.proofs.Common.{◌∙◌, ap, sym}
+use Rattle.std.proofs.Common.{◌∙◌, sym}
 use Rattle.drawn_stimuli.specs.Inputs.{seen_drive}
 use Rattle.drawn_stimuli.proofs.KeptDrives.{fault_behind-once, fault_behind-twice}
 use Rattle.drawn_stimuli.proofs.input.net_to_drive.Goals as goal

@@ -1,12 +1,13 @@
-use Rattle.std.proofs.Common.{◌≡◌, ◌<◌, ◌+◌, ◌-◌, ◌++◌, ◌∙◌, All, List, ap, arith, flat_map, filter, map, refl, subst, sym}
+use Rattle.std.proofs.Common.{◌≡◌, ◌+◌, ◌-◌, ◌∙◌, All, List, ap, arith, flat_map, filter, map, refl, subst, sym}
 use Rattle.std.specs.List.{range_with_len}
 use Rattle.std.proofs.lemmas.List.Elements.{All-filter, All-weaker}
 use Rattle.drawn_stimuli.specs.declared.input.InputNet.{InputNet}
 use Rattle.drawn_stimuli.specs.Signals.{IsSource}
 use Rattle.drawn_stimuli.specs.Inputs.{IsInputNet, seen_input}
-use Rattle.drawn_stimuli.specs.StimulusText.{lines_text, tick_text}
+use Rattle.drawn_stimuli.specs.StimulusText.{tick_text}
 use Rattle.drawn_stimuli.specs.Ticks.{next_tick}
-use Rattle.drawn_stimuli.proofs.Quiet.{later_tick, more_lines, moves, too_long}
+use Rattle.drawn_stimuli.proofs.Quiet.{all_lines, later_tick, more_lines, moves, too_long}
+use Rattle.drawn_stimuli.proofs.TextLines.{lines_text-ticks}
 use Rattle.drawn_stimuli.proofs.stimuli.lines_text.Goals as goal
 use Rattle.drawn_stimuli.proofs.stimuli.lines_text.Goals.{After-next_tick-tick}
 
@@ -17,7 +18,7 @@ returns-then-len-gt-LONGEST_TEXT c = λ _.
     let lines = tick_text c.args.rounds (map (seen_input c.args.netlist.now) c.args.inputs.now) in
     let whole = more_lines c.args.netlist.now c.args.rounds c.args.inputs.now c.loop-tick.tick (c.args.horizon + 1) c.requires.rounds c.requires.inputs
     (omega (arith, c.loop-tick-test.true)) (omega (arith, c.loop-tick-test.true, c.requires.horizon)) next refl
-    _ _ _ c.in_ok-push_due.ensures c.loop-tick.invariant.0 in
+    _ _ _ c.in_ok-push_due.ensures (c.loop-tick.invariant.0 ∙ lines_text-ticks c.args.rounds (map (seen_input c.args.netlist.now) c.args.inputs.now) c.args.horizon) in
     sym (too_long c.push_due.new.text.items (flat_map lines (range_with_len next (c.args.horizon + 1 - next))) _ whole
     (omega (arith, c.if-len-gt-LONGEST_TEXT.true, c.len.ensures)))
 
@@ -49,3 +50,9 @@ loop-tick-preserved c = (
       _ _ _ c.in_ok-push_due.ensures c.loop-tick.invariant.0,
   omega (arith, c.if-len-gt-LONGEST_TEXT.false, c.len.ensures),
 )
+
+pub returns : goal.returns
+returns c = λ _.
+    let inputs = map (seen_input c.args.netlist.now) c.args.inputs.now in
+    all_lines (tick_text c.args.rounds inputs) c.loop-tick.tick (c.args.horizon + 1) c.loop-tick.text.items _ (omega (arith, c.loop-tick-test.false))
+    (c.loop-tick.invariant.0 ∙ lines_text-ticks c.args.rounds inputs c.args.horizon) c.loop-tick.invariant.1
