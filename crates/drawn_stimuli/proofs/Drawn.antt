@@ -9,7 +9,7 @@ use Rattle.drawn_stimuli.specs.declared.drive.Draws.{Draws}
 use Rattle.drawn_stimuli.specs.declared.fault.DriveFault.{DriveFault}
 use Rattle.drawn_stimuli.specs.declared.fault.DriveFault.TheVariants.{BadEvery, TooLong}
 use Rattle.drawn_stimuli.specs.Inputs.{DriveView, InputView, drawn_count, first_fault, inputs_of}
-use Rattle.drawn_stimuli.specs.StimulusText.{drawn_text, lines_text, rounds_of}
+use Rattle.drawn_stimuli.specs.StimulusText.{stimuli_text, lines_text, rounds_of}
 
 -- drives that were all kept have no fault
 pub all_kept : (found : Option DriveFault) (kept held : List (Option Drive)) → Ok kept ≡ option_map_or Err found (Ok held) → (found ≡ None) × (kept ≡ held)
@@ -17,10 +17,10 @@ all_kept None kept held same = let inside : kept ≡ held = (cc) in (refl, insid
 all_kept (Some fault) kept held same = (cc)
 
 -- then the text is that of the inputs, unless it is too long
-pub drawn_text-kept : (netlist : NetlistView) (drives : List DriveView) (draws : Draws) (horizon : ℕ) (inputs : List InputView) (count : ℕ) →
+pub stimuli_text-kept : (netlist : NetlistView) (drives : List DriveView) (draws : Draws) (horizon : ℕ) (inputs : List InputView) (count : ℕ) →
     draws.every ≢ 0 → first_fault netlist [] drives ≡ None → inputs ≡ inputs_of netlist drives → count ≡ drawn_count inputs →
-    unless_too_long TooLong Ok (lines_text (record { draws = draws; inputs = count }) inputs horizon) ≡ drawn_text netlist drives draws horizon
-drawn_text-kept netlist drives draws horizon inputs count some sound are counted =
+    unless_too_long TooLong Ok (lines_text (record { draws = draws; inputs = count }) inputs horizon) ≡ stimuli_text netlist drives draws horizon
+stimuli_text-kept netlist drives draws horizon inputs count some sound are counted =
     ap (λ count. unless_too_long TooLong Ok (lines_text (record { draws = draws; inputs = count }) inputs horizon)) counted
     ∙ ap (λ inputs. unless_too_long TooLong Ok (lines_text (record { draws = draws; inputs = drawn_count inputs }) inputs horizon)) are
     ∙ sym (ap (λ none. cond none (Err BadEvery) (option_map_or Err (first_fault netlist [] drives) text)) (ne_eqb draws.every 0 some)

@@ -13,12 +13,12 @@ use Rattle.drawn_stimuli.specs.declared.drive.Draws.{Draws}
 use Rattle.drawn_stimuli.specs.declared.fault.DriveFault.{DriveFault}
 use Rattle.drawn_stimuli.specs.declared.fault.DriveFault.TheVariants.{BadEvery, TooLong}
 use Rattle.drawn_stimuli.specs.Inputs.{DriveView, first_fault, inputs_of}
-use Rattle.drawn_stimuli.specs.StimulusText.{drawn_stimuli, drawn_text, lines_text, rounds_of}
+use Rattle.drawn_stimuli.specs.StimulusText.{drawn_stimuli, stimuli_text, lines_text, rounds_of}
 use Rattle.drawn_stimuli.proofs.DistinctInputs.{distinct_inputs, found_inputs}
 use Rattle.drawn_stimuli.proofs.InOrder.{drawn_can, drawn_order, read_changes}
 
 -- a text is the lines, and not too long
-is_text : (netlist : NetlistView) (drives : List DriveView) (draws : Draws) (horizon : ℕ) (text : List ℕ) → drawn_text netlist drives draws horizon ≡ Ok text →
+is_text : (netlist : NetlistView) (drives : List DriveView) (draws : Draws) (horizon : ℕ) (text : List ℕ) → stimuli_text netlist drives draws horizon ≡ Ok text →
     (lines_text (rounds_of netlist drives draws) (inputs_of netlist drives) horizon ≡ text) × (length text ≤ longest_text)
 is_text netlist drives draws horizon text same = go (draws.every == 0) (first_fault netlist [] drives) (nat_lt longest_text (length lines)) refl same
   where
@@ -36,7 +36,7 @@ is_text netlist drives draws horizon text same = go (draws.every == 0) (first_fa
         (inside, subst (λ text. length text ≤ longest_text) inside (ltb-false longest_text (length lines) short))
 
 pub read_drawn : (netlist : NetlistView) (drives : List DriveView) (draws : Draws) (horizon : ℕ) (text : List ℕ) → IsNetlist netlist → horizon ≤ most_ticks →
-    drawn_text netlist drives draws horizon ≡ Ok text → stimuli_of netlist text ≡ Ok (drawn_stimuli netlist drives draws horizon)
+    stimuli_text netlist drives draws horizon ≡ Ok text → stimuli_of netlist text ≡ Ok (drawn_stimuli netlist drives draws horizon)
 read_drawn netlist drives draws horizon text formed in_time same =
     let is = is_text netlist drives draws horizon text same in
     let rounds = rounds_of netlist drives draws in

@@ -64,8 +64,8 @@ abbrev pub drawn_stimuli : NetlistView → List DriveView → Draws → ℕ → 
 drawn_stimuli netlist drives draws horizon = drawn_changes (rounds_of netlist drives draws) (inputs_of netlist drives) horizon
 
 -- the text of drives and draws, or the first fault
-abbrev pub drawn_text : NetlistView → List DriveView → Draws → ℕ → Result (List ℕ) DriveFault
-drawn_text netlist drives draws horizon =
+abbrev pub stimuli_text : NetlistView → List DriveView → Draws → ℕ → Result (List ℕ) DriveFault
+stimuli_text netlist drives draws horizon =
     if draws.every == 0 then Err BadEvery
     else option_map_or Err (first_fault netlist [] drives)
     (unless_too_long TooLong Ok (lines_text (rounds_of netlist drives draws) (inputs_of netlist drives) horizon))

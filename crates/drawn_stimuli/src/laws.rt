@@ -8,7 +8,7 @@ ghost use Rattle.timing_text.specs.Stimuli.{stimuli_named, stimuli_of};
 ghost use Rattle.timing_text.specs.Words.{is_input};
 ghost use Rattle.drawn_stimuli.specs.declared.drive.Draws.{Draws};
 ghost use Rattle.drawn_stimuli.specs.Inputs.{DriveView, InputView, inputs_of};
-ghost use Rattle.drawn_stimuli.specs.StimulusText.{drawn_stimuli, drawn_text, driven_value};
+ghost use Rattle.drawn_stimuli.specs.StimulusText.{drawn_stimuli, stimuli_text, driven_value};
 
 /// The reader of stimuli takes the text for its netlist, and reads from it the changes that it was
 /// made of. There is an input for each net that is one, in order, and the changes that are read for
@@ -16,7 +16,7 @@ ghost use Rattle.drawn_stimuli.specs.StimulusText.{drawn_stimuli, drawn_text, dr
 /// its signal, at each tick up to the horizon.
 pub fn texts_read_back()
     ensures taken { (netlist : NetlistView) (drives : List DriveView) (draws : Draws) (horizon : ℕ) (text : List ℕ) →
-        IsNetlist netlist → horizon ≤ most_ticks → drawn_text netlist drives draws horizon ≡ Ok text →
+        IsNetlist netlist → horizon ≤ most_ticks → stimuli_text netlist drives draws horizon ≡ Ok text →
         stimuli_of netlist text ≡ Ok (drawn_stimuli netlist drives draws horizon) }
     ensures inputs { (netlist : NetlistView) (drives : List DriveView) →
         map (λ (input : InputView). input.name) (inputs_of netlist drives)

@@ -1,14 +1,14 @@
 //! The stimulus text of drives and draws.
-ghost use Rattle.std.specs.Prelude.{◌≡◌, ◌≢◌, ◌≤◌, ◌++◌, All, length, map, filter, OnOk, Ok, Err};
+ghost use Rattle.std.specs.Prelude.{◌≡◌, ◌≢◌, ◌≤◌, ◌++◌, All, length, map, filter, IfOk, OnOk, Ok, Err};
 ghost use Rattle.std.specs.Result.{result_map_both};
-ghost use Rattle.text_lines.specs.Text.{unless_too_long};
+ghost use Rattle.text_lines.specs.Text.{longest_text, unless_too_long};
 ghost use Rattle.netlist.specs.Netlist.{NetlistView};
 ghost use Rattle.timing_text.specs.Ranges.{most_ticks};
 ghost use Rattle.drawn_stimuli.specs.declared.fault.DriveFault.TheVariants as fault;
 ghost use Rattle.drawn_stimuli.specs.declared.input.InputNet.{InputNet as TheInputNet};
 ghost use Rattle.drawn_stimuli.specs.Signals.{AreRounds};
 ghost use Rattle.drawn_stimuli.specs.Inputs.{IsInputNet, drawn_count, seen_drive, seen_input};
-ghost use Rattle.drawn_stimuli.specs.StimulusText.{drawn_text, lines_text, tick_text};
+ghost use Rattle.drawn_stimuli.specs.StimulusText.{stimuli_text, lines_text, tick_text};
 ghost use Rattle.drawn_stimuli.specs.Ticks.{is_moving};
 
 use crate::drive::{Draws, Driven, Rounds};
@@ -56,9 +56,10 @@ fn lines_text(
     requires rounds { AreRounds rounds }
     requires inputs { All (IsInputNet netlist.now) inputs.now }
     requires horizon { horizon ≤ most_ticks }
-    ensures { result ≢ Err DriveFault.Memory →
+    ensures exact { result ≢ Err DriveFault.Memory →
         result_map_both (λ text. text.items) (λ fault. fault) result
         ≡ unless_too_long fault.TooLong Ok (lines_text rounds (map (seen_input netlist.now) inputs.now) horizon) }
+    ensures short { IfOk result (λ text. length text.items ≤ longest_text) }
 {
     let moving = moving_inputs(alloc, inputs)?;
     let mut text = Vec::new(alloc);
@@ -91,6 +92,7 @@ fn drawn_count(inputs: &[InputNet]) -> u64
 ///
 /// # Errors
 /// The first fault, as [`DriveFault`] says, or [`DriveFault::Memory`] where a growth was refused.
+/// [`DriveFault::BadEvery`] is answered before any memory is taken.
 pub fn stimuli_text(
     alloc: Global,
     netlist: &Netlist,
@@ -98,9 +100,11 @@ pub fn stimuli_text(
     draws: Draws,
     horizon: Horizon,
 ) -> Result<Vec<u8>, DriveFault>
-    ensures { result ≢ Err DriveFault.Memory →
+    ensures exact { result ≢ Err DriveFault.Memory →
         result_map_both (λ text. text.items) (λ fault. fault) result
-        ≡ drawn_text netlist.now (map seen_drive drives.now) draws horizon }
+        ≡ stimuli_text netlist.now (map seen_drive drives.now) draws horizon }
+    ensures at_once { draws.every ≡ 0 → result ≡ Err DriveFault.BadEvery }
+    ensures short { IfOk result (λ text. length text.items ≤ longest_text) }
 {
     if draws.every == 0 {
         return Err(DriveFault::BadEvery);

@@ -11,8 +11,8 @@ use Rattle.drawn_stimuli.proofs.TextLines.{lines_text-ticks}
 use Rattle.drawn_stimuli.proofs.stimuli.lines_text.Goals as goal
 use Rattle.drawn_stimuli.proofs.stimuli.lines_text.Goals.{After-next_tick-tick}
 
-pub returns-then-len-gt-LONGEST_TEXT : goal.returns-then-len-gt-LONGEST_TEXT
-returns-then-len-gt-LONGEST_TEXT c = λ _.
+pub returns-then-len-gt-LONGEST_TEXT-clause-exact : goal.returns-then-len-gt-LONGEST_TEXT-clause-exact
+returns-then-len-gt-LONGEST_TEXT-clause-exact c = λ _.
     let every = c.args.rounds.draws.every in
     let next = next_tick every (filter moves c.args.inputs.now) c.loop-tick.tick in
     let lines = tick_text c.args.rounds (map (seen_input c.args.netlist.now) c.args.inputs.now) in
@@ -51,8 +51,8 @@ loop-tick-preserved c = (
   omega (arith, c.if-len-gt-LONGEST_TEXT.false, c.len.ensures),
 )
 
-pub returns : goal.returns
-returns c = λ _.
+pub returns-clause-exact : goal.returns-clause-exact
+returns-clause-exact c = λ _.
     let inputs = map (seen_input c.args.netlist.now) c.args.inputs.now in
     all_lines (tick_text c.args.rounds inputs) c.loop-tick.tick (c.args.horizon + 1) c.loop-tick.text.items _ (omega (arith, c.loop-tick-test.false))
     (c.loop-tick.invariant.0 ∙ lines_text-ticks c.args.rounds inputs c.args.horizon) c.loop-tick.invariant.1
