@@ -6,3 +6,5 @@ mod ReadLine
 mod DistinctInputs
 mod InOrder
 mod ReadBack
+mod DrivesCount
+mod Words

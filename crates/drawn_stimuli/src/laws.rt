@@ -1,5 +1,9 @@
 //! Facts about the definitions alone.
-ghost use Rattle.std.specs.Prelude.{◌≡◌, ℕ, ◌+◌, ◌≤◌, List, All, Ok, filter, map};
+ghost use Rattle.std.specs.Prelude.{◌≡◌, ℕ, ◌+◌, ◌≤◌, List, [], All, None, Some, Ok, filter, map};
+ghost use Rattle.std.specs.List.{range_with_len};
+ghost use Rattle.rand_core.specs.Pcg32Seed.{pcg32_seed};
+ghost use Rattle.rand_core.specs.Steps.{first_words};
+ghost use Rattle.rand_pcg.specs.Pcg.{pcg32, pcg32_of_seed};
 ghost use Rattle.logic3.specs.declared.value.Value.TheVariants.{Unknown};
 ghost use Rattle.logic3.specs.Wave.{changes_between, value_after};
 ghost use Rattle.netlist.specs.Netlist.{IsNetlist, NetView, NetlistView};
@@ -7,7 +11,8 @@ ghost use Rattle.timing_text.specs.Ranges.{most_ticks};
 ghost use Rattle.timing_text.specs.Stimuli.{stimuli_named, stimuli_of};
 ghost use Rattle.timing_text.specs.Words.{is_input};
 ghost use Rattle.drawn_stimuli.specs.declared.drive.Draws.{Draws};
-ghost use Rattle.drawn_stimuli.specs.Inputs.{DriveView, InputView, inputs_of};
+ghost use Rattle.drawn_stimuli.specs.Inputs.{DriveView, InputView, drive_named, first_fault, inputs_of};
+ghost use Rattle.drawn_stimuli.specs.Signals.{word_after};
 ghost use Rattle.drawn_stimuli.specs.StimulusText.{drawn_stimuli, stimuli_text, driven_value};
 
 /// The reader of stimuli takes the text for its netlist, and reads from it the changes that it was
@@ -27,4 +32,16 @@ pub fn texts_read_back()
     ensures values { (netlist : NetlistView) (drives : List DriveView) (draws : Draws) (horizon tick : ℕ) → IsNetlist netlist → tick ≤ horizon →
         All (λ (input : InputView). value_after Unknown (stimuli_named (drawn_stimuli netlist drives draws horizon) input.name) tick
         ≡ driven_value netlist drives draws input tick) (inputs_of netlist drives) }
+{}
+
+/// Where no drive is faulty, each counts: the input of its name has just this drive.
+pub fn drives_count()
+    ensures { (netlist : NetlistView) (drives : List DriveView) → first_fault netlist [] drives ≡ None →
+        All (λ (driven : DriveView). drive_named drives driven.name ≡ Some driven.drive) drives }
+{}
+
+/// The words that are drawn are those of the generator, one after the other.
+pub fn words_in_order()
+    ensures { (seed count : ℕ) →
+        first_words pcg32 count (pcg32_of_seed (pcg32_seed 16 seed)) ≡ map (word_after seed) (range_with_len 0 count) }
 {}
