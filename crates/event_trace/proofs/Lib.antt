@@ -1,0 +1,5 @@
+mod Cuts
+mod EventLines
+mod GoingOut
+mod News
+mod Messages
