@@ -3,3 +3,4 @@ mod EventLines
 mod GoingOut
 mod News
 mod Messages
+mod Walking

@@ -49,6 +49,7 @@ fn events_of_round(
     requires circuit { kernel.now.circuit ≡ design.now.circuit }
     ensures events { IfOk result (λ events. events.items ≡ round_events kernel.now.state) }
 {
+    prove!(!kernel.is_failed());
     let mut events = Vec::new(alloc);
     for pin in 0..design.pins() {
         push_deliveries(kernel, pin, &mut events)?;
