@@ -1,5 +1,5 @@
 -- Text that goes out piece by piece.
-use Rattle.std.proofs.Common.{◌≡◌, ℕ, List, [], ◌++◌, Option, refl, ap, subst, sym, ◌∙◌, append_assoc, append-nil, length, take}
+use Rattle.std.proofs.Common.{◌≡◌, ℕ, List, [], ◌++◌, Option, None, Some, refl, ap, subst, sym, ◌∙◌, append_assoc, append-nil, length, take}
 use Rattle.std.specs.Io.KnownBytes.{Appends}
 use Rattle.std.proofs.KnownBytes.{Appends-trans}
 use Rattle.std.proofs.lemmas.List.{take_at}
@@ -36,3 +36,11 @@ pub GoesOut-sent : (old mid new : Option (List ℕ)) (text waiting : List ℕ) �
     Appends old new text
 GoesOut-sent old mid new text waiting first second =
     subst (Appends old new) first.whole (Appends-trans old mid new first.went waiting first.sent second)
+
+Appends-none : (out : Option (List ℕ)) → Appends out out []
+Appends-none None = tt
+Appends-none (Some xs) = sym (append-nil xs)
+
+-- nothing went out yet
+pub GoesOut-none : (out : Option (List ℕ)) (text : List ℕ) → GoesOut out out text text
+GoesOut-none out text = record { went = []; sent = Appends-none out; whole = refl }

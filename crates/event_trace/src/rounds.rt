@@ -82,6 +82,7 @@ fn walk_round<W: Write>(
         (begins number ∷ lines_of kernel.old.state (round_events kernel.old.state)))) }
     ensures fault { IfErr result (λ fault. fault ≢ DumpFault.Failed) }
 {
+    prove!(!kernel.is_failed());
     push_round(text, number)?;
     let events = events_of_round(alloc, kernel, design)?;
     walk(kernel, design, out, text, events.as_slice())
@@ -109,10 +110,12 @@ pub fn walk_rounds<W: Write>(
         (lines_within (most_rounds kernel.old.end kernel.old.circuit) kernel.old.state))) }
     ensures fault { IfErr result (λ fault. fault ≢ DumpFault.Failed) }
 {
-    // That each round brings the run nearer to its end.
+    // Each round brings the run nearer to its end.
     no_deadlock();
+    prove!(!kernel.is_failed());
     let mut rounds = kernel.counts().rounds;
     while !kernel.is_complete() {
+        prove!(!kernel.is_failed());
         rounds = rounds.saturating_add(1);
         walk_round(alloc, kernel, design, out, text, rounds)?;
     }
