@@ -6,3 +6,4 @@ mod News
 mod Messages
 mod RoundEvents
 mod Walking
+mod WholeTrace

@@ -1,10 +1,13 @@
-ghost use Rattle.std.specs.Prelude.{◌≡◌, ◌≢◌, ◌+◌, All, IfErr, IfOk, OnOk, OnErr};
+ghost use Rattle.std.specs.Prelude.{◌≡◌, ◌≢◌, ◌+◌, false, All, IfErr, IfOk, OnOk, OnErr};
 ghost use Rattle.std.specs.Io.KnownBytes.{Appends};
 ghost use Rattle.cmb_events.specs.Schedule.{Exists};
+ghost use Rattle.cmb_kernel.specs.State.{IsUndrained, most_rounds};
+ghost use Rattle.cmb_kernel.specs.Step.{completed_within, steps};
 ghost use Rattle.vcd_dump.specs.Bytes.{AppendsPrefix};
-ghost use Rattle.event_trace.specs.Trace.{state_at_end, trace_text};
+ghost use Rattle.event_trace.specs.Lines.{lines_text};
+ghost use Rattle.event_trace.specs.Trace.{lines_from, state_at_end, trace_text};
 
-use crate::events::fresh_kernel;
+use crate::events::{TracedKernel, fresh_kernel};
 use crate::lines::push_counts;
 use crate::rounds::walk_rounds;
 use crate::walk::walk;
@@ -51,9 +54,32 @@ pub fn trace<W: Write>(
     ensures fault { IfErr result (λ fault. fault ≢ DumpFault.Failed) }
 {
     let mut kernel = fresh_kernel(alloc, design, horizon)?;
+    trace_kernel(alloc, out, design, &mut kernel, events)
+}
+
+/// Writes the lines of a kernel to which some events happen, and then those of rounds.
+fn trace_kernel<W: Write>(
+    alloc: Global,
+    out: &mut W,
+    design: &Design,
+    kernel: &mut TracedKernel<'_>,
+    events: &[Event],
+) -> Result<Counts, DumpFault>
+    requires running { kernel.old.failed ≡ false }
+    requires circuit { kernel.old.circuit ≡ design.now.circuit }
+    requires undrained { IsUndrained kernel.old.state }
+    requires exist { All (Exists design.now.circuit) events.now }
+    ensures counts { IfOk result (λ counts. counts ≡
+        (completed_within (most_rounds kernel.old.end kernel.old.circuit) (steps kernel.old.state events.now)).counts) }
+    ensures ok { OnOk result (Appends (W.contents out.old) (W.contents out.new) (lines_text design.now.circuit
+        (lines_from kernel.old.state (most_rounds kernel.old.end kernel.old.circuit) events.now))) }
+    ensures err { OnErr result (AppendsPrefix (W.contents out.old) (W.contents out.new) (lines_text design.now.circuit
+        (lines_from kernel.old.state (most_rounds kernel.old.end kernel.old.circuit) events.now))) }
+    ensures fault { IfErr result (λ fault. fault ≢ DumpFault.Failed) }
+{
     let mut text = Vec::new(alloc);
-    walk(&mut kernel, design, out, &mut text, events)?;
-    let counts = walk_rounds(alloc, &mut kernel, design, out, &mut text)?;
+    walk(kernel, design, out, &mut text, events)?;
+    let counts = walk_rounds(alloc, kernel, design, out, &mut text)?;
     push_counts(&mut text, counts)?;
     write_all_bytes(out, text.as_slice())?;
     Ok(counts)
