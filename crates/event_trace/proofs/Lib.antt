@@ -5,5 +5,6 @@ mod GoingOut
 mod News
 mod Messages
 mod RoundEvents
+mod Tallies
 mod Walking
 mod WholeTrace
