@@ -1,5 +1,5 @@
 -- Rounds one after another, with their lines, until a run is complete.
-use Rattle.std.proofs.Common.{◌≡◌, ℕ, zero, suc, ◌+◌, ◌-◌, ◌*◌, ◌/◌, ◌%◌, ◌<◌, ◌≤◌, ◌==◌, min, Bool, true, false, cond, List, [], ◌∷◌, ◌++◌, Option, length, slice_index_or, refl, ap, sym, subst, ◌∙◌, arith, append_assoc, append-nil, ◌⊎◌, inl, inr, eq-eqb}
+use Rattle.std.proofs.Common.{◌≡◌, ℕ, zero, suc, ◌+◌, ◌-◌, ◌*◌, ◌/◌, ◌%◌, ◌<◌, ◌≤◌, ◌==◌, min, true, false, cond, List, [], ◌∷◌, ◌++◌, Option, slice_index_or, refl, ap, sym, subst, ◌∙◌, arith, append_assoc, append-nil, ◌⊎◌, inl, inr, eq-eqb}
 use Rattle.std.proofs.lemmas.Bool.{cases_lt}
 use Rattle.std.proofs.lemmas.Grind.{flat_map-append}
 use Rattle.std.proofs.lemmas.List.Sums.{list_all-from_AllPass}
@@ -9,11 +9,10 @@ use Rattle.cmb_channels.specs.declared.message.Message.{Message}
 use Rattle.cmb_events.specs.declared.event.Event.{Event}
 use Rattle.cmb_events.specs.declared.event.Event.TheVariants.{Deliver, Advance}
 use Rattle.gate_process.specs.Step.{ProcessState}
-use Rattle.cmb_kernel.specs.declared.counts.Counts.{Counts}
-use Rattle.cmb_kernel.specs.State.{State, KernelView, IsComplete, IsUndrained, is_complete, floor_at, least_delay, least_frontier, most_rounds}
+use Rattle.cmb_kernel.specs.State.{State, KernelView, IsComplete, is_complete, least_delay, least_frontier, most_rounds}
 use Rattle.cmb_kernel.specs.Step.{one_more, step, steps, after_deliver, with_round, round_events, round_of, rounds, completed_within}
 use Rattle.cmb_kernel.specs.Sound.{IsSound}
-use Rattle.cmb_kernel.proofs.CallerLemmas.{falls, rises_by_delay, steps_floor}
+use Rattle.cmb_kernel.proofs.CallerLemmas.{falls, rises_by_delay}
 use Rattle.vcd_dump.specs.Bytes.{AppendsPrefix}
 use Rattle.vcd_dump.specs.Written.{GoesOut}
 use Rattle.event_trace.specs.Lines.{Line, begins, line_text, lines_text}
@@ -110,8 +109,8 @@ module _ (circuit : Circuit) (ending : State) (old now : Option (List ℕ)) (who
       go (suc left) ends goes = (
         sym (ap (λ b. cond b (with_rounds number state) (completed_within left (round_of (with_rounds number state)))) complete) ∙ ends,
         subst (GoesOut old now whole)
-        (ap (λ b. text ++ lines_text circuit (cond b [] (round_lines (with_rounds number state) ++ lines_within left (round_of (with_rounds number state))))) complete
-        ∙ append-nil text) goes,
+            (ap (λ b. text ++ lines_text circuit (cond b [] (round_lines (with_rounds number state) ++ lines_within left (round_of (with_rounds number state))))) complete
+            ∙ append-nil text) goes,
       )
 
   module _ (incomplete : is_complete state ≡ false) where

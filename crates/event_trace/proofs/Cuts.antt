@@ -1,11 +1,11 @@
 -- Changes in a span of ticks.
-use Rattle.std.proofs.Common.{◌≡◌, ℕ, zero, suc, ◌+◌, ◌-◌, ◌<◌, ◌≤◌, nat_lt, nat_le, max, Bool, true, false, List, [], ◌∷◌, length, take, drop, refl, ap, sym, subst, ◌∙◌, arith, ltb-true, ltb-false}
+use Rattle.std.proofs.Common.{◌≡◌, ℕ, zero, suc, ◌-◌, ◌<◌, ◌≤◌, nat_le, max, List, [], ◌∷◌, length, take, drop, refl, ap, ◌∙◌, arith, ltb-true, ltb-false}
 use Rattle.std.specs.List.{filter}
 use Rattle.std.proofs.lemmas.List.{take_rest}
 use Rattle.std.proofs.lemmas.Bool.{le-leb, lt-leb}
 use Rattle.logic3.specs.declared.value.Value.{Value}
 use Rattle.logic3.specs.declared.change.Change.{Change}
-use Rattle.logic3.specs.Wave.{Wave, changes_between, changes_below, wave_of}
+use Rattle.logic3.specs.Wave.{Wave, changes_between, changes_below}
 use Rattle.logic3.proofs.CallerLemmas.{IsCut, cut_tail, changes_below-between, without_below-wave_of}
 
 -- the first changes are those below the tick

@@ -1,5 +1,5 @@
 -- The lines of events, from what a kernel's readers say.
-use Rattle.std.proofs.Common.{◌≡◌, ℕ, ◌+◌, ◌-◌, ◌<◌, ◌≤◌, List, [], ◌∷◌, length, Option, None, Some, slice_get, refl, ap, sym, subst, ◌∙◌, arith}
+use Rattle.std.proofs.Common.{◌≡◌, ℕ, ◌+◌, ◌-◌, ◌<◌, ◌≤◌, List, [], ◌∷◌, length, Option, None, Some, slice_get, ap, sym, subst, ◌∙◌, arith}
 use Rattle.std.specs.Option.{option_map, option_map_or, ForSome}
 use Rattle.std.proofs.lemmas.Option.{same_Some}
 use Rattle.logic3.specs.declared.value.Value.{Value}
@@ -11,7 +11,7 @@ use Rattle.design.specs.Pins.{sources_of, first_pin, net_of_pin, place_of_pin}
 use Rattle.design.proofs.CallerLemmas.{pin_is}
 use Rattle.cmb_events.specs.declared.event.Event.{Event}
 use Rattle.cmb_events.specs.declared.event.Event.TheVariants.{Deliver, Advance}
-use Rattle.cmb_kernel.specs.State.{State, KernelView, IsUndrained, frontier_at, floor_at, received_at}
+use Rattle.cmb_kernel.specs.State.{KernelView, IsUndrained, frontier_at, floor_at, received_at}
 use Rattle.cmb_kernel.specs.Step.{step}
 use Rattle.cmb_kernel.specs.Sound.{IsSound}
 use Rattle.cmb_kernel.proofs.CallerLemmas.{steps_floor}

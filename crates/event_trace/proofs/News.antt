@@ -1,8 +1,7 @@
 -- What events tell of the nets' signals.
-use Rattle.std.proofs.Common.{◌≡◌, ℕ, zero, suc, ◌+◌, ◌-◌, ◌<◌, ◌≤◌, ◌==◌, Bool, true, false, cond, List, [], ◌∷◌, ◌++◌, map, length, take, Some, slice_get, slice_index_or, refl, ap, sym, subst, ◌∙◌, arith, eq-eqb, flat_map}
+use Rattle.std.proofs.Common.{◌≡◌, ℕ, ◌+◌, ◌-◌, ◌<◌, ◌≤◌, ◌==◌, Bool, true, false, cond, List, [], ◌∷◌, ◌++◌, length, take, Some, slice_get, slice_index_or, refl, ap, sym, subst, ◌∙◌, arith, eq-eqb, flat_map}
 use Rattle.std.specs.List.{range_with_len}
 use Rattle.std.specs.Option.{option_map, option_map_or}
-use Rattle.std.proofs.lemmas.Bool.{eqb-true, eqb-false}
 use Rattle.std.proofs.lemmas.Bool.Decides.{nat_tests}
 use Rattle.std.proofs.lemmas.List.{length-map}
 use Rattle.std.proofs.lemmas.Option.{slice_get-map, slice_get_within, same_Some}
@@ -12,8 +11,8 @@ use Rattle.logic3.specs.Wave.{change_at, changes_between}
 use Rattle.logic3.proofs.CallerLemmas.{changes_between-split}
 use Rattle.design.specs.Circuit.{Net, Circuit, IsCircuit, pin_count}
 use Rattle.design.specs.Equations.{equation_at, value_of}
-use Rattle.design.specs.Pins.{sources_of, first_pin, net_of_pin, place_of_pin}
-use Rattle.design.proofs.CallerLemmas.{timed_at, value_solves, source_at, pin_is, net_of_pin_below}
+use Rattle.design.specs.Pins.{sources_of, net_of_pin, place_of_pin}
+use Rattle.design.proofs.CallerLemmas.{timed_at, value_solves, source_at, pin_is}
 use Rattle.cmb_channels.specs.declared.message.Message.{Message}
 use Rattle.cmb_channels.specs.declared.message.Message.TheVariants.{Change as Changes, Null}
 use Rattle.cmb_channels.specs.Lists.{update}
@@ -26,7 +25,7 @@ use Rattle.cmb_events.specs.declared.event.Event.TheVariants.{Deliver, Advance}
 use Rattle.cmb_kernel.specs.State.{State, nets_of, frontier_at, received_of, received_at}
 use Rattle.cmb_kernel.specs.Step.{news_at, after_deliver, step}
 use Rattle.cmb_kernel.specs.Sound.{IsSound}
-use Rattle.event_trace.specs.Told.{told_by, told_between}
+use Rattle.event_trace.specs.Told.{told_between}
 
 -- ---- the changes that messages tell
 

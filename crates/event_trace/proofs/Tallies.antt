@@ -1,5 +1,5 @@
 -- What a reader counts in lines is what a run counts.
-use Rattle.std.proofs.Common.{◌≡◌, ℕ, zero, suc, ◌+◌, ◌≤◌, min, Bool, true, false, cond, List, [], ◌∷◌, ◌++◌, flat_map, count_by, slice_index_or, refl, ap, sym, ◌∙◌, arith, append-nil}
+use Rattle.std.proofs.Common.{◌≡◌, ℕ, zero, suc, ◌+◌, Bool, true, false, cond, List, [], ◌∷◌, ◌++◌, flat_map, count_by, slice_index_or, refl, ap, sym, ◌∙◌, arith, append-nil}
 use Rattle.std.proofs.lemmas.Grind.{flat_map-append}
 use Rattle.std.proofs.lemmas.List.Sums.{sum_by-cons, sum_by-append}
 use Rattle.design.specs.Circuit.{Circuit}
@@ -10,9 +10,9 @@ use Rattle.cmb_events.specs.declared.event.Event.TheVariants.{Deliver, Advance}
 use Rattle.cmb_kernel.specs.declared.counts.Counts.{Counts}
 use Rattle.cmb_kernel.specs.State.{State, started, is_complete, most_rounds}
 use Rattle.cmb_kernel.specs.Step.{one_more, counted, news_at, after_deliver, step, steps, round_events, round_of, completed_within}
-use Rattle.event_trace.specs.Lines.{Line, begins, advances, delivers, ends}
+use Rattle.event_trace.specs.Lines.{Line, begins, ends}
 use Rattle.event_trace.specs.Counted.{is_event, is_beginning, told_in, held, changes_told, nulls_told}
-use Rattle.event_trace.specs.Trace.{line_of, lines_of, round_lines, lines_within, lines_from, state_at_end, trace_lines}
+use Rattle.event_trace.specs.Trace.{line_of, lines_of, round_lines, lines_within, state_at_end, trace_lines}
 
 count_by-cons : {A : Type 0} (test : A → Bool) (x : A) (xs : List A) → count_by test (x ∷ xs) ≡ cond (test x) 1 0 + count_by test xs
 count_by-cons test x xs = sum_by-cons (λ y. cond (test y) 1 0) x xs

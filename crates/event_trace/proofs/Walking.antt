@@ -1,13 +1,12 @@
 -- Events one after another, with their lines.
-use Rattle.std.proofs.Common.{◌≡◌, ℕ, zero, suc, ◌+◌, ◌-◌, ◌<◌, ◌≤◌, List, [], ◌∷◌, ◌++◌, length, drop, map, replicate, flat_map, get_or, slice_index_or, refl, ap, sym, subst, ◌∙◌, arith, add-one, drop-cons, append_assoc, append-nil}
+use Rattle.std.proofs.Common.{◌≡◌, ℕ, suc, ◌+◌, ◌-◌, ◌<◌, List, [], ◌∷◌, ◌++◌, length, drop, map, get_or, refl, ap, sym, ◌∙◌, arith, add-one, drop-cons, append_assoc}
 use Rattle.std.specs.List.{range_with_len}
 use Rattle.design.specs.Circuit.{Circuit}
-use Rattle.cmb_channels.specs.declared.message.Message.{Message}
 use Rattle.cmb_events.specs.declared.event.Event.{Event}
 use Rattle.cmb_events.specs.declared.event.Event.TheVariants.{Deliver, Advance}
-use Rattle.cmb_kernel.specs.State.{State, KernelView, IsUndrained, floor_at}
+use Rattle.cmb_kernel.specs.State.{KernelView, IsUndrained, floor_at}
 use Rattle.cmb_kernel.proofs.CallerLemmas.{steps_floor}
-use Rattle.cmb_kernel.specs.Step.{step, steps, deliveries_from}
+use Rattle.cmb_kernel.specs.Step.{step, steps}
 use Rattle.event_trace.specs.Lines.{line_text, lines_text}
 use Rattle.event_trace.specs.Trace.{line_of, lines_of}
 

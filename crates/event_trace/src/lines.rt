@@ -1,7 +1,7 @@
 //! The lines of a trace, as text.
 ghost use Rattle.std.specs.Prelude.{◌≡◌, ◌+◌, ◌++◌, flat_map, OnOk};
 ghost use Rattle.std.specs.Fmt.{decimal};
-ghost use Rattle.cmb_channels.specs.declared.message.Message.TheVariants.{Change as Changes, Null};
+ghost use Rattle.cmb_channels.specs.declared.message.Message.TheVariants.{Change as Changes};
 ghost use Rattle.event_trace.specs.Lines.{spaced_text, messages_text, advance_text, deliver_text, round_text, counts_line};
 ghost use Rattle.event_trace.specs.Told.{told_by, told_to};
 

@@ -1,11 +1,9 @@
 //! Rounds, each with its lines.
-ghost use Rattle.std.specs.Prelude.{◌≡◌, ◌≢◌, ◌++◌, ◌∷◌, false, [], All, length, map, replicate, slice_index_or, IfErr, IfOk, OnOk, OnErr};
-ghost use Rattle.std.specs.List.{range_with_len};
+ghost use Rattle.std.specs.Prelude.{◌≡◌, ◌≢◌, ◌++◌, ◌∷◌, false, [], length, replicate, slice_index_or, IfErr, IfOk, OnOk, OnErr};
 ghost use Rattle.cmb_events.specs.Schedule.{Exists};
-ghost use Rattle.cmb_events.specs.declared.event.Event.TheVariants.{Deliver, Advance};
+ghost use Rattle.cmb_events.specs.declared.event.Event.TheVariants.{Deliver};
 ghost use Rattle.cmb_kernel.specs.State.{IsUndrained, most_rounds};
-ghost use Rattle.cmb_kernel.specs.Sound.{IsSound};
-ghost use Rattle.cmb_kernel.specs.Step.{one_more, deliveries_from, round_events, steps, completed_within};
+ghost use Rattle.cmb_kernel.specs.Step.{round_events, steps, completed_within};
 ghost use Rattle.vcd_dump.specs.Bytes.{AppendsPrefix};
 ghost use Rattle.vcd_dump.specs.Written.{GoesOut};
 ghost use Rattle.event_trace.specs.Lines.{begins, lines_text};

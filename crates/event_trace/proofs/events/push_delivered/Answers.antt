@@ -1,4 +1,4 @@
-use Rattle.std.proofs.Common.{◌≡◌, ◌<◌, ◌-◌, Some, length, slice_get, sym, subst, ap, ◌∙◌, ◌++◌}
+use Rattle.std.proofs.Common.{◌≡◌, ◌<◌, ◌-◌, Some, slice_get, sym, subst, ap, ◌∙◌, ◌++◌}
 use Rattle.design.specs.Circuit.{Circuit, pin_count}
 use Rattle.design.specs.Pins.{sources_of}
 use Rattle.event_trace.proofs.EventLines.{some_pin, place_is, delivered_line}

@@ -1,5 +1,4 @@
-use Rattle.std.proofs.Common.{◌≡◌, ◌∷◌, [], length, sym, ap, ◌∙◌, arith}
-use Rattle.cmb_events.specs.declared.event.Event.TheVariants.{Advance}
+use Rattle.std.proofs.Common.{length, ◌∙◌, arith}
 use Rattle.event_trace.proofs.Walking.{advances_on}
 use Rattle.event_trace.proofs.rounds.events_of_round.Goals as goal
 

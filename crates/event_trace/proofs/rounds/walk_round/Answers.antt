@@ -1,4 +1,4 @@
-use Rattle.std.proofs.Common.{List, ◌++◌, All, sym, subst, ap, ◌∙◌}
+use Rattle.std.proofs.Common.{List, All, sym, subst, ◌∙◌}
 use Rattle.std.proofs.lemmas.Result.{on_err_weaker}
 use Rattle.design.specs.Circuit.{Circuit}
 use Rattle.cmb_events.specs.declared.event.Event.{Event}

@@ -1,15 +1,11 @@
-use Rattle.std.proofs.Common.{◌≡◌, ℕ, ◌∷◌, ◌++◌, refl, sym, subst, ap, ◌∙◌}
+use Rattle.std.proofs.Common.{refl, sym, subst, ap, ◌∙◌}
 use Rattle.cmb_kernel.specs.declared.counts.Counts.{Counts}
 use Rattle.cmb_kernel.specs.State.{State, KernelView, floor_at, most_rounds}
-use Rattle.cmb_kernel.specs.Step.{completed_within, round_events}
+use Rattle.cmb_kernel.specs.Step.{round_events}
 use Rattle.cmb_kernel.proofs.CallerLemmas.{steps_floor}
 use Rattle.vcd_dump.proofs.CallerLemmas.{OnErr-always}
-use Rattle.vcd_dump.specs.Bytes.{AppendsPrefix}
-use Rattle.vcd_dump.specs.Written.{GoesOut}
 use Rattle.cmb_kernel.specs.Sound.{IsSound}
-use Rattle.event_trace.specs.Lines.{begins, lines_text}
-use Rattle.event_trace.specs.Trace.{lines_of, lines_within}
-use Rattle.event_trace.proofs.Completing.{RoundsLeft, all_left, broken_round, less_left, most_enough, none_left, one_more_round, run_on}
+use Rattle.event_trace.proofs.Completing.{all_left, broken_round, less_left, most_enough, none_left, one_more_round, run_on}
 use Rattle.event_trace.proofs.rounds.walk_rounds.Goals as goal
 
 pub loop-alloc-init : goal.loop-alloc-init

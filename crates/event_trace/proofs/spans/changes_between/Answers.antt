@@ -1,8 +1,8 @@
-use Rattle.std.proofs.Common.{◌≡◌, ◌-◌, ◌≤◌, List, rules, ltb, ap, sym, subst, ◌∙◌, length, take, drop, arith}
+use Rattle.std.proofs.Common.{◌≡◌, ◌-◌, rules, ltb, ap, sym, subst, ◌∙◌, length, take, drop, arith}
 use Rattle.std.proofs.lemmas.List.Sorted.{IsPartitionPoint-from_clause, IsPartitionedBy-ltb}
 use Rattle.logic3.specs.declared.change.Change.{Change}
 use Rattle.logic3.specs.Rising.{TicksRise}
-use Rattle.logic3.specs.Wave.{Wave, wave_of, changes_between}
+use Rattle.logic3.specs.Wave.{Wave, changes_between}
 use Rattle.logic3.proofs.CallerLemmas.{RisesBy-ascends, AllPairs-Alternates, IsWave-wave_of}
 use Rattle.event_trace.proofs.Cuts.{rest_is, span_is}
 use Rattle.event_trace.proofs.spans.changes_between.Goals as goal

@@ -1,9 +1,7 @@
-use Rattle.std.proofs.Common.{◌≡◌, ◌+◌, ◌++◌, sym, subst, ap, drop, arith, ◌∙◌}
+use Rattle.std.proofs.Common.{subst, ap, arith, ◌∙◌}
 use Rattle.cmb_kernel.specs.State.{KernelView}
 use Rattle.vcd_dump.specs.Written.{GoesOut}
 use Rattle.vcd_dump.proofs.CallerLemmas.{OnErr-always}
-use Rattle.event_trace.specs.Lines.{lines_text}
-use Rattle.event_trace.specs.Trace.{lines_of}
 use Rattle.event_trace.proofs.GoingOut.{GoesOut-fault, GoesOut-stopped, GoesOut-then}
 use Rattle.event_trace.proofs.Walking.{goes_on, lines_on, undrained_on}
 use Rattle.event_trace.proofs.walk.walk.Goals as goal
