@@ -1,0 +1,10 @@
+mod Completing
+mod Cuts
+mod EventLines
+mod GoingOut
+mod News
+mod Messages
+mod RoundEvents
+mod Tallies
+mod Walking
+mod WholeTrace

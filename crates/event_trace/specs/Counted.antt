@@ -1,0 +1,37 @@
+-- What a reader counts in a trace.
+use Rattle.std.specs.Prelude.{ℕ, min, Bool, true, false, List, [], flat_map, count_by}
+use Rattle.cmb_channels.specs.declared.message.Message.{Message}
+use Rattle.cmb_channels.specs.Kinds.{is_change, is_null}
+use Rattle.event_trace.specs.Lines.{Line, begins, advances, delivers, ends}
+
+-- the line is of an event
+abbrev pub is_event : Line → Bool
+is_event (begins number) = false
+is_event (advances net from to told) = true
+is_event (delivers net place taken) = true
+is_event (ends counts) = false
+
+-- the line is of a round's beginning
+abbrev pub is_beginning : Line → Bool
+is_beginning (begins number) = true
+is_beginning (advances net from to told) = false
+is_beginning (delivers net place taken) = false
+is_beginning (ends counts) = false
+
+-- what an advance told stands in its line
+abbrev pub told_in : Line → List Message
+told_in (begins number) = []
+told_in (advances net from to told) = told
+told_in (delivers net place taken) = []
+told_in (ends counts) = []
+
+-- as much as a u64 holds
+abbrev pub held : ℕ → ℕ
+held count = min count 18_446_744_073_709_551_615
+
+-- how many changes, and how many null messages, advances told
+abbrev pub changes_told : List Line → ℕ
+changes_told lines = count_by is_change (flat_map told_in lines)
+
+abbrev pub nulls_told : List Line → ℕ
+nulls_told lines = count_by is_null (flat_map told_in lines)

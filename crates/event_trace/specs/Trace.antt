@@ -1,0 +1,47 @@
+-- The trace of a run.
+use Rattle.std.specs.Prelude.{ℕ, zero, suc, if◌then◌else◌, List, [], ◌∷◌, ◌++◌, take, slice_index_or}
+use Rattle.design.specs.Circuit.{Circuit}
+use Rattle.design.specs.Pins.{net_of_pin, place_of_pin}
+use Rattle.cmb_events.specs.declared.event.Event.{Event}
+use Rattle.cmb_events.specs.declared.event.Event.TheVariants.{Deliver, Advance}
+use Rattle.cmb_kernel.specs.State.{State, started, nets_of, frontier_at, is_complete, most_rounds}
+use Rattle.cmb_kernel.specs.Step.{one_more, news_at, step, steps, round_events, round_of, completed_within}
+use Rattle.event_trace.specs.Lines.{Line, begins, advances, delivers, ends, lines_text}
+
+-- the line of an event, from the state that it happens in
+abbrev pub line_of : State → Event → Line
+line_of state (Deliver pin) =
+    delivers (net_of_pin (nets_of state) pin) (place_of_pin (nets_of state) pin) (take 1 (slice_index_or state.lists pin []))
+line_of state (Advance net) =
+    advances net (frontier_at state net) (frontier_at (step state (Advance net)) net) (news_at state net)
+
+-- the lines of some events
+abbrev pub lines_of : State → List Event → List Line
+lines_of state [] = []
+lines_of state (event ∷ events) = line_of state event ∷ lines_of (step state event) events
+
+-- the lines of a round
+abbrev pub round_lines : State → List Line
+round_lines state = begins (one_more state.counts.rounds) ∷ lines_of state (round_events state)
+
+-- the lines of the fewest rounds that complete a state, if so many are enough
+abbrev pub lines_within : ℕ → State → List Line
+lines_within zero state = []
+lines_within (suc count) state = if is_complete state then [] else round_lines state ++ lines_within count (round_of state)
+
+-- the state at the end of a run: some events happen, and then rounds until it is complete
+abbrev pub state_at_end : Circuit → ℕ → List Event → State
+state_at_end circuit end events = completed_within (most_rounds end circuit) (steps (started circuit end) events)
+
+-- the lines from a state on: of some events, of the rounds that complete the run, and of the counts then
+abbrev pub lines_from : State → ℕ → List Event → List Line
+lines_from state most events =
+    lines_of state events ++ lines_within most (steps state events) ++ ends (completed_within most (steps state events)).counts ∷ []
+
+-- the lines of a run
+abbrev pub trace_lines : Circuit → ℕ → List Event → List Line
+trace_lines circuit end events = lines_from (started circuit end) (most_rounds end circuit) events
+
+-- the trace of a run
+abbrev pub trace_text : Circuit → ℕ → List Event → List ℕ
+trace_text circuit end events = lines_text circuit (trace_lines circuit end events)

@@ -1,0 +1,124 @@
+//! Events, each with its line.
+ghost use Rattle.std.specs.Prelude.{◌≡◌, ◌<◌, ◌+◌, ◌++◌, false, length, IfErr, IfOk, OnOk};
+ghost use Rattle.design.specs.Circuit.{pin_count};
+ghost use Rattle.cmb_events.specs.Schedule.{Exists};
+ghost use Rattle.cmb_events.specs.declared.event.Event.TheVariants.{Deliver, Advance};
+ghost use Rattle.cmb_kernel.specs.State.{IsUndrained, fresh};
+ghost use Rattle.cmb_kernel.specs.Step.{step};
+ghost use Rattle.event_trace.specs.Lines.{line_text};
+ghost use Rattle.event_trace.specs.Trace.{line_of};
+
+use crate::lines::{push_advance, push_delivery};
+use crate::spans::changes_between;
+use cmb_channels::Logs;
+use cmb_events::Event;
+use cmb_kernel::Kernel;
+use design::Design;
+use std::alloc::Global;
+use timing_text::Horizon;
+use vcd_dump::DumpFault;
+
+/// The kernel of a run that is traced, and the channels that its messages go through.
+pub type TracedKernel<'d> = Kernel<'d, Logs>;
+
+/// A kernel to which nothing happened yet. Its fault is `Memory`.
+pub fn fresh_kernel<'d>(
+    alloc: Global,
+    design: &'d Design,
+    horizon: Horizon,
+) -> Result<TracedKernel<'d>, DumpFault>
+    ensures fresh { IfOk result (λ kernel. kernel ≡ fresh design.now.circuit (horizon + 1)) }
+    ensures err { IfErr result (λ fault. fault ≡ DumpFault.Memory) }
+{
+    match TracedKernel::new(alloc, design, horizon) {
+        Ok(kernel) => Ok(kernel),
+        Err(_) => Err(DumpFault::Memory),
+    }
+}
+
+/// Applies an event of a pin or a net that is there. Its fault is `Memory`.
+fn apply(kernel: &mut TracedKernel<'_>, event: Event) -> Result<(), DumpFault>
+    requires running { kernel.old.failed ≡ false }
+    requires exists { Exists kernel.old.circuit event }
+    ensures ok { OnOk result (kernel.new ≡ record kernel.old { state = step kernel.old.state event }) }
+    ensures err { IfErr result (λ fault. fault ≡ DumpFault.Memory) }
+{
+    match kernel.apply(event) {
+        Ok(_useful) => Ok(()),
+        Err(_) => Err(DumpFault::Memory),
+    }
+}
+
+/// Advances a net and adds its line. The fault is `Memory`.
+fn push_advanced(
+    kernel: &mut TracedKernel<'_>,
+    design: &Design,
+    text: &mut Vec<u8>,
+    net: u32,
+) -> Result<(), DumpFault>
+    requires running { kernel.old.failed ≡ false }
+    requires circuit { kernel.old.circuit ≡ design.now.circuit }
+    requires undrained { IsUndrained kernel.old.state }
+    requires exists { net < length design.now.circuit }
+    ensures ok { OnOk result (kernel.new ≡ record kernel.old { state = step kernel.old.state (Advance net) }) }
+    ensures text { OnOk result (text.new.items ≡
+        text.old.items ++ line_text design.now.circuit (line_of kernel.old.state (Advance net))) }
+    ensures err { IfErr result (λ fault. fault ≡ DumpFault.Memory) }
+{
+    prove!(!kernel.is_failed());
+    let from = kernel.frontier(net);
+    apply(kernel, Event::Advance(net))?;
+    let to = kernel.frontier(net);
+    let changes = changes_between(kernel.waveform(net), from, to);
+    push_advance(text, design.name(net), from, to, changes)?;
+    Ok(())
+}
+
+/// Lets a pin take the message that waits there first, and adds the line. The fault is `Memory`.
+fn push_delivered(
+    kernel: &mut TracedKernel<'_>,
+    design: &Design,
+    text: &mut Vec<u8>,
+    pin: u32,
+) -> Result<(), DumpFault>
+    requires running { kernel.old.failed ≡ false }
+    requires circuit { kernel.old.circuit ≡ design.now.circuit }
+    requires undrained { IsUndrained kernel.old.state }
+    requires exists { pin < pin_count design.now.circuit }
+    ensures ok { OnOk result (kernel.new ≡ record kernel.old { state = step kernel.old.state (Deliver pin) }) }
+    ensures text { OnOk result (text.new.items ≡
+        text.old.items ++ line_text design.now.circuit (line_of kernel.old.state (Deliver pin))) }
+    ensures err { IfErr result (λ fault. fault ≡ DumpFault.Memory) }
+{
+    prove!(!kernel.is_failed());
+    let net = design.pin_net(pin);
+    let place = pin - design.pin(net, 0);
+    let from = kernel.received(pin);
+    apply(kernel, Event::Deliver(pin))?;
+    let to = kernel.received(pin);
+    let changes = changes_between(kernel.waveform(design.pin_source(pin)), from, to);
+    push_delivery(text, design.name(net), place, from, to, changes)?;
+    Ok(())
+}
+
+/// Applies an event of a pin or a net that is there, and adds its line. The fault is `Memory`.
+pub fn push_event(
+    kernel: &mut TracedKernel<'_>,
+    design: &Design,
+    text: &mut Vec<u8>,
+    event: Event,
+) -> Result<(), DumpFault>
+    requires running { kernel.old.failed ≡ false }
+    requires circuit { kernel.old.circuit ≡ design.now.circuit }
+    requires undrained { IsUndrained kernel.old.state }
+    requires exists { Exists design.now.circuit event }
+    ensures ok { OnOk result (kernel.new ≡ record kernel.old { state = step kernel.old.state event }) }
+    ensures text { OnOk result (text.new.items ≡
+        text.old.items ++ line_text design.now.circuit (line_of kernel.old.state event)) }
+    ensures err { IfErr result (λ fault. fault ≡ DumpFault.Memory) }
+{
+    match event {
+        Event::Deliver(pin) => push_delivered(kernel, design, text, pin),
+        Event::Advance(net) => push_advanced(kernel, design, text, net),
+    }
+}

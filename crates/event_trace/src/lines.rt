@@ -1,0 +1,141 @@
+//! The lines of a trace, as text.
+ghost use Rattle.std.specs.Prelude.{◌≡◌, ◌+◌, ◌++◌, flat_map, OnOk};
+ghost use Rattle.std.specs.Fmt.{decimal};
+ghost use Rattle.cmb_channels.specs.declared.message.Message.TheVariants.{Change as Changes};
+ghost use Rattle.event_trace.specs.Lines.{spaced_text, messages_text, advance_text, deliver_text, round_text, counts_line};
+ghost use Rattle.event_trace.specs.Told.{told_by, told_to};
+
+use cmb_kernel::Counts;
+use itoa::Buffer;
+use logic3::Change;
+use std::alloc::AllocError;
+use vcd_dump::value_text;
+
+fn push_numbered(text: &mut Vec<u8>, before: &[u8], number: u64) -> Result<(), AllocError>
+    ensures { OnOk result (text.new.items ≡ text.old.items ++ (before.now ++ decimal number)) }
+{
+    let mut buffer = Buffer::new();
+    text.extend_from_slice(before)?;
+    text.extend_from_slice(buffer.format(number).as_bytes())?;
+    Ok(())
+}
+
+fn push_change(text: &mut Vec<u8>, change: Change) -> Result<(), AllocError>
+    ensures { OnOk result (text.new.items ≡ text.old.items ++ spaced_text (Changes change)) }
+{
+    text.push(b' ')?;
+    text.extend_from_slice(value_text(change.value).as_bytes())?;
+    push_numbered(text, b"@", u64::from(change.tick))
+}
+
+fn push_changes(text: &mut Vec<u8>, changes: &[Change]) -> Result<(), AllocError>
+    ensures { OnOk result (text.new.items ≡
+        text.old.items ++ flat_map (λ change. spaced_text (Changes change)) changes.now) }
+{
+    for change in changes {
+        push_change(text, *change)?;
+    }
+    Ok(())
+}
+
+// The tick behind that of a change.
+fn tick_behind(change: Change) -> u64
+    ensures { result ≡ change.tick + 1 }
+{
+    u64::from(change.tick) + 1
+}
+
+// Up to which tick some changes tell of a net, of which nothing is told before one.
+fn told_to(from: u64, changes: &[Change]) -> u64
+    ensures { result ≡ told_to from changes.now }
+{
+    match changes.last() {
+        Some(change) => tick_behind(*change),
+        None => from,
+    }
+}
+
+// What tells of a net from one tick up to another, between which it has these changes.
+fn push_messages(
+    text: &mut Vec<u8>,
+    changes: &[Change],
+    from: u64,
+    to: u64,
+) -> Result<(), AllocError>
+    ensures { OnOk result (text.new.items ≡
+        text.old.items ++ messages_text (told_by changes.now from to)) }
+{
+    if to == from {
+        text.extend_from_slice(b" idle")?;
+        return Ok(());
+    }
+    push_changes(text, changes)?;
+    if told_to(from, changes) == to {
+        return Ok(());
+    }
+    push_numbered(text, b" null ", to)
+}
+
+/// Adds the line of an advance from one frontier to another, between which the net has these changes.
+pub fn push_advance(
+    text: &mut Vec<u8>,
+    name: &[u8],
+    from: u64,
+    to: u64,
+    changes: &[Change],
+) -> Result<(), AllocError>
+    ensures { OnOk result (text.new.items ≡
+        text.old.items ++ advance_text name.now from to (told_by changes.now from to)) }
+{
+    text.extend_from_slice(b"advance ")?;
+    text.extend_from_slice(name)?;
+    push_numbered(text, b" ", from)?;
+    push_numbered(text, b" -> ", to)?;
+    text.push(b':')?;
+    push_messages(text, changes, from, to)?;
+    text.push(b'\n')?;
+    Ok(())
+}
+
+/// Adds the line of a delivery, by which the pin's frontier rises from one tick to another, between which
+/// its source has these changes.
+pub fn push_delivery(
+    text: &mut Vec<u8>,
+    name: &[u8],
+    place: u32,
+    from: u64,
+    to: u64,
+    changes: &[Change],
+) -> Result<(), AllocError>
+    ensures { OnOk result (text.new.items ≡
+        text.old.items ++ deliver_text name.now place (told_by changes.now from to)) }
+{
+    text.extend_from_slice(b"deliver ")?;
+    text.extend_from_slice(name)?;
+    push_numbered(text, b" ", u64::from(place))?;
+    text.push(b':')?;
+    push_messages(text, changes, from, to)?;
+    text.push(b'\n')?;
+    Ok(())
+}
+
+/// Adds the line before the events of a round.
+pub fn push_round(text: &mut Vec<u8>, number: u64) -> Result<(), AllocError>
+    ensures { OnOk result (text.new.items ≡ text.old.items ++ round_text number) }
+{
+    push_numbered(text, b"round ", number)?;
+    text.push(b'\n')?;
+    Ok(())
+}
+
+/// Adds the line of counts.
+pub fn push_counts(text: &mut Vec<u8>, counts: Counts) -> Result<(), AllocError>
+    ensures { OnOk result (text.new.items ≡ text.old.items ++ counts_line counts) }
+{
+    push_numbered(text, b"events ", counts.events)?;
+    push_numbered(text, b" changes ", counts.changes)?;
+    push_numbered(text, b" nulls ", counts.nulls)?;
+    push_numbered(text, b" rounds ", counts.rounds)?;
+    text.push(b'\n')?;
+    Ok(())
+}

@@ -1,0 +1,86 @@
+ghost use Rattle.std.specs.Prelude.{◌≡◌, ◌≢◌, ◌+◌, false, All, IfErr, IfOk, OnOk, OnErr};
+ghost use Rattle.std.specs.Io.KnownBytes.{Appends};
+ghost use Rattle.cmb_events.specs.Schedule.{Exists};
+ghost use Rattle.cmb_kernel.specs.State.{IsUndrained, most_rounds};
+ghost use Rattle.cmb_kernel.specs.Step.{completed_within, steps};
+ghost use Rattle.vcd_dump.specs.Bytes.{AppendsPrefix};
+ghost use Rattle.event_trace.specs.Lines.{lines_text};
+ghost use Rattle.event_trace.specs.Trace.{lines_from, state_at_end, trace_text};
+
+use crate::events::{TracedKernel, fresh_kernel};
+use crate::lines::push_counts;
+use crate::rounds::walk_rounds;
+use crate::walk::walk;
+use cmb_events::Event;
+use cmb_kernel::Counts;
+use design::Design;
+use std::alloc::Global;
+use std::io::Write;
+use timing_text::Horizon;
+use vcd_dump::{DumpFault, write_all_bytes};
+
+/// Runs a design up to a horizon, and writes a line for each event that the kernel applies: first the
+/// events that are given, one after another, and then those of rounds, until each net is known up to the
+/// horizon. Answers what was counted in all, which the last line tells.
+///
+/// - `advance NET OLD -> NEW: WHAT`: the net's frontier before and after, and the messages that it told
+///   in order, each behind a blank: a change as `VALUE@TICK`, a null message as `null TICK`; or `idle`
+///   where it told none.
+/// - `deliver NET PLACE: WHAT`: the pin at a place of the net, counted from 0, and the message that it
+///   took, or `idle` where none waited.
+/// - `round N` before the events of each round, N counted from 1.
+/// - `events E changes C nulls N rounds R` at the end.
+///
+/// It goes out in pieces of some 64 KiB. Nothing is written after a fault, and nothing is flushed.
+///
+/// # Errors
+/// [`DumpFault::Write`] where a `write` answers a fault, also an interruption,
+/// [`DumpFault::WroteNothing`] where a `write` takes none of some bytes, and [`DumpFault::Memory`]; a
+/// first part of the trace went out then. Never [`DumpFault::Failed`].
+pub fn trace<W: Write>(
+    alloc: Global,
+    out: &mut W,
+    design: &Design,
+    horizon: Horizon,
+    events: &[Event],
+) -> Result<Counts, DumpFault>
+    requires exist { All (Exists design.now.circuit) events.now }
+    ensures counts { IfOk result (λ counts.
+        counts ≡ (state_at_end design.now.circuit (horizon + 1) events.now).counts) }
+    ensures ok { OnOk result (Appends (W.contents out.old) (W.contents out.new)
+        (trace_text design.now.circuit (horizon + 1) events.now)) }
+    ensures err { OnErr result (AppendsPrefix (W.contents out.old) (W.contents out.new)
+        (trace_text design.now.circuit (horizon + 1) events.now)) }
+    ensures fault { IfErr result (λ fault. fault ≢ DumpFault.Failed) }
+{
+    let mut kernel = fresh_kernel(alloc, design, horizon)?;
+    trace_kernel(alloc, out, design, &mut kernel, events)
+}
+
+/// Writes the lines of a kernel to which some events happen, and then those of rounds.
+fn trace_kernel<W: Write>(
+    alloc: Global,
+    out: &mut W,
+    design: &Design,
+    kernel: &mut TracedKernel<'_>,
+    events: &[Event],
+) -> Result<Counts, DumpFault>
+    requires running { kernel.old.failed ≡ false }
+    requires circuit { kernel.old.circuit ≡ design.now.circuit }
+    requires undrained { IsUndrained kernel.old.state }
+    requires exist { All (Exists design.now.circuit) events.now }
+    ensures counts { IfOk result (λ counts. counts ≡
+        (completed_within (most_rounds kernel.old.end kernel.old.circuit) (steps kernel.old.state events.now)).counts) }
+    ensures ok { OnOk result (Appends (W.contents out.old) (W.contents out.new) (lines_text design.now.circuit
+        (lines_from kernel.old.state (most_rounds kernel.old.end kernel.old.circuit) events.now))) }
+    ensures err { OnErr result (AppendsPrefix (W.contents out.old) (W.contents out.new) (lines_text design.now.circuit
+        (lines_from kernel.old.state (most_rounds kernel.old.end kernel.old.circuit) events.now))) }
+    ensures fault { IfErr result (λ fault. fault ≢ DumpFault.Failed) }
+{
+    let mut text = Vec::new(alloc);
+    walk(kernel, design, out, &mut text, events)?;
+    let counts = walk_rounds(alloc, kernel, design, out, &mut text)?;
+    push_counts(&mut text, counts)?;
+    write_all_bytes(out, text.as_slice())?;
+    Ok(counts)
+}
