@@ -1,7 +1,7 @@
 -- Waveforms that go on past a tick give the reasons that the circuit gives.
 use Rattle.std.proofs.Common.{◌≡◌, ℕ, zero, suc, ◌+◌, ◌-◌, ◌<◌, ◌≤◌, nat_lt, Bool, true, false, cond, List, [], ◌∷◌, length, get_or, Option, None, Some, refl, ap, sym, ◌∙◌, arith, slice_get, ◌⊎◌, inl, inr, add-one}
 use Rattle.std.specs.Option.{option_map_or}
-use Rattle.std.proofs.lemmas.Bool.{cases_lt}
+use Rattle.std.proofs.lemmas.Bool.{cases_lt, le-ltb}
 use Rattle.std.proofs.lemmas.List.FromFn.{length-map-range_with_len, get_or-map-range_with_len}
 use Rattle.std.proofs.lemmas.Option.{slice_get_past, slice_get-get_or, none-some, same_Some}
 use Rattle.logic3.specs.declared.value.Value.{Value}
@@ -59,6 +59,10 @@ shown_up_to circuit tick waves show net at le = ap (λ waves. signals_in waves n
 pub show_earlier : (circuit : Circuit) (tick early : ℕ) (waves : List Wave) → ShowUpTo circuit tick waves → early ≤ tick →
     ShowUpTo circuit early waves
 show_earlier circuit tick early waves show le = record { to = show.to; past = (let past = show.past in omega arith); same = show.same }
+
+-- the tick of its source that a pin shows, once the delay of its wire is over
+pub source_found : (wire asked at : ℕ) → wire ≤ asked → at ≡ asked - wire → source_tick wire asked ≡ Some at
+source_found wire asked at le is = rw (le-ltb asked wire le) (ap Some (sym is))
 
 -- ---- signals that are the same up to a tick
 

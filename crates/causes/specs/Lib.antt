@@ -3,6 +3,7 @@ pub use Rattle.logic3.specs.Gate
 pub use Rattle.logic3.specs.Wave
 pub use Rattle.logic3.specs.Rising
 pub use Rattle.netlist.specs.Netlist
+pub use Rattle.bench_text.specs.Canonical
 pub use Rattle.design.specs.Circuit
 pub use Rattle.design.specs.Samples
 pub use Rattle.design.specs.Equations
@@ -10,3 +11,4 @@ pub mod Deciding
 pub mod Reasons
 pub mod Causes
 pub mod Marks
+pub mod Text

@@ -33,7 +33,8 @@ pub fn why(
 ) -> Result<Vec<Cause>, AllocError>
     requires is_net { net < length design.now.circuit }
     requires waves { ShowUpTo design.now.circuit tick waves.now }
-    ensures { IfOk result (λ causes. causes.items ≡ causes_of design.now.circuit net tick) }
+    ensures causes { IfOk result (λ causes. causes.items ≡ causes_of design.now.circuit net tick) }
+    ensures well_formed { IsDesign design.now }
 {
     let mut marks = no_marks(alloc, design)?;
     let mut causes = Vec::new(alloc);

@@ -93,5 +93,5 @@ loop-next-preserved c =
         ≡ causes ++ causes_within c.args.design.now.circuit (ticks_left next) causes next
     was causes next net tick e = λ i. causes ++ causes_within c.args.design.now.circuit (ticks_left (sym e i)) causes (sym e i)
 
-pub returns : goal.returns
-returns c = sym (no_more c.args.design.now.circuit c.loop-next.causes.items c.loop-next.next c.in_default.is) ∙ c.loop-next.invariant.rest
+pub returns-clause-causes : goal.returns-clause-causes
+returns-clause-causes c = sym (no_more c.args.design.now.circuit c.loop-next.causes.items c.loop-next.next c.in_default.is) ∙ c.loop-next.invariant.rest
