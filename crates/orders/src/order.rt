@@ -4,6 +4,7 @@ ghost use Rattle.orders.specs.Options.{schedule_file};
 ghost use Rattle.program_io.specs.Place.{called};
 ghost use Rattle.orders.specs.FileNames.{file_names, names_of};
 
+use drawn_stimuli::{Draws, Driven};
 use program_io::TextNames;
 use runs::{DiagramView, Side, View};
 
@@ -58,6 +59,28 @@ pub enum Order<'a> {
         source: SourceOptions<'a>,
         view: DiagramView,
     },
+    /// Write the trace of a run.
+    Trace {
+        source: SourceOptions<'a>,
+        /// The last tick of the run: at most 10,000,000.
+        horizon: u64,
+    },
+    /// Write why a net has its value at a tick. Nothing is picked.
+    Why {
+        source: SourceOptions<'a>,
+        net: &'a [u8],
+        /// The tick, which is the last one of the run: at most 10,000,000.
+        tick: u64,
+    },
+    /// Write a stimulus text for the inputs of a netlist.
+    Stimuli {
+        bench: &'a str,
+        /// What drives inputs by name. All others are drawn.
+        drives: Vec<Driven<'a>>,
+        draws: Draws,
+        /// The last tick of the text: at most 10,000,000.
+        horizon: u64,
+    },
     /// Write the nets in the fan-in cones of these names, in the .bench notation.
     Cone {
         bench: &'a str,
@@ -90,9 +113,11 @@ impl<'a> Order<'a> {
             (Order::Plain { source, .. }, _) => source.text_names(),
             (Order::Draw { source, .. }, _) => source.text_names(),
             (Order::Check { source, .. }, _) => source.text_names(),
+            (Order::Trace { source, .. }, _) => source.text_names(),
+            (Order::Why { source, .. }, _) => source.text_names(),
             (Order::Twin { first, .. }, Side::First) => first.text_names(),
             (Order::Twin { second, .. }, Side::Second) => second.text_names(),
-            (Order::Cone { bench, .. }, _) => TextNames {
+            (Order::Cone { bench, .. } | Order::Stimuli { bench, .. }, _) => TextNames {
                 bench,
                 delays: "delays",
                 stimuli: "stimuli",

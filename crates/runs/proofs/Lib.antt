@@ -1,4 +1,5 @@
 mod Answer
+mod Answers
 pub mod CallerLemmas
 mod Checks
 mod Cones

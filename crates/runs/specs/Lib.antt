@@ -2,14 +2,17 @@ pub mod Checked
 pub mod ConeText
 pub mod Drained
 pub mod Drawn
+pub mod Driven
 pub mod Ends
 pub mod Events
+pub mod Explained
 pub mod Faults
 pub mod Isolation
 pub mod Paces
 pub mod Shown
 pub mod Simulated
 pub mod Source
+pub mod Traced
 pub mod Twins
 pub mod Viewed
 pub mod Windows

@@ -1,11 +1,12 @@
 ghost use Rattle.std.specs.Prelude.{◌≡◌, Some};
 ghost use Rattle.runs.specs.declared.fault.SimFault.TheVariants as sim;
-ghost use Rattle.runs.specs.Faults.{line_of, name_of, sim_of_bench, sim_of_build, sim_of_cone, sim_of_dump, sim_of_schedule};
+ghost use Rattle.runs.specs.Faults.{line_of, name_of, sim_of_bench, sim_of_build, sim_of_cone, sim_of_drives, sim_of_dump, sim_of_schedule};
 
 use bench_text::BenchFault;
 use cmb_events::ScheduleFault;
 use cmb_kernel::KernelFault;
 use design::BuildFault;
+use drawn_stimuli::DriveFault;
 use fanin_cone::ConeFault;
 use std::alloc::AllocError;
 use std::fmt;
@@ -27,6 +28,8 @@ pub enum SimFault {
     Schedule(ScheduleFault),
     /// The ticks of a timing diagram can't be drawn.
     Columns(ColumnsFault),
+    /// What is to drive the inputs is faulty.
+    Drives(DriveFault),
     /// No net has a name that was asked for.
     UnknownNet,
     /// The dump broke off.
@@ -47,6 +50,7 @@ impl SimFault {
             SimFault::Schedule(fault) => fault.line(),
             SimFault::Setting(_)
             | SimFault::Columns(_)
+            | SimFault::Drives(_)
             | SimFault::UnknownNet
             | SimFault::Dump(_)
             | SimFault::Memory => 0,
@@ -64,6 +68,7 @@ impl SimFault {
             SimFault::Stimulus(fault) => fault.name(),
             SimFault::Schedule(fault) => fault.name(),
             SimFault::Columns(fault) => fault.name(),
+            SimFault::Drives(fault) => fault.name(),
             SimFault::UnknownNet => "UnknownNet",
             SimFault::Dump(fault) => fault.name(),
             SimFault::Memory => "Memory",
@@ -157,6 +162,17 @@ impl From<ColumnsFault> for SimFault {
 
     fn from(fault: ColumnsFault) -> SimFault {
         SimFault::Columns(fault)
+    }
+}
+
+impl From<DriveFault> for SimFault {
+    ghost from_gives = { λ fault e. e ≡ sim_of_drives fault };
+
+    fn from(fault: DriveFault) -> SimFault {
+        match fault {
+            DriveFault::Memory => SimFault::Memory,
+            other => SimFault::Drives(other),
+        }
     }
 }
 
