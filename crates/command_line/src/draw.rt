@@ -1,7 +1,7 @@
 //! The subcommand `draw`: what it takes, and the order that it is.
 use crate::described::{Absent, Described, Takes};
 use crate::help::subcommand_named;
-use crate::options::{ALONE, SHOWN, SOURCE, number_given, show_given, source_given};
+use crate::options::{ALONE, LENGTH, SHOWN, SOURCE, number_given, show_given, source_given};
 use clap::{ArgMatches, Command};
 use orders::{Order, PickOptions};
 use runs::DiagramView;
@@ -35,7 +35,7 @@ pub(super) fn subcommand<'a>(alloc: Global) -> Result<Command<'a>, AllocError> {
         "draw",
         ABOUT,
         USAGE,
-        &[SOURCE.as_slice(), SHOWN.as_slice(), OPTIONS.as_slice()],
+        &[SOURCE.as_slice(), LENGTH.as_slice(), SHOWN.as_slice(), OPTIONS.as_slice()],
     )
 }
 

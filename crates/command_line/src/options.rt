@@ -66,7 +66,7 @@ pub(super) const SCHEDULE: &str =
     "Events to begin with: lines advance NAME and deliver NAME PLACE; what\n\
      the nets show doesn't depend on them";
 
-pub(super) const HORIZON: &str = "The last tick of the run: 0 to 10000000";
+const HORIZON: &str = "The last tick of the run: 0 to 10000000";
 
 const SHOW: &str = "The nets that are shown: all or outputs";
 
@@ -106,16 +106,21 @@ pub(super) static SECOND_SIDE: [Described; 6] = [
     Described("second-schedule", Takes::File, Absent::Nothing, SCHEDULE),
 ];
 
-/// How long a run is, and what is shown of it.
-pub(super) static SHOWN: [Described; 2] = [
-    Described("horizon", Takes::Number, Absent::Refused, HORIZON),
-    Described(
-        "show",
-        Takes::Word("NETS", &["all", "outputs"]),
-        Absent::Default("all"),
-        SHOW,
-    ),
-];
+/// How long a run is.
+pub(super) static LENGTH: [Described; 1] = [Described(
+    "horizon",
+    Takes::Number,
+    Absent::Refused,
+    HORIZON,
+)];
+
+/// What is shown of a run.
+pub(super) static SHOWN: [Described; 1] = [Described(
+    "show",
+    Takes::Word("NETS", &["all", "outputs"]),
+    Absent::Default("all"),
+    SHOW,
+)];
 
 /// What a dump has besides.
 pub(super) static UNITS: [Described; 1] = [Described(
