@@ -6,6 +6,7 @@ use cmb_kernel::KernelFault;
 use decks::DeckFault;
 use design::BuildFault;
 use fanin_cone::ConeFault;
+use nullsim::NoOrder;
 use program_io::{ProgramFault, ReadFault};
 use runs::{SimFault, TwinFault};
 use timing_text::{DelayFault, StimulusFault};
@@ -86,5 +87,11 @@ impl Fault for ReadFault {
 impl Fault for ProgramFault<'_> {
     fn is_memory(&self) -> bool {
         matches!(self, ProgramFault::Memory)
+    }
+}
+
+impl Fault for NoOrder {
+    fn is_memory(&self) -> bool {
+        matches!(self, NoOrder::Memory)
     }
 }

@@ -3,6 +3,9 @@
 #![tactic(auto)]
 
 mod channels;
+mod circuits;
+mod commands;
+mod diagrams;
 mod dumps;
 mod faults;
 mod following;
@@ -21,9 +24,12 @@ fn main(rt: HostRuntime) {
     let _ = waves::probe(alloc, &mut teller);
     let _ = texts::probe(alloc, &mut teller);
     let _ = texts::probe_designs(alloc, &mut teller);
+    let _ = circuits::probe(alloc, &mut teller);
     let _ = channels::probe(alloc, &mut teller);
     let _ = processes::probe(alloc, &mut teller);
     let _ = kernels::probe(alloc, &mut teller);
     let _ = dumps::probe(alloc, &mut teller);
+    let _ = diagrams::probe(alloc, &mut teller);
     let _ = whole_runs::probe(alloc, &mut teller);
+    let _ = commands::probe(alloc, &mut teller);
 }

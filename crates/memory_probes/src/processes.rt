@@ -1,6 +1,8 @@
 //! Processes: one that is refused memory for what it hears or hands out is as it was, and one that is
 //! refused it for what it reckons has failed.
-ghost use Rattle.std.specs.Prelude.{◌≡◌, ◌<◌, false, length};
+ghost use Rattle.std.specs.Prelude.{◌≡◌, ◌<◌, false, length, slice_get};
+ghost use Rattle.std.specs.Option.{ForSome};
+ghost use Rattle.gate_process.specs.Step.{ProcessView};
 
 use crate::telling::Teller;
 use crate::texts::inverter;
@@ -71,6 +73,63 @@ impl<'d> Listener<'d> {
     }
 }
 
+/// Processes, of which that of one net has a pin, up to this tick.
+#[derive(Drop)]
+struct Hearers<'d> {
+    processes: Processes<'d>,
+    net: u32,
+    end: u64,
+    ghost is_net: { net < length processes },
+    ghost has_pin: { ForSome (slice_get processes net) (λ (process : ProcessView). 0 < length process.state.received) },
+    ghost ends: { ForSome (slice_get processes net) (λ (process : ProcessView). process.state.end ≡ end) },
+}
+
+impl<'d> Hearers<'d> {
+    /// The processes of a design, of which that of this net is to have a pin.
+    fn new(
+        alloc: Global,
+        design: &'d Design,
+        net: u32,
+        horizon: Horizon,
+    ) -> Result<Hearers<'d>, AllocError>
+        requires net { net < length design.now.circuit }
+    {
+        if design.pins_of(net).is_empty() {
+            return Err(AllocError);
+        }
+        Ok(Hearers {
+            processes: Processes::new(alloc, design, horizon)?,
+            net,
+            end: horizon.ticks() + 1,
+        })
+    }
+
+    /// What the processes answer where that of the net hears of a change at its first pin; None where it
+    /// can't hear of it.
+    fn hear(&mut self, change: Change) -> Option<Result<(), AllocError>> {
+        let process = self.processes.of_net(self.net);
+        if process.is_failed() {
+            return None;
+        }
+        let known = process.received(0);
+        let last = process.last(0);
+        let tick = u64::from(change.tick);
+        if tick < known || self.end <= tick || change.value == last {
+            return None;
+        }
+        Some(self.processes.receive(self.net, 0, Message::Change(change)))
+    }
+
+    /// How much the process of the net knows of its first pin, and the last value there.
+    fn heard(&self) -> Option<(u64, Value)> {
+        let process = self.processes.of_net(self.net);
+        if process.is_failed() {
+            return None;
+        }
+        Some((process.received(0), process.last(0)))
+    }
+}
+
 /// The ticks at which the pin changes, from 0 to 1 and back.
 const TICKS: [u32; 10] = [0, 3, 4, 7, 9, 12, 15, 20, 28, 36];
 
@@ -79,6 +138,7 @@ pub(crate) fn probe<W: Write>(alloc: Global, teller: &mut Teller<W>) -> Option<(
     let design = inverter(alloc, teller)?;
     let horizon = Horizon::new(40).ok()?;
     one(alloc, teller, &design, horizon)?;
+    all_hear(alloc, teller, &design, horizon)?;
     all(alloc, teller, &design, horizon)
 }
 
@@ -158,6 +218,35 @@ fn drains<W: Write>(
         teller.fine("Process::drain_below", changes.len() == taken)?;
     }
     Some(())
+}
+
+/// Lets one of all processes hear of so many changes that what is known of the pin grows, and grows again.
+fn all_hear<W: Write>(
+    alloc: Global,
+    teller: &mut Teller<W>,
+    design: &Design,
+    horizon: Horizon,
+) -> Option<()> {
+    let net = design.find(b"y")?;
+    if net >= design.nets() {
+        return None;
+    }
+    let hearers = Hearers::new(alloc, design, net, horizon);
+    let mut hearers = teller.told("Processes::new", hearers)?;
+    let mut value = Zero;
+    for tick in TICKS {
+        let change = Change { tick, value };
+        let before = hearers.heard()?;
+        if hearers.hear(change)?.is_err() {
+            let same = hearers.heard() == Some(before);
+            let again = matches!(hearers.hear(change), Some(Ok(())));
+            teller.refused("Processes::receive", same && again);
+            return None;
+        }
+        value = if value == Zero { One } else { Zero };
+    }
+    let (known, last) = hearers.heard()?;
+    teller.fine("Processes::receive", (known, last) == (37, One))
 }
 
 /// The processes of all nets, of which the first is that of an input.

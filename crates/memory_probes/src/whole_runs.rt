@@ -10,7 +10,7 @@ use vcd_dump::TimeUnit;
 use worked_examples::dumps::{OSCILLATOR_DUMP, PRESET_RING_DUMP};
 
 /// An input and a gate that oscillates where the input is 1, and some events to begin with.
-const OSCILLATOR: Source<'static> = Source {
+pub(crate) const OSCILLATOR: Source<'static> = Source {
     bench: b"INPUT(e)\ny = NAND(e, y)\n",
     delays: b"y 2",
     stimuli: b"0 e 0\n5 e 1\n",
@@ -49,17 +49,17 @@ const DECK: &[u8] =
     b"%nullsim 12\n%bench\nINPUT(e)\ny = NAND(e, y)\n%delays\ny 2\n%stimuli\n0 e 0\n5 e 1\n%schedule\nadvance e\n";
 
 /// What the program tells of want of memory.
-const TOLD: &[u8] = b"memory:0: Memory\n";
+pub(crate) const TOLD: &[u8] = b"memory:0: Memory\n";
 
 /// What goes out of the nets that the gate of the oscillator hangs on.
-const CONE: &[u8] = b"INPUT(e)\ny = NAND(e, y)\nOUTPUT(y)\n";
+pub(crate) const CONE: &[u8] = b"INPUT(e)\ny = NAND(e, y)\nOUTPUT(y)\n";
 
 /// What goes out of the oscillator beside itself.
-const TWINS: &[u8] =
+pub(crate) const TWINS: &[u8] =
     b"agree yes\nfirst 2 1\nfirst 7 0\nfirst 9 1\nfirst 11 0\nsecond 2 1\nsecond 7 0\nsecond 9 1\nsecond 11 0\n";
 
 /// What goes out of a comparison of both engines on the oscillator.
-const SAME: &[u8] = b"nets 2\npins 2\nsame 2\n";
+pub(crate) const SAME: &[u8] = b"nets 2\npins 2\nsame 2\n";
 
 /// Probes the calls for runs, then those for decks.
 pub(crate) fn probe<W: Write>(alloc: Global, teller: &mut Teller<W>) -> Option<()> {
@@ -74,7 +74,7 @@ pub(crate) fn probe<W: Write>(alloc: Global, teller: &mut Teller<W>) -> Option<(
 }
 
 /// Tells of a call that writes a text. It is out where the call was carried out, and else a first part.
-fn ended<T: Drop, E: Fault + Drop, W: Write>(
+pub(crate) fn ended<T: Drop, E: Fault + Drop, W: Write>(
     teller: &mut Teller<W>,
     call: &str,
     answer: Result<T, E>,
@@ -160,7 +160,7 @@ fn decks<W: Write>(alloc: Global, teller: &mut Teller<W>) -> Option<()> {
 
 /// Tells of a call that answers by a status: 0 where its text is out and nothing was told, and 4 where
 /// a first part is out, and want of memory was told.
-fn answered<W: Write>(
+pub(crate) fn answered<W: Write>(
     teller: &mut Teller<W>,
     call: &str,
     status: u8,

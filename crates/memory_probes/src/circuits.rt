@@ -1,0 +1,78 @@
+//! What a circuit is, in numbers, and the nets that no output hangs on.
+use crate::telling::Teller;
+use bench_text::read;
+use circuit_info::{Depths, all_pins, fan_ins, fan_outs, levels_of};
+use fanin_cone::outside;
+use netlist::Netlist;
+use std::alloc::{AllocError, Global};
+use std::io::Write;
+
+/// A chain of gates, of which a walk from the first enters them all before it leaves one, and gates on
+/// which no output hangs.
+const CHAIN: &[u8] = b"OUTPUT(g)\nOUTPUT(f)\nOUTPUT(e)\nOUTPUT(d)\nOUTPUT(c)\n\
+      g = NOT(f)\nf = NOT(e)\ne = NOT(d)\nd = NOT(c)\nc = NOT(b)\nb = AND(a, a)\nINPUT(a)\n\
+      h = NOT(a)\ni = NOT(h)\nj = NOT(i)\nk = NOT(j)\nl = NOT(k)\n";
+
+/// A loop of gates.
+const RING: &[u8] = b"a = NOT(b)\nb = NOT(c)\nc = NOT(d)\nd = NOT(e)\ne = NOT(a)\n";
+
+/// Probes what is told of both.
+pub(crate) fn probe<W: Write>(alloc: Global, teller: &mut Teller<W>) -> Option<()> {
+    let netlist = teller.told("bench_text::read", read(alloc, CHAIN))?;
+    counts(alloc, teller, &netlist)?;
+    levels(alloc, teller, &netlist)?;
+    let nets = outside(alloc, &netlist, netlist.outputs());
+    lists(teller, "fanin_cone::outside", nets, &[7, 8, 9, 10, 11])?;
+    ring(alloc, teller)
+}
+
+/// Tells of a call that makes a list of numbers.
+fn lists<W: Write>(
+    teller: &mut Teller<W>,
+    call: &str,
+    answer: Result<Vec<u32>, AllocError>,
+    wanted: &[u32],
+) -> Option<()> {
+    let numbers = teller.told(call, answer)?;
+    teller.fine(call, numbers.as_slice() == wanted)
+}
+
+/// Tells of a call that counts something of each net.
+fn counts_of<W: Write>(
+    teller: &mut Teller<W>,
+    call: &str,
+    answer: Result<Vec<usize>, AllocError>,
+    wanted: &[usize],
+) -> Option<()> {
+    let counts = teller.told(call, answer)?;
+    teller.fine(call, counts.as_slice() == wanted)
+}
+
+fn counts<W: Write>(alloc: Global, teller: &mut Teller<W>, netlist: &Netlist) -> Option<()> {
+    let pins = [1, 2, 3, 4, 5, 6, 6, 6, 7, 8, 9, 10];
+    lists(teller, "all_pins", all_pins(alloc, netlist), &pins)?;
+    let ins = [1, 1, 1, 1, 1, 2, 0, 1, 1, 1, 1, 1];
+    counts_of(teller, "fan_ins", fan_ins(alloc, netlist), &ins)?;
+    let outs = [0, 1, 1, 1, 1, 1, 3, 1, 1, 1, 1, 0];
+    counts_of(teller, "fan_outs", fan_outs(alloc, netlist), &outs)
+}
+
+fn levels<W: Write>(alloc: Global, teller: &mut Teller<W>, netlist: &Netlist) -> Option<()> {
+    let wanted = [6, 5, 4, 3, 2, 1, 0, 1, 2, 3, 4, 5];
+    let depths = teller.told("levels_of", levels_of(alloc, netlist))?;
+    let holds = match &depths {
+        Depths::Levels(levels) => levels.as_slice() == wanted.as_slice(),
+        Depths::Loop(_) => false,
+    };
+    teller.fine("levels_of", holds)
+}
+
+fn ring<W: Write>(alloc: Global, teller: &mut Teller<W>) -> Option<()> {
+    let netlist = teller.told("bench_text::read", read(alloc, RING))?;
+    let depths = teller.told("levels_of", levels_of(alloc, &netlist))?;
+    let holds = match &depths {
+        Depths::Levels(_) => false,
+        Depths::Loop(gates) => gates.as_slice() == [0, 1, 2, 3, 4].as_slice(),
+    };
+    teller.fine("levels_of", holds)
+}
