@@ -114,10 +114,7 @@ module _ (circuit : Circuit) (ending : State) (old now : Option (List ℕ)) (who
       )
 
   module _ (incomplete : is_complete state ≡ false) where
-    -- the lines of the next round
-    abbrev next_lines : List Line
-    next_lines = begins (one_more number) ∷ lines_of state (round_events state)
-
+    -- what is left after the next round
     record OneLess : Type 0 where
       pub left : ℕ
       pub complete : IsComplete (rounds left (with_rounds (one_more number) (steps state (round_events state))))

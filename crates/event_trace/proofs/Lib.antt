@@ -7,4 +7,5 @@ mod Messages
 mod RoundEvents
 mod Tallies
 mod Walking
+mod Waveforms
 mod WholeTrace

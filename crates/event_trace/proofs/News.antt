@@ -25,14 +25,10 @@ use Rattle.cmb_events.specs.declared.event.Event.TheVariants.{Deliver, Advance}
 use Rattle.cmb_kernel.specs.State.{State, nets_of, frontier_at, received_of, received_at}
 use Rattle.cmb_kernel.specs.Step.{news_at, after_deliver, step}
 use Rattle.cmb_kernel.specs.Sound.{IsSound}
+use Rattle.event_trace.specs.Shown.{changes_in}
 use Rattle.event_trace.specs.Told.{told_between}
 
 -- ---- the changes that messages tell
-
-abbrev changes_in : List Message → List Change
-changes_in [] = []
-changes_in (Changes change ∷ messages) = change ∷ changes_in messages
-changes_in (Null bound ∷ messages) = changes_in messages
 
 changes_in-news : (changes : List Change) (to : ℕ) → changes_in (news_of changes to) ≡ changes
 changes_in-news [] to = refl
@@ -43,7 +39,7 @@ changes_in-news (change ∷ []) to = go (change.tick + 1 == to)
     go false = refl
 changes_in-news (change ∷ next ∷ changes) to = ap (λ cs. change ∷ cs) (changes_in-news (next ∷ changes) to)
 
-told_changes : (signal : ℕ → Value) (from to : ℕ) (messages : List Message) → Tells signal from to messages →
+pub told_changes : (signal : ℕ → Value) (from to : ℕ) (messages : List Message) → Tells signal from to messages →
     changes_between signal from to ≡ changes_in messages
 told_changes signal from to [] same =
     let none : to - from ≡ 0 = omega arith in ap (λ n. flat_map (change_at signal) (range_with_len from n)) none
@@ -88,21 +84,21 @@ module _ (circuit : Circuit) (ok : IsCircuit circuit) (last : ℕ) (state : Stat
       ap (λ c. slice_get c number) (sym sound.nets)
       ∙ slice_get-map (λ (p : ProcessState). p.net) state.processes number ∙ ap (option_map (λ (p : ProcessState). p.net)) e
 
-  meets : (number : ℕ) (process : ProcessState) → slice_get state.processes number ≡ Some process → Meets (value_of circuit) number process.net
+  pub meets : (number : ℕ) (process : ProcessState) → slice_get state.processes number ≡ Some process → Meets (value_of circuit) number process.net
   meets number process e = record {
     timed = timed_at circuit ok number process.net (net_at number process e);
     solves = λ tick. value_solves circuit ok number tick ∙ ap (λ place. equation_at place (value_of circuit) tick) (net_at number process e);
   }
 
-  process_at : (number : ℕ) → number < length circuit → (process : ProcessState) × (slice_get state.processes number ≡ Some process)
+  pub process_at : (number : ℕ) → number < length circuit → (process : ProcessState) × (slice_get state.processes number ≡ Some process)
   process_at number below = let count = net_count in get_below state.processes number (omega arith)
 
   -- ---- what an advance tells
 
-  frontier_before : (net : ℕ) (process : ProcessState) → slice_get state.processes net ≡ Some process → frontier_at state net ≡ process.known.frontier
+  pub frontier_before : (net : ℕ) (process : ProcessState) → slice_get state.processes net ≡ Some process → frontier_at state net ≡ process.known.frontier
   frontier_before net process at = view_at (λ (p : ProcessState). p.known.frontier) state.processes net process at
 
-  frontier_after : (net : ℕ) (process : ProcessState) → slice_get state.processes net ≡ Some process →
+  pub frontier_after : (net : ℕ) (process : ProcessState) → slice_get state.processes net ≡ Some process →
       frontier_at (step state (Advance net)) net ≡ next_frontier process
   frontier_after net process at = view_of_update_same (λ (p : ProcessState). p.known.frontier) advanced net state.processes process at
 

@@ -6,3 +6,4 @@ pub mod Lines
 pub mod Told
 pub mod Trace
 pub mod Counted
+pub mod Shown

@@ -1,9 +1,15 @@
 //! Facts about the definitions alone.
-ghost use Rattle.std.specs.Prelude.{◌≡◌, ℕ, List, count_by};
-ghost use Rattle.design.specs.Circuit.{Circuit};
+ghost use Rattle.std.specs.Prelude.{◌≡◌, ℕ, ◌<◌, List, All, count_by, length};
+ghost use Rattle.logic3.specs.Wave.{wave_of};
+ghost use Rattle.design.specs.Circuit.{Circuit, IsCircuit};
+ghost use Rattle.design.specs.Equations.{value_of};
+ghost use Rattle.cmb_events.specs.Schedule.{Exists};
 ghost use Rattle.cmb_events.specs.declared.event.Event.{Event};
 ghost use Rattle.event_trace.specs.Trace.{state_at_end, trace_lines};
 ghost use Rattle.event_trace.specs.Counted.{is_event, is_beginning, held, changes_told, nulls_told};
+ghost use Rattle.event_trace.specs.Shown.{changes_told_of};
+
+use cmb_kernel::laws::{no_deadlock, truth};
 
 /// What a reader counts in the lines of a trace is what the kernel counts: the lines of events, the
 /// messages that advances tell, and the beginnings of rounds.
@@ -17,3 +23,14 @@ pub fn lines_are_counted()
     ensures rounds { (circuit : Circuit) (end : ℕ) (events : List Event) →
         (state_at_end circuit end events).counts.rounds ≡ held (count_by is_beginning (trace_lines circuit end events)) }
 {}
+
+/// The changes that the lines of a net's advances tell, one after another, are those that the equations
+/// give the net, whatever events were given.
+pub fn lines_tell_waveforms()
+    ensures { (circuit : Circuit) → IsCircuit circuit → (end : ℕ) (events : List Event) → All (Exists circuit) events →
+        (net : ℕ) → net < length circuit →
+        changes_told_of net (trace_lines circuit end events) ≡ (wave_of (value_of circuit net) 0 end).changes }
+{
+    truth();
+    no_deadlock();
+}

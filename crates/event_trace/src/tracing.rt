@@ -20,8 +20,9 @@ use timing_text::Horizon;
 use vcd_dump::{DumpFault, write_all_bytes};
 
 /// Runs a design up to a horizon, and writes a line for each event that the kernel applies: first the
-/// events that are given, one after another, and then those of rounds, until each net is known up to the
-/// horizon. Answers what was counted in all, which the last line tells.
+/// events that are given, each of a pin or a net of the design, one after another, and then those of
+/// rounds, until each net is known up to the horizon. Answers what was counted in all, which the last
+/// line tells.
 ///
 /// - `advance NET OLD -> NEW: WHAT`: the net's frontier before and after, and the messages that it told
 ///   in order, each behind a blank: a change as `VALUE@TICK`, a null message as `null TICK`; or `idle`

@@ -17,14 +17,7 @@ pub(crate) struct Circuit {
 impl Circuit {
     pub(crate) fn build(&self, alloc: Global) -> Result<Design, Fail> {
         let netlist = read(alloc, self.bench)?;
-        Ok(Design::build(
-            alloc,
-            netlist,
-            self.delays,
-            self.stimuli,
-            1,
-            self.period,
-        )?)
+        Ok(Design::build(alloc, netlist, self.delays, self.stimuli, 1, self.period)?)
     }
 }
 

@@ -1,5 +1,7 @@
 //! Traces that were worked out by hand.
-use crate::circuits::{Circuit, DOUBLE_PIN, GATED_OSCILLATOR, INVERTER, PRESET_RING, SELF_INVERTER};
+use crate::circuits::{
+    Circuit, DOUBLE_PIN, GATED_OSCILLATOR, INVERTER, PRESET_RING, SELF_INVERTER,
+};
 use cmb_events::Schedule;
 use cmb_kernel::Counts;
 use event_trace::trace;
@@ -106,13 +108,7 @@ const DOUBLE_PIN_TRACE: &[u8] = b"round 1\n\
       events 10 changes 4 nulls 2 rounds 2\n";
 
 static TRACES: [Row; 6] = [
-    (
-        INVERTER,
-        5,
-        b"",
-        INVERTER_TRACE,
-        (7, 4, 3, 2),
-    ),
+    (INVERTER, 5, b"", INVERTER_TRACE, (7, 4, 3, 2)),
     (
         INVERTER,
         0,
@@ -127,13 +123,7 @@ static TRACES: [Row; 6] = [
         SCHEDULED_TRACE,
         (9, 4, 3, 1),
     ),
-    (
-        GATED_OSCILLATOR,
-        7,
-        b"",
-        OSCILLATOR_TRACE,
-        (16, 5, 4, 4),
-    ),
+    (GATED_OSCILLATOR, 7, b"", OSCILLATOR_TRACE, (16, 5, 4, 4)),
     (PRESET_RING, 7, b"", RING_TRACE, (19, 5, 5, 5)),
     (DOUBLE_PIN, 3, b"", DOUBLE_PIN_TRACE, (10, 4, 2, 2)),
 ];
