@@ -1,4 +1,5 @@
 mod Chain
+mod Counted
 mod Inside
 mod LastTicks
 mod Marked
