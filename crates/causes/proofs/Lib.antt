@@ -7,4 +7,6 @@ mod NetFacts
 mod Pieces
 mod PinLists
 mod Places
+mod Settled
 mod SignalsUpTo
+mod WhyCauses
