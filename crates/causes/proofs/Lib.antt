@@ -1,4 +1,5 @@
 mod Chain
+mod Counted
 mod Inside
 mod LastTicks
 mod Marked
@@ -6,4 +7,6 @@ mod NetFacts
 mod Pieces
 mod PinLists
 mod Places
+mod Settled
 mod SignalsUpTo
+mod WhyCauses

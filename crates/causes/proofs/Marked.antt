@@ -113,15 +113,20 @@ no_loop_new circuit causes net tick cause is none =
     go (Some c) e = absurd (none c.tick (ap (λ (c : Cause). c.reason) is
         ∙ ap (λ o. option_map_or (λ (c : Cause). Loop c.tick) o (reason_of circuit net tick)) e))
 
+-- so it is where the cause leads on
+pub leads_new : (circuit : Circuit) (causes : List Cause) (net tick : ℕ) (cause : Cause) (next : ℕ × ℕ) →
+    cause ≡ cause_behind circuit causes net tick → leads_to circuit cause ≡ Some next → repeated causes cause.net cause.value ≡ None
+leads_new circuit causes net tick cause next is on =
+    no_loop_new circuit causes net tick cause is
+    (λ earlier e. none-some next (sym (ap (λ r. leads_by circuit r cause.net cause.tick) e) ∙ on))
+
 -- a cause that leads on is marked
 pub marked_more : (circuit : Circuit) (causes : List Cause) (marks : List (Option ℕ)) (net tick : ℕ) (cause : Cause) (place : ℕ) (next : ℕ × ℕ) →
     AreMarked (length circuit) causes marks → length marks ≡ 3 * length circuit → net < length circuit →
     cause ≡ cause_behind circuit causes net tick → place ≡ mark_place net cause.value → leads_to circuit cause ≡ Some next →
     AreMarked (length circuit) (causes ++ cause ∷ []) (set marks place (Some tick))
 marked_more circuit causes marks net tick cause place next marked size below is place_is on =
-    let none : (earlier : ℕ) → cause.reason ≡ Loop earlier → ⊥ =
-    λ earlier e. none-some next (sym (ap (λ r. leads_by circuit r cause.net cause.tick) e) ∙ on) in
-    let new = no_loop_new circuit causes net tick cause is none in
+    let new = leads_new circuit causes net tick cause next is on in
     let same_net : cause.net ≡ net = ap (λ (c : Cause). c.net) is in
     let same_tick : cause.tick ≡ tick = ap (λ (c : Cause). c.tick) is in
     subst (λ marks. AreMarked (length circuit) (causes ++ cause ∷ []) marks)

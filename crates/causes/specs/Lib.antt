@@ -12,3 +12,4 @@ pub mod Reasons
 pub mod Causes
 pub mod Marks
 pub mod Text
+pub mod Why

@@ -3,6 +3,7 @@
 
 mod cause;
 mod deciding;
+pub mod laws;
 mod pins;
 mod reasons;
 mod statement;

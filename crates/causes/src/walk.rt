@@ -1,5 +1,5 @@
 //! The walk from a net and a tick back to what needs no other cause.
-ghost use Rattle.std.specs.Prelude.{◌≡◌, ◌<◌, ◌*◌, List, length, replicate, IfOk, None};
+ghost use Rattle.std.specs.Prelude.{◌≡◌, ◌<◌, ◌≤◌, ◌*◌, ◌+◌, List, length, replicate, IfOk, None};
 ghost use Rattle.design.specs.Design.{IsDesign};
 ghost use Rattle.causes.specs.declared.cause.Cause.{Cause};
 ghost use Rattle.causes.specs.Causes.{cause_behind, causes_of, ShowUpTo};
@@ -34,6 +34,7 @@ pub fn why(
     requires is_net { net < length design.now.circuit }
     requires waves { ShowUpTo design.now.circuit tick waves.now }
     ensures causes { IfOk result (λ causes. causes.items ≡ causes_of design.now.circuit net tick) }
+    ensures few { IfOk result (λ causes. length causes.items ≤ 3 * length design.now.circuit + 1) }
     ensures well_formed { IsDesign design.now }
 {
     let mut marks = no_marks(alloc, design)?;

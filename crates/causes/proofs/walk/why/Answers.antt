@@ -1,11 +1,12 @@
 use Rattle.std.proofs.Common.{arith, ◌≡◌, ◌<◌, ◌*◌, List, length, ℕ, ◌+◌, ◌++◌, Some, None, Option, set, ap, sym, ◌∙◌, subst}
-use Rattle.std.proofs.lemmas.List.{length-set, length-replicate}
+use Rattle.std.proofs.lemmas.List.{length-set, length-replicate, length_push}
 use Rattle.std.proofs.lemmas.Option.{same_Some}
 use Rattle.design.proofs.CallerLemmas.{IsCircuit-from_IsDesign}
 use Rattle.causes.specs.declared.cause.Cause.{Cause}
 use Rattle.causes.specs.Causes.{cause_behind, causes_of, causes_within, ShowUpTo}
 use Rattle.causes.specs.Marks.{AreMarked}
 use Rattle.causes.proofs.Chain.{ticks_left, no_more, one_more, leads_within, leads_back}
+use Rattle.causes.proofs.Counted.{marks_one, unset-le}
 use Rattle.causes.proofs.Marked.{marked_more, unmarked, mark_below}
 use Rattle.causes.proofs.SignalsUpTo.{show_earlier}
 use Rattle.causes.proofs.walk.why.Goals as goal
@@ -30,6 +31,11 @@ loop-next-init c =
       inside = λ from is.
           let same = same_Some (c.args.net, c.args.tick) from is in
           subst (λ (at : ℕ × ℕ). (at.0 < length circuit) × ShowUpTo circuit at.1 c.args.waves.now) same (c.requires.is_net, c.requires.waves);
+      left = λ from is.
+          let all = unset-le c.in_ok-marks.marks.items in
+          let size = ap length c.in_ok-marks.ensures.marks ∙ length-replicate (3 * length circuit) None in
+          let no_cause = ap length none in omega (arith, all, size, no_cause);
+      few = let no_cause = ap length none in omega (arith, no_cause);
       rest = ap (λ causes. causes ++ causes_within circuit (c.args.tick + 1) causes (Some (c.args.net, c.args.tick))) none;
     }
 
@@ -81,6 +87,16 @@ loop-next-preserved c =
       inside = λ next next_is.
           let within = leads_within circuit ok cause next (sym c.leads_to-next.ensures ∙ next_is) in
           (within.0, show_earlier circuit c.in-Some.when next.1 c.args.waves.now at.1 (omega (arith, within.1, same)));
+      left = λ next next_is.
+          let one = marks_one circuit c.loop-next.causes.items c.loop-next.marks.items c.in-Some.at c.in-Some.when c.in-Some.when cause c.mark_place.result next
+          marked c.loop-next.invariant.size at.0 is c.mark_place.ensures (sym c.leads_to-next.ensures ∙ next_is) in
+          let more = ap length c.in_ok-push.ensures.items ∙ length_push c.loop-next.causes.items cause in
+          let was = c.loop-next.invariant.left (c.in-Some.at, c.in-Some.when) c.in-Some.is in
+          omega (arith, one, more, was);
+      few =
+          let more = ap length c.in_ok-push.ensures.items ∙ length_push c.loop-next.causes.items cause in
+          let was = c.loop-next.invariant.left (c.in-Some.at, c.in-Some.when) c.in-Some.is in
+          omega (arith, more, was);
       rest =
           ap (λ causes. causes ++ causes_within circuit (ticks_left c.leads_to-next.result) causes c.leads_to-next.result) c.in_ok-push.ensures.items
           ∙ one_more circuit ok c.loop-next.causes.items c.in-Some.at c.in-Some.when cause c.leads_to-next.result is c.leads_to-next.ensures

@@ -1,0 +1,29 @@
+//! Facts about causes alone.
+ghost use Rattle.std.specs.Prelude.{◌≡◌, ℕ, ◌≤◌, ◌<◌, List, length, slice_get, slice_index_or, None, Some};
+ghost use Rattle.logic3.specs.declared.value.Value.{Value};
+ghost use Rattle.logic3.specs.declared.value.Value.TheVariants.{Unknown};
+ghost use Rattle.logic3.specs.declared.gates.GateKind.{GateKind};
+ghost use Rattle.logic3.specs.Gate.{HasArity, value_of_gate};
+ghost use Rattle.design.specs.Circuit.{Circuit, IsCircuit};
+ghost use Rattle.causes.specs.Causes.{causes_of};
+ghost use Rattle.causes.specs.Deciding.{controlling, deciding_place, deciding_value};
+ghost use Rattle.causes.specs.Why.{IsWhy};
+
+/// The first cause is that of the net's value at the tick, each one is the cause of its net's value
+/// behind those before it and leads to the next one, and the last one leads nowhere.
+pub fn causes_lead_on()
+    ensures { (circuit : Circuit) (net tick : ℕ) → IsCircuit circuit → IsWhy circuit net tick (causes_of circuit net tick) }
+{}
+
+/// Where a gate shows X, the pin that decides shows X. Where a pin shows the value that controls a gate,
+/// the gate shows what it shows whatever the other pins show. Where no pin decides by its value, none
+/// changed later than the one that decides.
+pub fn pins_that_decide()
+    ensures unknown { (kind : GateKind) (values : List Value) (since : List ℕ) → HasArity kind (length values) →
+        value_of_gate kind values ≡ Unknown → slice_get values (deciding_place kind values since) ≡ Some Unknown }
+    ensures settles { (kind : GateKind) (values others : List Value) (value : Value) (place other : ℕ) → controlling kind ≡ Some value →
+        slice_get values place ≡ Some value → slice_get others other ≡ Some value →
+        value_of_gate kind others ≡ value_of_gate kind values }
+    ensures last { (kind : GateKind) (values : List Value) (since : List ℕ) (place : ℕ) → deciding_value kind values ≡ None →
+        place < length since → slice_index_or since place 0 ≤ slice_index_or since (deciding_place kind values since) 0 }
+{}
