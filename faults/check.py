@@ -3,8 +3,8 @@
 
 The probes of memory (crates/memory_probes) and each command of nullsim are run once for each request for
 memory that they make, without it; then nullsim is run over faulty streams and files, over texts that are
-cut off or changed at random, and over texts and circuits as large as they may be. The last line is
-'N passed, M failed', over programs, commands, streams and texts.
+cut off or changed at random, and over texts and circuits as large as they may be. Last come the commands and
+pictures of the pages. The last line is 'N passed, M failed', over programs, commands, streams, texts and pages.
 
     check.py [--random COUNT] [--seed FIRST]    how many circuits and decks are changed at random, and by which seeds
 """
@@ -15,6 +15,7 @@ import tempfile
 import time
 from typing import Callable
 
+import pages
 import refused
 import sizes
 import streams
@@ -28,7 +29,7 @@ def deck() -> bytes:
 
 def commands() -> list[tuple[list, bytes, int]]:
     """The words, the input and the status of the commands that are refused memory."""
-    lines = (streams.RUN, streams.COUNTED, streams.PLAIN, streams.CHECK, streams.CONE, streams.TWIN)
+    lines = (streams.RUN, streams.COUNTED, streams.PLAIN, streams.DRAW, streams.CHECK, streams.CONE, streams.TWIN)
     return [
         ([], deck(), 0),
         *((words, b"", 0) for words in lines),
@@ -57,7 +58,8 @@ def checks(refuser: refused.Refuser, folder: str, seeds: range) -> list:
         check = lambda it=([program, *words], given, status): refused.command(refuser, *it)
         found.append((f"{line_of(words)}, without memory", check))
     found += streams.cases(copy_for_all(program, folder), folder, deck())
-    return [*found, *texts.cases(program, folder, seeds), *sizes.cases(program, folder)]
+    found += [*texts.cases(program, folder, seeds), *sizes.cases(program, folder)]
+    return [*found, *pages.cases(program, folder)]
 
 
 def fault_of(check: Callable[[], str | None]) -> str | None:

@@ -1,7 +1,6 @@
 //! The subcommand `check`: what it takes, and the order that it is.
-use crate::described::{Absent, Described, Takes};
 use crate::help::subcommand_named;
-use crate::options::{ALONE, HORIZON, SOURCE, number_given, source_given};
+use crate::options::{ALONE, LENGTH, SOURCE, number_given, source_given};
 use clap::{ArgMatches, Command};
 use orders::{Order, PickOptions};
 use std::alloc::{AllocError, Global};
@@ -12,8 +11,6 @@ const ABOUT: &str =
 
 const USAGE: &str = "nullsim check --bench <FILE> --horizon <N> [OPTIONS]";
 
-static OPTIONS: [Described; 1] = [Described("horizon", Takes::Number, Absent::Refused, HORIZON)];
-
 /// The subcommand with its options.
 pub(super) fn subcommand<'a>(alloc: Global) -> Result<Command<'a>, AllocError> {
     subcommand_named(
@@ -21,7 +18,7 @@ pub(super) fn subcommand<'a>(alloc: Global) -> Result<Command<'a>, AllocError> {
         "check",
         ABOUT,
         USAGE,
-        &[SOURCE.as_slice(), OPTIONS.as_slice()],
+        &[SOURCE.as_slice(), LENGTH.as_slice()],
     )
 }
 

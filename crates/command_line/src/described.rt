@@ -22,6 +22,8 @@ pub(super) enum Takes {
     Net,
     /// The names of nets, which stand by themselves.
     Nets,
+    /// What drives an input, in such a form; it may be given again.
+    Drives(&'static str),
     Nothing,
 }
 
@@ -84,6 +86,7 @@ fn taking<'a>(arg: Arg<'a>, takes: Takes) -> Arg<'a> {
             .value_parser(words)
             .hide_possible_values(true),
         Takes::Net | Takes::Nets => arg.value_name("NAME"),
+        Takes::Drives(form) => arg.value_name(form).action(ArgAction::Append),
         Takes::Nothing => arg.action(ArgAction::SetTrue),
     }
 }

@@ -1,6 +1,6 @@
 //! The program's words: its subcommands, and the help.
 use crate::described::{Described, with_tables};
-use crate::{check, cone, plain, run, twin};
+use crate::{check, cone, draw, plain, run, stimuli, trace, twin, why};
 use clap::error::ErrorKind;
 use clap::{Command, Error};
 use std::alloc::{AllocError, Global};
@@ -40,6 +40,10 @@ fn add_subcommands<'a>(
 ) -> Result<(), AllocError> {
     add(subcommands, run::subcommand(alloc))?;
     add(subcommands, plain::subcommand(alloc))?;
+    add(subcommands, draw::subcommand(alloc))?;
+    add(subcommands, trace::subcommand(alloc))?;
+    add(subcommands, why::subcommand(alloc))?;
+    add(subcommands, stimuli::subcommand(alloc))?;
     add(subcommands, cone::subcommand(alloc))?;
     add(subcommands, twin::subcommand(alloc))?;
     add(subcommands, check::subcommand(alloc))

@@ -4,11 +4,17 @@
 mod check;
 mod cone;
 mod described;
+mod draw;
+mod drives;
 mod help;
 mod options;
+mod picks;
 mod plain;
 mod run;
+mod stimuli;
+mod trace;
 mod twin;
+mod why;
 mod words;
 
 pub use words::{NoOrder, parse_words};

@@ -66,9 +66,9 @@ pub(super) const SCHEDULE: &str =
     "Events to begin with: lines advance NAME and deliver NAME PLACE; what\n\
      the nets show doesn't depend on them";
 
-pub(super) const HORIZON: &str = "The last tick of the run: 0 to 10000000";
+const HORIZON: &str = "The last tick of the run: 0 to 10000000";
 
-const SHOW: &str = "The nets in the dump: all or outputs";
+const SHOW: &str = "The nets that are shown: all or outputs";
 
 const UNIT: &str = "What a tick of the dump stands for: s, ms, us, ns, ps or fs";
 
@@ -106,22 +106,29 @@ pub(super) static SECOND_SIDE: [Described; 6] = [
     Described("second-schedule", Takes::File, Absent::Nothing, SCHEDULE),
 ];
 
-/// The options of a dump.
-pub(super) static VIEW: [Described; 3] = [
-    Described("horizon", Takes::Number, Absent::Refused, HORIZON),
-    Described(
-        "show",
-        Takes::Word("NETS", &["all", "outputs"]),
-        Absent::Default("all"),
-        SHOW,
-    ),
-    Described(
-        "unit",
-        Takes::Word("UNIT", &["s", "ms", "us", "ns", "ps", "fs"]),
-        Absent::Default("ns"),
-        UNIT,
-    ),
-];
+/// How long a run is.
+pub(super) static LENGTH: [Described; 1] = [Described(
+    "horizon",
+    Takes::Number,
+    Absent::Refused,
+    HORIZON,
+)];
+
+/// What is shown of a run.
+pub(super) static SHOWN: [Described; 1] = [Described(
+    "show",
+    Takes::Word("NETS", &["all", "outputs"]),
+    Absent::Default("all"),
+    SHOW,
+)];
+
+/// What a dump has besides.
+pub(super) static UNITS: [Described; 1] = [Described(
+    "unit",
+    Takes::Word("UNIT", &["s", "ms", "us", "ns", "ps", "fs"]),
+    Absent::Default("ns"),
+    UNIT,
+)];
 
 pub(super) fn source_given<'a>(
     options: &ArgMatches<'a>,
@@ -138,11 +145,14 @@ pub(super) fn source_given<'a>(
     }
 }
 
-pub(super) fn view_given(options: &ArgMatches<'_>) -> View {
-    let show = match options.get_str("show") {
+pub(super) fn show_given(options: &ArgMatches<'_>) -> Show {
+    match options.get_str("show") {
         Some("outputs") => Show::Outputs,
         _ => Show::All,
-    };
+    }
+}
+
+pub(super) fn view_given(options: &ArgMatches<'_>) -> View {
     let unit = match options.get_str("unit") {
         Some("s") => TimeUnit::S,
         Some("ms") => TimeUnit::Ms,
@@ -153,7 +163,7 @@ pub(super) fn view_given(options: &ArgMatches<'_>) -> View {
     };
     View {
         horizon: number_given(options, "horizon"),
-        show,
+        show: show_given(options),
         unit,
     }
 }

@@ -1,6 +1,6 @@
 //! The subcommand `plain`: what it takes, and the order that it is.
 use crate::help::subcommand_named;
-use crate::options::{ALONE, SOURCE, VIEW, source_given, view_given};
+use crate::options::{ALONE, LENGTH, SHOWN, SOURCE, UNITS, source_given, view_given};
 use clap::{ArgMatches, Command};
 use orders::{Order, PickOptions};
 use std::alloc::{AllocError, Global};
@@ -16,7 +16,7 @@ pub(super) fn subcommand<'a>(alloc: Global) -> Result<Command<'a>, AllocError> {
         "plain",
         ABOUT,
         USAGE,
-        &[SOURCE.as_slice(), VIEW.as_slice()],
+        &[SOURCE.as_slice(), LENGTH.as_slice(), SHOWN.as_slice(), UNITS.as_slice()],
     )
 }
 

@@ -1,7 +1,7 @@
 //! The subcommand `twin`: what it takes, and the order that it is.
 use crate::described::{Absent, Described, Takes};
 use crate::help::subcommand_named;
-use crate::options::{FIRST, FIRST_SIDE, HORIZON, SECOND, SECOND_SIDE, number_given, source_given};
+use crate::options::{FIRST, FIRST_SIDE, LENGTH, SECOND, SECOND_SIDE, number_given, source_given};
 use clap::{ArgMatches, Command};
 use orders::{Order, PickOptions};
 use std::alloc::{AllocError, Global};
@@ -15,10 +15,7 @@ const USAGE: &str =
 
 const NET: &str = "The net to be compared, by its name in both circuits";
 
-static OPTIONS: [Described; 2] = [
-    Described("net", Takes::Net, Absent::Refused, NET),
-    Described("horizon", Takes::Number, Absent::Refused, HORIZON),
-];
+static OPTIONS: [Described; 1] = [Described("net", Takes::Net, Absent::Refused, NET)];
 
 /// The subcommand with its options.
 pub(super) fn subcommand<'a>(alloc: Global) -> Result<Command<'a>, AllocError> {
@@ -29,6 +26,7 @@ pub(super) fn subcommand<'a>(alloc: Global) -> Result<Command<'a>, AllocError> {
         USAGE,
         &[
             OPTIONS.as_slice(),
+            LENGTH.as_slice(),
             FIRST_SIDE.as_slice(),
             SECOND_SIDE.as_slice(),
         ],

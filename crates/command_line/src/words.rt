@@ -1,6 +1,6 @@
 //! Words as an order, or why they are none.
 use crate::help::{mistake, program};
-use crate::{check, cone, plain, run, twin};
+use crate::{check, cone, draw, plain, run, stimuli, trace, twin, why};
 use clap::error::ErrorKind;
 use clap::{ArgMatches, Error};
 use orders::Order;
@@ -50,6 +50,10 @@ fn order_matched<'a>(alloc: Global, matches: &ArgMatches<'a>) -> Result<Order<'a
     match matches.subcommand() {
         Some(("run", options)) => run::order_given(alloc, options),
         Some(("plain", options)) => Ok(plain::order_given(options)),
+        Some(("draw", options)) => Ok(draw::order_given(options)),
+        Some(("trace", options)) => trace::order_given(alloc, options),
+        Some(("why", options)) => Ok(why::order_given(options)),
+        Some(("stimuli", options)) => stimuli::order_given(alloc, options),
         Some(("cone", options)) => cone::order_given(alloc, options),
         Some(("twin", options)) => Ok(twin::order_given(options)),
         Some(("check", options)) => Ok(check::order_given(options)),

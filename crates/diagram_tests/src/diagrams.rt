@@ -124,12 +124,13 @@ fn is_drawn(
 fn shows(rt: &impl Abort, alloc: Global, row: &Row) -> Result<(), Fail> {
     let (circuit, horizon, (from, to, step), form, text) = *row;
     let design = circuit.build(alloc)?;
-    let waves = plain_waves(alloc, &design, Horizon::new(horizon)?)?;
+    let horizon = Horizon::new(horizon)?;
+    let waves = plain_waves(alloc, &design, horizon)?;
     let mut shown = Vec::new(alloc);
     for net in 0..design.nets() {
         shown.push(net)?;
     }
-    let columns = Columns::new(from, to, step)?;
+    let columns = Columns::new(from, to, step, horizon)?;
     is_drawn(
         rt,
         alloc,
@@ -154,7 +155,7 @@ fn worked_circuits(rt: HostRuntime) -> Result<(), Fail> {
 #[test]
 fn no_net(rt: HostRuntime) -> Result<(), Fail> {
     let design = INVERTER.build(rt.alloc())?;
-    let columns = Columns::new(3, 14, 1)?;
+    let columns = Columns::new(3, 14, 1, Horizon::new(14)?)?;
     let text = b"  3.........13........\n";
     is_drawn(&rt, rt.alloc(), &design, &[], &[], columns, Text, text);
     Ok(())

@@ -7,26 +7,34 @@ use std::alloc::Global;
 use std::process::Abort;
 use std::test::Fail;
 use timing_diagram::{Columns, ColumnsFault, Form, draw};
+use timing_text::Horizon;
 use vcd_dump::DumpFault;
 use worked_examples::Narrow;
 
-static OF_TICKS: [((u64, u64, u64), Result<u64, ColumnsFault>); 10] = [
-    ((0, 0, 1), Ok(1)),
-    ((0, 999, 1), Ok(1_000)),
-    ((0, 1_000, 1), Err(ColumnsFault::TooManyColumns)),
-    ((7, 2_006, 2), Ok(1_000)),
-    ((7, 2_007, 2), Err(ColumnsFault::TooManyColumns)),
-    ((5, 4, 1), Err(ColumnsFault::Backwards)),
-    ((5, 4, 0), Err(ColumnsFault::NoStep)),
-    ((0, 10_000_000, 10_000), Err(ColumnsFault::TooManyColumns)),
-    ((0, u64::MAX, 1), Err(ColumnsFault::TooManyColumns)),
-    ((0, u64::MAX, u64::MAX), Ok(2)),
+// Ticks from one to another by a step, of a run to a horizon, and how many columns they are.
+static OF_TICKS: [((u64, u64, u64), u64, Result<u64, ColumnsFault>); 11] = [
+    ((0, 0, 1), 0, Ok(1)),
+    ((0, 999, 1), 999, Ok(1_000)),
+    ((0, 1_000, 1), 1_000, Err(ColumnsFault::TooManyColumns)),
+    ((7, 2_006, 2), 10_000, Ok(1_000)),
+    ((7, 2_007, 2), 10_000, Err(ColumnsFault::TooManyColumns)),
+    ((5, 4, 1), 3, Err(ColumnsFault::Backwards)),
+    ((5, 4, 0), 3, Err(ColumnsFault::NoStep)),
+    (
+        (0, 10_000_000, 10_000),
+        10_000_000,
+        Err(ColumnsFault::TooManyColumns),
+    ),
+    ((0, 10_000_000, u64::MAX), 10_000_000, Ok(1)),
+    ((0, 1_000, 1), 999, Err(ColumnsFault::PastHorizon)),
+    ((7, u64::MAX, 1), 10_000_000, Err(ColumnsFault::PastHorizon)),
 ];
 
 #[test]
 fn columns(rt: HostRuntime) -> Result<(), Fail> {
-    for ((from, to, step), wanted) in &OF_TICKS {
-        let count = Columns::new(*from, *to, *step).map(|columns| columns.count());
+    for ((from, to, step), horizon, wanted) in &OF_TICKS {
+        let horizon = Horizon::new(*horizon)?;
+        let count = Columns::new(*from, *to, *step, horizon).map(|columns| columns.count());
         assert!(&rt; count == *wanted);
     }
     Ok(())
@@ -43,7 +51,7 @@ fn shows_name(rt: &impl Abort, alloc: Global, design: &Design, name: &[u8]) -> R
     text.extend_from_slice(b"  x\n")?;
     let mut out = Vec::new(alloc);
     let waves = [Waveform::new(alloc)];
-    let columns = Columns::new(0, 0, 1)?;
+    let columns = Columns::new(0, 0, 1, Horizon::new(0)?)?;
     let answer = draw(alloc, &mut out, design, &[0], &waves, columns, Form::Text);
     assert!(rt; answer == Ok(()));
     assert!(rt; out.as_slice() == text.as_slice());
@@ -66,7 +74,7 @@ fn longest_name(rt: HostRuntime) -> Result<(), Fail> {
 #[test]
 fn a_writer_that_fails(rt: HostRuntime) -> Result<(), Fail> {
     let design = INVERTER.build(rt.alloc())?;
-    let columns = Columns::new(0, 5, 1)?;
+    let columns = Columns::new(0, 5, 1, Horizon::new(5)?)?;
     let mut out = Narrow::new(rt.alloc(), 7, 3);
     let answer = draw(rt.alloc(), &mut out, &design, &[], &[], columns, Form::Text);
     assert!(&rt; answer == Err(DumpFault::Write));

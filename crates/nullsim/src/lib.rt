@@ -11,7 +11,7 @@ pub use decks::{DeckFault, answer_deck, deck, tell};
 pub use orders::{Order, PickOptions, SourceOptions, Texts};
 pub use program_io::{ProgramFault, ReadFault, read_text};
 pub use runs::{
-    CheckAnswer, Picks, Report, Show, Side, SimFault, Source, TwinAnswer, TwinFault, View, check,
-    cone_text, plain, simulate, twin,
+    CheckAnswer, DiagramView, Picks, Report, Show, Side, SimFault, Source, TwinAnswer, TwinFault,
+    View, check, cone_text, diagram, plain, simulate, twin,
 };
 pub use words::order_of_words;

@@ -1,13 +1,17 @@
 //! Command lines through `command`: what their tests share, and the tests that go over the tables of
-//! `plainly`, `running`, `checking` and `comparing`.
+//! `plainly`, `running`, `drawing`, `asking`, `checking` and `comparing`.
 ghost use Rattle.std.specs.Prelude.{◌≡◌, option_map};
 ghost use Rattle.nullsim_tests.specs.Shelf.{text_under};
 
+use crate::asking::{
+    CAUSES, REFUSED_CAUSES, REFUSED_STIMULI, REFUSED_TRACES, STIMULI, TRACES,
+};
 use crate::checking::{CHECKS, REFUSED_CHECKS};
 use crate::comparing::{
     CONES, EDGE_TWICE, FLOP_TWICE, INVERTER_TWICE, ONE_AND_OTHER, OTHER_TWINS, REFUSED_CONES,
     REFUSED_TWINS, TWINS_WITHOUT_TEXTS,
 };
+use crate::drawing::{DRAWINGS, REFUSED_DRAWINGS};
 use crate::files::{FILES, Named};
 use crate::plainly::{DUMPS, FAULTY_TIMINGS, REFUSED_PLAIN};
 use crate::running::{COUNTED_RUNS, EDGE_RUNS, REFUSED_RUNS, RUNS_WITHOUT_TEXTS};
@@ -144,6 +148,10 @@ pub(crate) fn contains(text: &[u8], part: &[u8]) -> bool {
 fn lines_that_are_carried_out(rt: HostRuntime) -> Result<(), Fail> {
     for (start, table) in [
         ("plain", DUMPS.as_slice()),
+        ("draw", DRAWINGS.as_slice()),
+        ("trace", TRACES.as_slice()),
+        ("why", CAUSES.as_slice()),
+        ("stimuli", STIMULI.as_slice()),
         ("check", CHECKS.as_slice()),
         ("cone", CONES.as_slice()),
         (
@@ -197,6 +205,10 @@ fn lines_that_are_refused(rt: HostRuntime) -> Result<(), Fail> {
         ("run", FAULTY_TIMINGS.as_slice()),
         ("run --counts", REFUSED_RUNS.as_slice()),
         ("run", RUNS_WITHOUT_TEXTS.as_slice()),
+        ("draw", REFUSED_DRAWINGS.as_slice()),
+        ("trace", REFUSED_TRACES.as_slice()),
+        ("why", REFUSED_CAUSES.as_slice()),
+        ("stimuli", REFUSED_STIMULI.as_slice()),
         ("check", REFUSED_CHECKS.as_slice()),
         ("cone", REFUSED_CONES.as_slice()),
         ("twin", REFUSED_TWINS.as_slice()),

@@ -4,7 +4,7 @@ use worked_examples::{S27_BENCH, S27_STIMULI};
 /// A text with its name.
 pub(crate) type Named = (&'static str, &'static [u8]);
 
-pub(crate) static FILES: [Named; 64] = [
+pub(crate) static FILES: [Named; 65] = [
     ("inv.bench", b"INPUT(a)\nOUTPUT(y)\ny = NOT(a)\n"),
     ("inv.stim", b"0 a 0\n3 a 1\n"),
     ("slow.delays", b"y 9\n"),
@@ -68,6 +68,11 @@ pub(crate) static FILES: [Named; 64] = [
     (
         "deliveries.sched",
         b"deliver b 0\ndeliver y 0\ndeliver y 1\n",
+    ),
+    // The inverter's process before its input's, and again.
+    (
+        "idle-first.sched",
+        b"deliver y 0\nadvance y\nadvance y\nadvance a\ndeliver y 0\n",
     ),
     ("ahead.sched", b"advance a\ndeliver b 0\nadvance b\n"),
     // The events that the seed 7 picks first, as the test of seeded picks has them.

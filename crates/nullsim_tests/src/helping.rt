@@ -3,7 +3,7 @@ use crate::commanding::{Answer, answer_to, contains};
 use std::process::Abort;
 use std::test::Fail;
 
-// No command, and none of the five.
+// No command, and none of those that there are.
 static NO_COMMAND: [&str; 2] = ["", "plane"];
 
 // Options that are missing, twice there, of another command or out of range.
@@ -53,6 +53,38 @@ static WITH_CHECK: [&str; 6] = [
     "check --bench inv.bench --horizon 5 y",
 ];
 
+// No netlist or horizon, numbers that are none, and options of other commands.
+static WITH_DRAW: [&str; 7] = [
+    "draw --bench inv.bench",
+    "draw --horizon 5",
+    "draw --bench inv.bench --horizon 5 --step x",
+    "draw --bench inv.bench --horizon 5 --to",
+    "draw --bench inv.bench --horizon 5 --svg --svg",
+    "draw --bench inv.bench --horizon 5 --unit ns",
+    "draw --bench inv.bench --horizon 5 --schedule ahead.sched",
+];
+
+// What is missing, a schedule beside events to be drawn, a tick that is none, and drives of no form.
+static WITH_QUESTIONS: [&str; 17] = [
+    "trace --bench inv.bench",
+    "trace --horizon 5",
+    "trace --bench inv.bench --horizon 5 --show all",
+    "trace --bench inv.bench --horizon 5 --schedule ahead.sched --picks 5",
+    "why --bench inv.bench --net y",
+    "why --bench inv.bench --at 5",
+    "why --net y --at 5",
+    "why --bench inv.bench --net y --at x",
+    "why --bench inv.bench --net y --at 5 --horizon 5",
+    "stimuli --horizon 5",
+    "stimuli --bench inv.bench",
+    "stimuli --bench inv.bench --horizon 5 --clock a",
+    "stimuli --bench inv.bench --horizon 5 --clock a=",
+    "stimuli --bench inv.bench --horizon 5 --clock a=-1",
+    "stimuli --bench inv.bench --horizon 5 --hold a=2",
+    "stimuli --bench inv.bench --horizon 5 --pulse a=2",
+    "stimuli --bench inv.bench --horizon 5 --pulse a=2..",
+];
+
 // No names or no netlist, and a name that would be an option.
 static WITH_CONE: [&str; 5] = [
     "cone",
@@ -92,6 +124,8 @@ fn wrong_words(rt: HostRuntime) -> Result<(), Fail> {
         WITH_PLAIN.as_slice(),
         WITH_RUN.as_slice(),
         WITH_CHECK.as_slice(),
+        WITH_DRAW.as_slice(),
+        WITH_QUESTIONS.as_slice(),
         WITH_CONE.as_slice(),
         WITH_TWIN.as_slice(),
     ] {
@@ -104,10 +138,14 @@ fn wrong_words(rt: HostRuntime) -> Result<(), Fail> {
 }
 
 // The commands, which the help of the program lists.
-static COMMANDS: [&str; 7] = [
+static COMMANDS: [&str; 11] = [
     "\nUsage: nullsim <COMMAND> [OPTIONS]\n",
     "\n  run ",
     "\n  plain ",
+    "\n  draw ",
+    "\n  trace ",
+    "\n  why ",
+    "\n  stimuli ",
     "\n  cone ",
     "\n  twin ",
     "\n  check ",
@@ -143,6 +181,45 @@ static OF_PLAIN: [&str; 10] = [
     "--horizon <N>",
     "--show <",
     "--unit <",
+];
+
+// Those of `draw`.
+static OF_DRAW: [&str; 12] = [
+    "\nUsage: nullsim draw --bench <FILE> --horizon <N> [OPTIONS]\n",
+    "--bench <FILE>",
+    "--delays <FILE>",
+    "--stimuli <FILE>",
+    "--delay <N>",
+    "--period <N>",
+    "--horizon <N>",
+    "--show <",
+    "--from <N>",
+    "--to <N>",
+    "--step <N>",
+    "--svg ",
+];
+
+// Those of `trace`, `why` and `stimuli` that are theirs.
+static OF_TRACE: [&str; 5] = [
+    "\nUsage: nullsim trace --bench <FILE> --horizon <N> [OPTIONS]\n",
+    "--horizon <N>",
+    "--schedule <FILE>",
+    "--seed <N>",
+    "--picks <N>",
+];
+static OF_WHY: [&str; 4] = [
+    "\nUsage: nullsim why --bench <FILE> --net <NAME> --at <TICK> [OPTIONS]\n",
+    "--stimuli <FILE>",
+    "--net <NAME>",
+    "--at <N>",
+];
+static OF_STIMULI: [&str; 6] = [
+    "\nUsage: nullsim stimuli --bench <FILE> --horizon <N> [OPTIONS]\n",
+    "--clock <NAME=HALF>",
+    "--hold <NAME=VALUE>",
+    "--pulse <NAME=FROM..TO>",
+    "--every <N>",
+    "--seed <N>",
 ];
 
 // Those of `cone`.
@@ -214,6 +291,14 @@ fn help(rt: HostRuntime) -> Result<(), Fail> {
             OF_PLAIN.as_slice(),
             &[],
         ),
+        (
+            "draw --help",
+            OF_DRAW.as_slice(),
+            &["--unit <", "--picks <"],
+        ),
+        ("trace --help", OF_TRACE.as_slice(), &["--counts "]),
+        ("why --help", OF_WHY.as_slice(), &["--horizon <"]),
+        ("stimuli -h", OF_STIMULI.as_slice(), &["--stimuli <"]),
         ("cone --help", OF_CONE.as_slice(), &["--horizon <"]),
         ("cone y -h", OF_CONE.as_slice(), &[]),
         ("twin --help", OF_TWIN.as_slice(), &["--picks <"]),

@@ -2,11 +2,15 @@
 #![tactic(auto)]
 
 #[cfg(test)]
+mod asking;
+#[cfg(test)]
 mod checking;
 #[cfg(test)]
 mod commanding;
 #[cfg(test)]
 mod comparing;
+#[cfg(test)]
+mod drawing;
 #[cfg(test)]
 mod files;
 #[cfg(test)]

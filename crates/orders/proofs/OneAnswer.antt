@@ -1,5 +1,5 @@
 -- Where the texts are known, an order has one answer at most.
-use Rattle.std.proofs.Common.{◌≡◌, ◌↔◌, ℕ, zero, suc, ◌<◌, ◌≤◌, Bool, true, false, IsTrue, List, [], ◌∷◌, get_or, Option, Some, None, IfSome, Result, Ok, Err, Bor, Vec, Contains, refl, sym, ap, subst, ◌∙◌, arith}
+use Rattle.std.proofs.Common.{◌≡◌, ◌↔◌, ℕ, zero, suc, ◌<◌, ◌≤◌, Bool, true, false, IsTrue, List, [], ◌∷◌, map, get_or, Option, Some, None, IfSome, Result, Ok, Err, Bor, Vec, Contains, refl, sym, ap, subst, ◌∙◌, arith}
 use Rattle.std.specs.declared.alloc.Global.{Global}
 use Rattle.std.specs.List.{filter_map}
 use Rattle.bench_text.specs.declared.fault.BenchFault.{BenchFault}
@@ -9,18 +9,21 @@ use Rattle.netlist.specs.Repeats.{distinct}
 use Rattle.bench_text.specs.NetlistOf.{netlist_of}
 use Rattle.netlist.specs.Pick.{picked}
 use Rattle.netlist.specs.Names.{seen_names}
+use Rattle.drawn_stimuli.specs.declared.drive.Draws.{Draws}
+use Rattle.drawn_stimuli.specs.declared.drive.Driven.{Driven}
+use Rattle.drawn_stimuli.specs.Inputs.{seen_drive}
 use Rattle.logic3.specs.Rising.{Rises}
 use Rattle.netlist.proofs.CallerLemmas.{AllPairs-tail}
 use Rattle.fanin_cone.specs.Cone.{IsConeOf}
 use Rattle.fanin_cone.specs.Extract.{IsExtract, first_unknown}
 use Rattle.runs.specs.declared.fault.SimFault.{SimFault}
 use Rattle.orders.specs.declared.order.Order.{Order}
-use Rattle.orders.specs.declared.order.Order.TheVariants.{Run, Plain, Cone, Twin, Check}
+use Rattle.orders.specs.declared.order.Order.TheVariants.{Run, Plain, Draw, Trace, Why, Stimuli, Cone, Twin, Check}
 use Rattle.orders.specs.declared.order.SourceOptions.{SourceOptions}
 use Rattle.runs.specs.declared.twin_run.TwinAnswer.{TwinAnswer}
 use Rattle.runs.specs.declared.twin_run.TwinFault.{TwinFault}
 use Rattle.program_io.specs.AnswerText.{twin_text}
-use Rattle.program_io.specs.Answers.{Answer, IsTwinAnswer, answered, just}
+use Rattle.program_io.specs.Answers.{Answer, IsTwinAnswer, answered, just, stimuli_answer}
 use Rattle.orders.specs.OrderAnswer.{ForSource, IsAnswer}
 use Rattle.runs.specs.ConeText.{IsConeAnswer, IsConeOfNetlist, IsExtractText}
 use Rattle.runs.specs.Faults.{sim_of_bench}
@@ -192,6 +195,12 @@ module _ (texts : List ℕ → List ℕ) where
       subst (λ (t : List ℕ). IsConeAnswer t (seen_names names.items) other_found) same_text other_is in
       answer ∙ ap (answered just) (one_cone_answer found other_found text (seen_names names.items) is of_text) ∙ sym other_answer
 
+  one_for_stimuli : (bench : Bor (List ℕ)) (drives : Vec Driven Global) (draws : Draws) (horizon : ℕ) (a b : Result Answer ProgramFault) →
+      IsAnswer known (Stimuli bench drives draws horizon) a → IsAnswer known (Stimuli bench drives draws horizon) b → a ≡ b
+  one_for_stimuli bench drives draws horizon a b (text, read, is) (other_text, other_read, other_is) =
+      let same_text : text ≡ other_text = read ∙ sym other_read in
+      is ∙ ap (λ t. stimuli_answer t (map seen_drive drives.items) draws horizon) same_text ∙ sym other_is
+
   pub one_answer : (order : Order) (a b : Result Answer ProgramFault) → IsAnswer known order a → IsAnswer known order b → a ≡ b
   one_answer (Run options view counts) a b = one_for_source options _ _ a b (λ source is other_is. is ∙ sym other_is)
   one_answer (Plain options view) a b = one_for_source options _ _ a b (λ source is other_is. is ∙ sym other_is)
@@ -199,4 +208,8 @@ module _ (texts : List ℕ → List ℕ) where
   one_answer (Twin first second net horizon) a b =
       one_for_source first _ _ a b (λ one.
       one_for_source second _ _ a b (λ other. one_twin_answer (twins_of one other net.now horizon) net.now horizon a b))
+  one_answer (Trace options horizon) a b = one_for_source options _ _ a b (λ source is other_is. is ∙ sym other_is)
+  one_answer (Why options net tick) a b = one_for_source options _ _ a b (λ source is other_is. is ∙ sym other_is)
+  one_answer (Stimuli bench drives draws horizon) a b = one_for_stimuli bench drives draws horizon a b
+  one_answer (Draw options view) a b = one_for_source options _ _ a b (λ source is other_is. is ∙ sym other_is)
   one_answer (Check options horizon) a b = one_for_source options _ _ a b (λ source is other_is. is ∙ sym other_is)

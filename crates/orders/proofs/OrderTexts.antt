@@ -1,7 +1,11 @@
 -- The answer to an order, from the texts that were read.
-use Rattle.std.proofs.Common.{◌≡◌, ℕ, Bool, List, Option, Some, None, Result, IfSome, Bor, Vec, unwrap_or, refl, ap, subst, ◌∙◌}
+use Rattle.std.proofs.Common.{◌≡◌, ℕ, Bool, List, map, Option, Some, None, Result, IfSome, Bor, Vec, unwrap_or, refl, ap, subst, ◌∙◌}
 use Rattle.std.specs.declared.alloc.Global.{Global}
 use Rattle.netlist.specs.Names.{seen_names}
+use Rattle.drawn_stimuli.specs.declared.drive.Draws.{Draws}
+use Rattle.drawn_stimuli.specs.declared.drive.Driven.{Driven}
+use Rattle.drawn_stimuli.specs.Inputs.{seen_drive}
+use Rattle.runs.specs.declared.diagram_run.DiagramView.{DiagramView}
 use Rattle.runs.specs.declared.fault.SimFault.{SimFault}
 use Rattle.runs.specs.declared.view.View.{View}
 use Rattle.runs.specs.Checked.{checked}
@@ -16,9 +20,9 @@ use Rattle.program_io.specs.declared.program_fault.ProgramFault.{ProgramFault}
 use Rattle.orders.specs.declared.source_texts.SourceTexts.{SourceTexts}
 use Rattle.program_io.specs.AnswerText.{check_text}
 use Rattle.orders.specs.Options.{IsRead, IsSourceOf, KnownTexts, ReadsSource, picks_of_options, schedule_file, source_from, text_named}
-use Rattle.program_io.specs.Answers.{Answer, IsAnswerOfCone, IsAnswerOfTwin, IsTwinAnswer, answered, check_answer, just, plain_answer, run_answer, with_counts}
+use Rattle.program_io.specs.Answers.{Answer, IsAnswerOfCone, IsAnswerOfTwin, IsTwinAnswer, answered, check_answer, diagram_answer, just, plain_answer, run_answer, stimuli_answer, trace_answer, why_answer, with_counts}
 use Rattle.orders.specs.OrderAnswer.{ForSource, IsAnswer}
-use Rattle.program_io.proofs.CallerLemmas.{cut, cut_picks, cut_source, dump_of_source-cut, netlist_of-cut, run_of_source-cut, simulated-cut, twins_of-cut}
+use Rattle.program_io.proofs.CallerLemmas.{cut, cut_picks, cut_source, diagram_of_source-cut, dump_of_source-cut, netlist_of-cut, run_of_source-cut, simulated-cut, stimuli_of_drives-cut, trace_of_source-cut, twins_of-cut, why_of_source-cut}
 
 pub unwrap_or-known : (known : Option (List ℕ)) (other : List ℕ) → IfSome known (λ all. unwrap_or known other ≡ all)
 unwrap_or-known None other = tt
@@ -81,6 +85,21 @@ module _ (known : KnownTexts) (options : SourceOptions) (texts : SourceTexts) (s
   IsAnswer-plain view answer same =
       ForSource-read _ (λ source is_cut. same ∙ ap (λ s. plain_answer s view) is_cut ∙ ap (answered just) (dump_of_source-cut source view))
 
+  pub IsAnswer-diagram : (view : DiagramView) (answer : Result Answer ProgramFault) → answer ≡ diagram_answer seen view →
+      IsAnswer known (orders.Draw options view) answer
+  IsAnswer-diagram view answer same =
+      ForSource-read _ (λ source is_cut. same ∙ ap (λ s. diagram_answer s view) is_cut ∙ ap (answered just) (diagram_of_source-cut source view))
+
+  pub IsAnswer-trace : (horizon : ℕ) (answer : Result Answer ProgramFault) → answer ≡ trace_answer seen horizon →
+      IsAnswer known (orders.Trace options horizon) answer
+  IsAnswer-trace horizon answer same =
+      ForSource-read _ (λ source is_cut. same ∙ ap (λ s. trace_answer s horizon) is_cut ∙ ap (answered just) (trace_of_source-cut source horizon))
+
+  pub IsAnswer-why : (net : Bor (List ℕ)) (tick : ℕ) (answer : Result Answer ProgramFault) → answer ≡ why_answer seen net.now tick →
+      IsAnswer known (orders.Why options net tick) answer
+  IsAnswer-why net tick answer same =
+      ForSource-read _ (λ source is_cut. same ∙ ap (λ s. why_answer s net.now tick) is_cut ∙ ap (answered just) (why_of_source-cut source net.now tick))
+
   pub IsAnswer-run : (view : View) (counts : Bool) (answer : Result Answer ProgramFault) → answer ≡ run_answer seen view counts →
       IsAnswer known (orders.Run options view counts) answer
   IsAnswer-run view counts answer same =
@@ -124,3 +143,15 @@ IsAnswer-cone known bench names read bytes asked is_read is_bytes is_asked answe
     let of_cut : IsConeAnswer (cut text) (seen_names names.items) found =
     subst (λ (t : List ℕ). IsConeAnswer t (seen_names names.items) found) (is_bytes ∙ is_read) of_names in
     (text, unwrap_or-known (known bench.now) read, (found, IsConeAnswer-cut text (seen_names names.items) found of_cut, same))
+
+-- the stimulus text of the netlist that was read is the answer to the order
+pub IsAnswer-stimuli : (known : KnownTexts) (bench : Bor (List ℕ)) (drives : Vec Driven Global) (draws : Draws) (horizon : ℕ) (read bytes : List ℕ)
+    (asked : List Driven) → IsRead (known bench.now) read → bytes ≡ read → asked ≡ drives.items →
+    (answer : Result Answer ProgramFault) → answer ≡ stimuli_answer bytes (map seen_drive asked) draws horizon →
+    IsAnswer known (orders.Stimuli bench drives draws horizon) answer
+IsAnswer-stimuli known bench drives draws horizon read bytes asked is_read is_bytes is_asked answer same =
+    let text = unwrap_or (known bench.now) read in
+    (text, unwrap_or-known (known bench.now) read,
+    same ∙ ap (λ list. stimuli_answer bytes (map seen_drive list) draws horizon) is_asked
+    ∙ ap (λ t. stimuli_answer t (map seen_drive drives.items) draws horizon) (is_bytes ∙ is_read)
+    ∙ ap (answered just) (stimuli_of_drives-cut text (map seen_drive drives.items) draws horizon))

@@ -26,7 +26,11 @@ file_names options = record {
 abbrev pub names_of : Order → Side → Names
 names_of (order.Run options view counts) side = file_names options
 names_of (order.Plain options view) side = file_names options
+names_of (order.Draw options view) side = file_names options
+names_of (order.Trace options horizon) side = file_names options
+names_of (order.Why options net tick) side = file_names options
 names_of (order.Check options horizon) side = file_names options
 names_of (order.Twin first second net horizon) First = file_names first
 names_of (order.Twin first second net horizon) Second = file_names second
 names_of (order.Cone bench names) side = record section_names { bench = bench.now }
+names_of (order.Stimuli bench drives draws horizon) side = record section_names { bench = bench.now }

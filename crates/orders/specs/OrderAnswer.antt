@@ -1,12 +1,13 @@
 -- The answer to an order, and how an order ends.
-use Rattle.std.specs.Prelude.{◌≡◌, ℕ, List, Option, IfSome, Result}
+use Rattle.std.specs.Prelude.{◌≡◌, ℕ, List, map, Option, IfSome, Result}
 use Rattle.netlist.specs.Names.{seen_names}
+use Rattle.drawn_stimuli.specs.Inputs.{seen_drive}
 use Rattle.cmb_kernel.specs.declared.counts.Counts.{Counts}
 use Rattle.runs.specs.Source.{SourceView}
 use Rattle.program_io.specs.declared.program_fault.ProgramFault.{ProgramFault}
-use Rattle.program_io.specs.Answers.{Answer, AnswerEndsBy, GoesOut, IsAnswerOfCone, IsAnswerOfTwin, check_answer, plain_answer, run_answer}
+use Rattle.program_io.specs.Answers.{Answer, AnswerEndsBy, GoesOut, IsAnswerOfCone, IsAnswerOfTwin, check_answer, diagram_answer, plain_answer, run_answer, stimuli_answer, trace_answer, why_answer}
 use Rattle.orders.specs.declared.order.Order.{Order}
-use Rattle.orders.specs.declared.order.Order.TheVariants.{Run, Plain, Cone, Twin, Check}
+use Rattle.orders.specs.declared.order.Order.TheVariants.{Run, Plain, Draw, Trace, Why, Stimuli, Cone, Twin, Check}
 use Rattle.orders.specs.declared.order.SourceOptions.{SourceOptions}
 use Rattle.orders.specs.Options.{IsSourceOf, KnownTexts}
 
@@ -18,6 +19,11 @@ ForSource known options P = (source : SourceView) × IsSourceOf known options so
 abbrev pub IsAnswer : KnownTexts → Order → Result Answer ProgramFault → Type 0
 IsAnswer known (Run options view counts) answer = ForSource known options (λ source. answer ≡ run_answer source view counts)
 IsAnswer known (Plain options view) answer = ForSource known options (λ source. answer ≡ plain_answer source view)
+IsAnswer known (Draw options view) answer = ForSource known options (λ source. answer ≡ diagram_answer source view)
+IsAnswer known (Trace options horizon) answer = ForSource known options (λ source. answer ≡ trace_answer source horizon)
+IsAnswer known (Why options net tick) answer = ForSource known options (λ source. answer ≡ why_answer source net.now tick)
+IsAnswer known (Stimuli bench drives draws horizon) answer =
+    (text : List ℕ) × IfSome (known bench.now) (λ all. text ≡ all) × (answer ≡ stimuli_answer text (map seen_drive drives.items) draws horizon)
 IsAnswer known (Cone bench names) answer =
     (text : List ℕ) × IfSome (known bench.now) (λ all. text ≡ all) × IsAnswerOfCone text (seen_names names.items) answer
 IsAnswer known (Twin first second net horizon) answer =

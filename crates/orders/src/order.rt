@@ -4,8 +4,9 @@ ghost use Rattle.orders.specs.Options.{schedule_file};
 ghost use Rattle.program_io.specs.Place.{called};
 ghost use Rattle.orders.specs.FileNames.{file_names, names_of};
 
+use drawn_stimuli::{Draws, Driven};
 use program_io::TextNames;
-use runs::{Side, View};
+use runs::{DiagramView, Side, View};
 
 /// The files of a run, by their names, and the numbers that go with them.
 #[derive(Clone, Copy, Debug)]
@@ -53,6 +54,33 @@ pub enum Order<'a> {
         source: SourceOptions<'a>,
         view: View,
     },
+    /// Write the timing diagram of a run. Nothing is picked.
+    Draw {
+        source: SourceOptions<'a>,
+        view: DiagramView,
+    },
+    /// Write the trace of a run.
+    Trace {
+        source: SourceOptions<'a>,
+        /// The last tick of the run: at most 10,000,000.
+        horizon: u64,
+    },
+    /// Write why a net has its value at a tick. Nothing is picked.
+    Why {
+        source: SourceOptions<'a>,
+        net: &'a [u8],
+        /// The tick, which is the last one of the run: at most 10,000,000.
+        tick: u64,
+    },
+    /// Write a stimulus text for the inputs of a netlist.
+    Stimuli {
+        bench: &'a str,
+        /// What drives inputs by name. All others are drawn.
+        drives: Vec<Driven<'a>>,
+        draws: Draws,
+        /// The last tick of the text: at most 10,000,000.
+        horizon: u64,
+    },
     /// Write the nets in the fan-in cones of these names, in the .bench notation.
     Cone {
         bench: &'a str,
@@ -83,10 +111,13 @@ impl<'a> Order<'a> {
         match (self, side) {
             (Order::Run { source, .. }, _) => source.text_names(),
             (Order::Plain { source, .. }, _) => source.text_names(),
+            (Order::Draw { source, .. }, _) => source.text_names(),
             (Order::Check { source, .. }, _) => source.text_names(),
+            (Order::Trace { source, .. }, _) => source.text_names(),
+            (Order::Why { source, .. }, _) => source.text_names(),
             (Order::Twin { first, .. }, Side::First) => first.text_names(),
             (Order::Twin { second, .. }, Side::Second) => second.text_names(),
-            (Order::Cone { bench, .. }, _) => TextNames {
+            (Order::Cone { bench, .. } | Order::Stimuli { bench, .. }, _) => TextNames {
                 bench,
                 delays: "delays",
                 stimuli: "stimuli",

@@ -8,8 +8,12 @@ use crate::order::{Order, SourceOptions};
 use crate::source_texts::{SourceTexts, file_text};
 use crate::texts::Texts;
 use cmb_kernel::Counts;
-use program_io::{ProgramFault, write_check, write_cone, write_plain, write_run, write_twin};
-use runs::View;
+use drawn_stimuli::{Draws, Driven};
+use program_io::{
+    ProgramFault, write_check, write_cone, write_diagram, write_plain, write_run, write_stimuli,
+    write_trace, write_twin, write_why,
+};
+use runs::{DiagramView, View};
 use std::alloc::Global;
 use std::io::Write;
 
@@ -44,6 +48,17 @@ impl<'a> Order<'a> {
                 counts,
             } => carry_out_run(alloc, source, view, *counts, texts, out),
             Order::Plain { source, view } => carry_out_plain(alloc, source, view, texts, out),
+            Order::Draw { source, view } => carry_out_diagram(alloc, source, view, texts, out),
+            Order::Trace { source, horizon } => {
+                carry_out_trace(alloc, source, *horizon, texts, out)
+            }
+            Order::Why { source, net, tick } => carry_out_why(alloc, source, net, *tick, texts, out),
+            Order::Stimuli {
+                bench,
+                drives,
+                draws,
+                horizon,
+            } => carry_out_stimuli(alloc, bench, drives, *draws, *horizon, texts, out),
             Order::Cone { bench, names } => carry_out_cone(alloc, bench, names, texts, out),
             Order::Twin {
                 first,
@@ -97,6 +112,96 @@ fn carry_out_plain<'a, T: Texts, W: Write>(
 {
     let read = SourceTexts::read(alloc, options, texts)?;
     write_plain(alloc, &read.source(options), view, out)
+}
+
+fn carry_out_diagram<'a, T: Texts, W: Write>(
+    alloc: Global,
+    options: &SourceOptions<'a>,
+    view: &DiagramView,
+    texts: &mut T,
+    out: &mut W,
+) -> Result<Option<Counts>, ProgramFault<'a>>
+    ensures ok { IfOk result (Answered (T.known texts.old) (order.Draw options.now view.now)
+        (W.contents out.old) (W.contents out.new)) }
+    ensures err { IfErr result (OrderEndsBy (T.known texts.old) (order.Draw options.now view.now)
+        (W.contents out.old) (W.contents out.new)) }
+    ensures read { OnOk result
+        (ReadsAll (files_of (order.Draw options.now view.now)) (T.readings texts.old) (T.readings texts.new)) }
+    ensures stopped { IfErr result
+        (ReadsUntil (files_of (order.Draw options.now view.now)) (T.readings texts.old) (T.readings texts.new)) }
+{
+    let read = SourceTexts::read(alloc, options, texts)?;
+    write_diagram(alloc, &read.source(options), view, out)
+}
+
+fn carry_out_trace<'a, T: Texts, W: Write>(
+    alloc: Global,
+    options: &SourceOptions<'a>,
+    horizon: u64,
+    texts: &mut T,
+    out: &mut W,
+) -> Result<Option<Counts>, ProgramFault<'a>>
+    ensures ok { IfOk result (Answered (T.known texts.old) (order.Trace options.now horizon)
+        (W.contents out.old) (W.contents out.new)) }
+    ensures err { IfErr result (OrderEndsBy (T.known texts.old) (order.Trace options.now horizon)
+        (W.contents out.old) (W.contents out.new)) }
+    ensures read { OnOk result
+        (ReadsAll (files_of (order.Trace options.now horizon)) (T.readings texts.old) (T.readings texts.new)) }
+    ensures stopped { IfErr result
+        (ReadsUntil (files_of (order.Trace options.now horizon)) (T.readings texts.old) (T.readings texts.new)) }
+{
+    let read = SourceTexts::read(alloc, options, texts)?;
+    write_trace(alloc, &read.source(options), horizon, out)
+}
+
+fn carry_out_why<'a, T: Texts, W: Write>(
+    alloc: Global,
+    options: &SourceOptions<'a>,
+    net: &'a [u8],
+    tick: u64,
+    texts: &mut T,
+    out: &mut W,
+) -> Result<Option<Counts>, ProgramFault<'a>>
+    ensures ok { IfOk result (Answered (T.known texts.old) (order.Why options.now net.entry tick)
+        (W.contents out.old) (W.contents out.new)) }
+    ensures err { IfErr result (OrderEndsBy (T.known texts.old) (order.Why options.now net.entry tick)
+        (W.contents out.old) (W.contents out.new)) }
+    ensures read { OnOk result
+        (ReadsAll (files_of (order.Why options.now net.entry tick)) (T.readings texts.old) (T.readings texts.new)) }
+    ensures stopped { IfErr result
+        (ReadsUntil (files_of (order.Why options.now net.entry tick)) (T.readings texts.old) (T.readings texts.new)) }
+{
+    let read = SourceTexts::read(alloc, options, texts)?;
+    write_why(alloc, &read.source(options), net, tick, out)
+}
+
+fn carry_out_stimuli<'a, T: Texts, W: Write>(
+    alloc: Global,
+    bench: &'a str,
+    drives: &Vec<Driven<'a>>,
+    draws: Draws,
+    horizon: u64,
+    texts: &mut T,
+    out: &mut W,
+) -> Result<Option<Counts>, ProgramFault<'a>>
+    ensures ok { IfOk result (Answered (T.known texts.old) (order.Stimuli bench.entry drives.now draws horizon)
+        (W.contents out.old) (W.contents out.new)) }
+    ensures err { IfErr result (OrderEndsBy (T.known texts.old) (order.Stimuli bench.entry drives.now draws horizon)
+        (W.contents out.old) (W.contents out.new)) }
+    ensures read { OnOk result
+        (ReadsAll (files_of (order.Stimuli bench.entry drives.now draws horizon)) (T.readings texts.old) (T.readings texts.new)) }
+    ensures stopped { IfErr result
+        (ReadsUntil (files_of (order.Stimuli bench.entry drives.now draws horizon)) (T.readings texts.old) (T.readings texts.new)) }
+{
+    let read = file_text(alloc, texts, Some(bench))?;
+    write_stimuli(
+        alloc,
+        read.as_slice(),
+        drives.as_slice(),
+        draws,
+        horizon,
+        out,
+    )
 }
 
 fn carry_out_cone<'a, T: Texts, W: Write>(

@@ -24,7 +24,21 @@ use Rattle.cmb_events.specs.Schedule.{events_after, events_of}
 use Rattle.runs.specs.declared.fault.SimFault.{SimFault}
 use Rattle.runs.specs.declared.fault.SimFault.TheVariants.{Setting}
 use Rattle.runs.specs.declared.view.View.{View}
+use Rattle.runs.specs.declared.diagram_run.DiagramView.{DiagramView}
+use Rattle.drawn_stimuli.specs.declared.drive.Draws.{Draws}
+use Rattle.drawn_stimuli.specs.Inputs.{DriveView}
+use Rattle.runs.specs.Drawn.{diagram_of_source}
+use Rattle.runs.specs.Driven.{stimuli_of_drives}
+use Rattle.runs.specs.Explained.{why_of_source}
+use Rattle.runs.specs.Traced.{trace_of_source}
 use Rattle.runs.specs.Events.{PicksView, events_of_picks}
+use Rattle.runs.specs.declared.diagram_run.DiagramView.{DiagramView}
+use Rattle.drawn_stimuli.specs.declared.drive.Draws.{Draws}
+use Rattle.drawn_stimuli.specs.Inputs.{DriveView}
+use Rattle.runs.specs.Drawn.{diagram_of_source}
+use Rattle.runs.specs.Driven.{stimuli_of_drives}
+use Rattle.runs.specs.Explained.{why_of_source}
+use Rattle.runs.specs.Traced.{trace_of_source}
 use Rattle.runs.specs.Events as picks
 use Rattle.runs.specs.Faults.{sim_of_bench, sim_of_build, sim_of_schedule}
 use Rattle.runs.specs.Source.{SourceView, design_of_source, dump_of_source, or_fault}
@@ -108,6 +122,10 @@ pub dump_of_source-cut : (source : SourceView) (view : View) → dump_of_source 
 unfolding dump_of_source
 dump_of_source-cut source view = rw (design_of_source-cut source view.horizon) refl
 
+pub diagram_of_source-cut : (source : SourceView) (view : DiagramView) → diagram_of_source (cut_source source) view ≡ diagram_of_source source view
+unfolding diagram_of_source
+diagram_of_source-cut source view = rw (design_of_source-cut source view.horizon) refl
+
 -- the run, from what the settings and texts give, and the picks
 abbrev run_by : Result (ℕ × DesignView) SimFault → (Circuit → Result (List Event) ScheduleFault) → Result RunView SimFault
 run_by made pick = do
@@ -126,6 +144,19 @@ run_of_source-cut source ticks =
 pub simulated-cut : (source : SourceView) (view : View) → simulated (cut_source source) view ≡ simulated source view
 unfolding simulated
 simulated-cut source view = rw (run_of_source-cut source view.horizon) refl
+
+pub trace_of_source-cut : (source : SourceView) (ticks : ℕ) → trace_of_source (cut_source source) ticks ≡ trace_of_source source ticks
+unfolding trace_of_source
+trace_of_source-cut source ticks = rw (run_of_source-cut source ticks) refl
+
+pub why_of_source-cut : (source : SourceView) (name : List ℕ) (tick : ℕ) → why_of_source (cut_source source) name tick ≡ why_of_source source name tick
+unfolding why_of_source
+why_of_source-cut source name tick = rw (design_of_source-cut source tick) refl
+
+pub stimuli_of_drives-cut : (bench : List ℕ) (drives : List DriveView) (draws : Draws) (ticks : ℕ) →
+    stimuli_of_drives (cut bench) drives draws ticks ≡ stimuli_of_drives bench drives draws ticks
+unfolding stimuli_of_drives
+stimuli_of_drives-cut bench drives draws ticks = rw (netlist_of-cut bench) refl
 
 pub twins_of-cut : (first second : SourceView) (name : List ℕ) (horizon : ℕ) →
     twins_of (cut_source first) (cut_source second) name horizon ≡ twins_of first second name horizon

@@ -4,6 +4,7 @@ use Rattle.std.specs.Bool.{then_some}
 use Rattle.std.specs.Result.{result_map_both}
 use Rattle.std.specs.Io.KnownBytes.{Appends}
 use Rattle.cmb_kernel.specs.declared.counts.Counts.{Counts}
+use Rattle.runs.specs.declared.diagram_run.DiagramView.{DiagramView}
 use Rattle.runs.specs.declared.fault.SimFault.{SimFault}
 use Rattle.runs.specs.declared.simulation.Report.{Report}
 use Rattle.runs.specs.declared.twin_run.Side.TheVariants.{First}
@@ -12,6 +13,12 @@ use Rattle.runs.specs.declared.twin_run.TwinFault.{TwinFault}
 use Rattle.runs.specs.declared.view.View.{View}
 use Rattle.runs.specs.Checked.{checked}
 use Rattle.runs.specs.ConeText.{IsConeAnswer}
+use Rattle.drawn_stimuli.specs.declared.drive.Draws.{Draws}
+use Rattle.drawn_stimuli.specs.Inputs.{DriveView}
+use Rattle.runs.specs.Drawn.{diagram_of_source}
+use Rattle.runs.specs.Driven.{stimuli_of_drives}
+use Rattle.runs.specs.Explained.{why_of_source}
+use Rattle.runs.specs.Traced.{trace_of_source}
 use Rattle.runs.specs.Simulated.{run_of_source, simulated}
 use Rattle.runs.specs.Source.{SourceView, dump_of_source}
 use Rattle.runs.specs.Twins.{IsComparison, Twins, twins_of}
@@ -47,6 +54,22 @@ run_answer source view counts = answered (with_counts counts) (simulated source 
 -- the dump of a run by the plain engine
 abbrev pub plain_answer : SourceView → View → Result Answer ProgramFault
 plain_answer source view = answered just (dump_of_source source view)
+
+-- the timing diagram of a run
+abbrev pub diagram_answer : SourceView → DiagramView → Result Answer ProgramFault
+diagram_answer source view = answered just (diagram_of_source source view)
+
+-- the trace of a run
+abbrev pub trace_answer : SourceView → ℕ → Result Answer ProgramFault
+trace_answer source horizon = answered just (trace_of_source source horizon)
+
+-- why the net of a name has its value at a tick
+abbrev pub why_answer : SourceView → List ℕ → ℕ → Result Answer ProgramFault
+why_answer source name tick = answered just (why_of_source source name tick)
+
+-- the stimulus text of a netlist's inputs
+abbrev pub stimuli_answer : List ℕ → List DriveView → Draws → ℕ → Result Answer ProgramFault
+stimuli_answer bench drives draws horizon = answered just (stimuli_of_drives bench drives draws horizon)
 
 -- the lines of a check
 abbrev pub check_answer : SourceView → ℕ → Result Answer ProgramFault

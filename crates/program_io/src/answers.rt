@@ -1,18 +1,23 @@
 //! Answers to texts, written out.
-ghost use Rattle.std.specs.Prelude.{◌≡◌, IfErr, IfOk, IsOkAnd};
+ghost use Rattle.std.specs.Prelude.{◌≡◌, map, IfErr, IfOk, IsOkAnd};
 ghost use Rattle.std.specs.Bool.{then_some};
 ghost use Rattle.std.specs.Io.KnownBytes.{Appends};
 ghost use Rattle.netlist.specs.Names.{seen_names};
+ghost use Rattle.drawn_stimuli.specs.Inputs.{seen_drive};
 ghost use Rattle.runs.specs.Ends.{RunEndsBy};
 ghost use Rattle.runs.specs.Simulated.{dump_in, simulated};
 ghost use Rattle.runs.specs.Source.{seen_source};
-ghost use Rattle.program_io.specs.Answers.{AnswerEndsBy, GoesOut, IsAnswerOfCone, IsAnswerOfTwin, IsNoRead, check_answer, plain_answer, run_answer};
+ghost use Rattle.program_io.specs.Answers.{AnswerEndsBy, GoesOut, IsAnswerOfCone, IsAnswerOfTwin, IsNoRead, check_answer, diagram_answer, plain_answer, run_answer, stimuli_answer, trace_answer, why_answer};
 
 use crate::answer_text::{check_text, twin_text};
 use crate::output::{flush, write_text};
 use crate::program_fault::ProgramFault;
 use cmb_kernel::Counts;
-use runs::{SimFault, Source, View, check, cone_text, plain, simulate, sweep, twin};
+use drawn_stimuli::{Draws, Driven};
+use runs::{
+    DiagramView, SimFault, Source, View, check, cone_text, diagram, plain, simulate, stimuli, sweep,
+    trace, twin, why,
+};
 use std::alloc::Global;
 use std::io::Write;
 
@@ -78,6 +83,48 @@ pub fn write_plain<W: Write>(
     ensures no_read { IfErr result IsNoRead }
 {
     plain(alloc, source, view, out)?;
+    flush(out)?;
+    Ok(None)
+}
+
+/// Writes the timing diagram of a run and flushes once. Nothing is picked.
+///
+/// # Errors
+/// As [`write_run`].
+pub fn write_diagram<W: Write>(
+    alloc: Global,
+    source: &Source<'_>,
+    view: &DiagramView,
+    out: &mut W,
+) -> Result<Option<Counts>, ProgramFault<'static>>
+    ensures ok { IfOk result (GoesOut (λ answer. answer ≡ diagram_answer (seen_source source.now) view.now)
+        (W.contents out.old) (W.contents out.new)) }
+    ensures err { IfErr result (AnswerEndsBy (λ answer. answer ≡ diagram_answer (seen_source source.now) view.now)
+        (W.contents out.old) (W.contents out.new)) }
+    ensures no_read { IfErr result IsNoRead }
+{
+    diagram(alloc, source, view, out)?;
+    flush(out)?;
+    Ok(None)
+}
+
+/// Writes the trace of a run, a line for each event that its kernel applies, and flushes once.
+///
+/// # Errors
+/// As [`write_run`].
+pub fn write_trace<W: Write>(
+    alloc: Global,
+    source: &Source<'_>,
+    horizon: u64,
+    out: &mut W,
+) -> Result<Option<Counts>, ProgramFault<'static>>
+    ensures ok { IfOk result (GoesOut (λ answer. answer ≡ trace_answer (seen_source source.now) horizon)
+        (W.contents out.old) (W.contents out.new)) }
+    ensures err { IfErr result (AnswerEndsBy (λ answer. answer ≡ trace_answer (seen_source source.now) horizon)
+        (W.contents out.old) (W.contents out.new)) }
+    ensures no_read { IfErr result IsNoRead }
+{
+    trace(alloc, source, horizon, out)?;
     flush(out)?;
     Ok(None)
 }
@@ -149,5 +196,51 @@ pub fn write_check<W: Write>(
     let answer = check(alloc, source, horizon)?;
     let text = check_text(alloc, &answer)?;
     write_text(out, text.as_str().as_bytes())?;
+    Ok(None)
+}
+
+/// Writes the lines that say why the net of a name has its value at a tick, and flushes once.
+///
+/// # Errors
+/// As [`write_twin`].
+pub fn write_why<W: Write>(
+    alloc: Global,
+    source: &Source<'_>,
+    name: &[u8],
+    tick: u64,
+    out: &mut W,
+) -> Result<Option<Counts>, ProgramFault<'static>>
+    ensures ok { IfOk result (GoesOut (λ answer. answer ≡ why_answer (seen_source source.now) name.now tick)
+        (W.contents out.old) (W.contents out.new)) }
+    ensures err { IfErr result (AnswerEndsBy (λ answer. answer ≡ why_answer (seen_source source.now) name.now tick)
+        (W.contents out.old) (W.contents out.new)) }
+    ensures no_read { IfErr result IsNoRead }
+{
+    let text = why(alloc, source, name, tick)?;
+    write_text(out, text.as_slice())?;
+    Ok(None)
+}
+
+/// Writes the stimulus text of a netlist's inputs, and flushes once.
+///
+/// # Errors
+/// Where the horizon, the netlist or a drive is refused nothing is written. After a failed write a
+/// first part of the text went out, and after a failed flush all of it.
+pub fn write_stimuli<W: Write>(
+    alloc: Global,
+    bench: &[u8],
+    drives: &[Driven<'_>],
+    draws: Draws,
+    horizon: u64,
+    out: &mut W,
+) -> Result<Option<Counts>, ProgramFault<'static>>
+    ensures ok { IfOk result (GoesOut (λ answer. answer ≡ stimuli_answer bench.now (map seen_drive drives.now) draws horizon)
+        (W.contents out.old) (W.contents out.new)) }
+    ensures err { IfErr result (AnswerEndsBy (λ answer. answer ≡ stimuli_answer bench.now (map seen_drive drives.now) draws horizon)
+        (W.contents out.old) (W.contents out.new)) }
+    ensures no_read { IfErr result IsNoRead }
+{
+    let text = stimuli(alloc, bench, drives, draws, horizon)?;
+    write_text(out, text.as_slice())?;
     Ok(None)
 }

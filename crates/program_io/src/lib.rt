@@ -11,7 +11,10 @@ mod place;
 mod program_fault;
 pub mod status;
 
-pub use answers::{write_check, write_cone, write_plain, write_run, write_twin};
+pub use answers::{
+    write_check, write_cone, write_diagram, write_plain, write_run, write_stimuli, write_trace,
+    write_twin, write_why,
+};
 pub use fault_line::{report, write_fault_line};
 pub use input::{ReadFault, read_text};
 pub use output::{flush, write_pieces, write_text};

@@ -1,7 +1,9 @@
 mod Answer
+mod Answers
 pub mod CallerLemmas
 mod Checks
 mod Cones
+mod Diagrams
 mod Drains
 mod Ends
 mod Isolated

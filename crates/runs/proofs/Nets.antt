@@ -1,8 +1,13 @@
 -- The nets that a dump shows, and their waveforms, are such as the dump asks for.
-use Rattle.std.proofs.Common.{◌≡◌, ◌≢◌, ℕ, ◌+◌, ◌<◌, ◌≤◌, List, [], ◌∷◌, length, map, get_or, All, AllPairs, refl, sym, ap, ◌∙◌, arith}
+use Rattle.std.proofs.Common.{◌≡◌, ◌≢◌, ℕ, ◌+◌, ◌<◌, ◌≤◌, List, [], ◌∷◌, length, map, get_or, All, AllPairs, Contains, refl, sym, ap, subst, ◌∙◌, arith}
 use Rattle.std.specs.List.{range_with_len}
 use Rattle.std.proofs.lemmas.List.{length-map}
 use Rattle.std.proofs.lemmas.List.Elements.{All-head, All-tail, All-map, Contains-get_or}
+use Rattle.std.proofs.lemmas.Bool.{eqb-true}
+use Rattle.std.proofs.lemmas.Bool.Decides.{Decides-eqb}
+use Rattle.std.proofs.lemmas.Map.Made.{IsDistinct-from_AllPairs}
+use Rattle.std.proofs.lemmas.Map.Steps.{length-le_from_distinct_below}
+use Rattle.std.proofs.lemmas.Map.Views.{Contains-from_any}
 use Rattle.std.proofs.lemmas.List.FromFn.{length-range_with_len, get_or-range_with_len, length-map-range_with_len, get_or-map-range_with_len}
 use Rattle.logic3.specs.declared.value.Value.{Value}
 use Rattle.logic3.specs.declared.value.Value.TheVariants.{Unknown}
@@ -45,6 +50,19 @@ pub AllPairs-shown_nets : (kind : Show) (design : DesignView) → IsDesign desig
     AllPairs (λ (earlier later : ℕ). earlier ≢ later) (shown_nets kind design.netlist)
 AllPairs-shown_nets show.All design formed = λ i j d less inside. all_apart (length design.netlist.nets) i j d less inside
 AllPairs-shown_nets show.Outputs design formed = formed.netlist.outputs_once
+
+-- nets below a number, each once, are no more
+pub few_below : (n : ℕ) (nets : List ℕ) → All (λ net. net < n) nets → AllPairs (λ (earlier later : ℕ). earlier ≢ later) nets → length nets ≤ n
+few_below n nets below apart =
+    length-le_from_distinct_below nets n (IsDistinct-from_AllPairs Decides-eqb nets apart) (λ q found. there q (Contains-from_any eqb-true q nets found))
+  where
+    there : (q : ℕ) → Contains nets q → q < n
+    there q (k, inside, is) = subst (λ net. net < n) is (below k q inside)
+
+-- no more nets are shown than there are
+pub few-shown_nets : (kind : Show) (design : DesignView) → IsDesign design → length (shown_nets kind design.netlist) ≤ length design.circuit
+few-shown_nets kind design formed =
+    few_below (length design.circuit) (shown_nets kind design.netlist) (All-shown_nets kind design formed) (AllPairs-shown_nets kind design formed)
 
 -- before tick 0 every net shows X
 pub All-before : (circuit : Circuit) (horizon : ℕ) (nets : List ℕ) → All (λ (wave : Wave). wave.before ≡ Unknown) (waves_up_to circuit horizon nets)

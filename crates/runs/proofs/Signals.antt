@@ -63,7 +63,8 @@ module _ {A : Type 0} (name : A → List ℕ) (first second : A → ℕ → Valu
       (lines_at (variables_from (λ x. (name x, second x)) 0 xs) horizon) 1 horizon (λ tick a b. lines_at-same tick (omega arith)) in
       rw (declared, values, changes) refl
 
-traces-map : (circuit : Circuit) (wave : ℕ → Wave) (nets : List ℕ) →
+-- what waveforms of nets show
+pub traces-map : (circuit : Circuit) (wave : ℕ → Wave) (nets : List ℕ) →
     traces circuit nets (map wave nets) ≡ map (λ net. (name_of circuit net, value_at (wave net))) nets
 traces-map circuit wave [] = refl
 traces-map circuit wave (net ∷ nets) = ap (λ shown. (name_of circuit net, value_at (wave net)) ∷ shown) (traces-map circuit wave nets)

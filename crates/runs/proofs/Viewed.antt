@@ -3,13 +3,9 @@ use Rattle.std.proofs.Common.{◌≡◌, ◌≢◌, ℕ, ◌<◌, ◌≤◌, ◌
 use Rattle.std.specs.List.{slice_get}
 use Rattle.std.specs.Option.{option_map_or}
 use Rattle.std.specs.Io.KnownBytes.{Appends}
-use Rattle.std.proofs.lemmas.Bool.{cases_lt, eqb-true, ltb-false}
-use Rattle.std.proofs.lemmas.Bool.Decides.{Decides-eqb}
+use Rattle.std.proofs.lemmas.Bool.{cases_lt, ltb-false}
 use Rattle.std.proofs.lemmas.List.{length-map, get_or-map}
 use Rattle.std.proofs.lemmas.List.Elements.{All-map, All-weaker}
-use Rattle.std.proofs.lemmas.Map.Made.{IsDistinct-from_AllPairs}
-use Rattle.std.proofs.lemmas.Map.Steps.{length-le_from_distinct_below}
-use Rattle.std.proofs.lemmas.Map.Views.{Contains-from_any}
 use Rattle.std.proofs.lemmas.Option.{slice_get-get_or, slice_get-map}
 use Rattle.logic3.specs.declared.value.Value.{Value}
 use Rattle.logic3.specs.declared.value.Value.TheVariants.{Unknown}
@@ -38,7 +34,7 @@ use Rattle.runs.specs.declared.view.View.{View}
 use Rattle.runs.specs.Faults.{sim_of_bench, sim_of_build}
 use Rattle.runs.specs.Source.{SourceView, design_of_source, dump_of_source, or_fault, shown_nets, signals_of, dump_of_design}
 use Rattle.runs.specs.Viewed.{ShowsValues}
-use Rattle.runs.proofs.Nets.{length-circuit, All-shown_nets, AllPairs-shown_nets}
+use Rattle.runs.proofs.Nets.{few_below, length-circuit, All-shown_nets, AllPairs-shown_nets}
 
 -- ---- names of nets
 
@@ -86,8 +82,7 @@ module _ (design : DesignView) (ok : IsDesign design) where
 
     few : length (map entry nets) ≤ 100_000
     few =
-        let within = length-le_from_distinct_below nets (length design.circuit) (IsDistinct-from_AllPairs Decides-eqb nets once)
-        (λ net among. let found = Contains-from_any eqb-true net nets among in subst (λ n. n < length design.circuit) found.2 (below found.0 net found.1)) in
+        let within = few_below (length design.circuit) nets below once in
         omega (arith, length-map nets entry, length-circuit design ok, ok.netlist.net_limit)
 
     proper : All (λ (shown : List ℕ × (ℕ → Value)). IsName shown.0) (map entry nets)

@@ -1,22 +1,24 @@
 ghost use Rattle.std.specs.Prelude.{◌≡◌, Some};
 ghost use Rattle.runs.specs.declared.fault.SimFault.TheVariants as sim;
-ghost use Rattle.runs.specs.Faults.{line_of, name_of, sim_of_bench, sim_of_build, sim_of_cone, sim_of_dump, sim_of_schedule};
+ghost use Rattle.runs.specs.Faults.{line_of, name_of, sim_of_bench, sim_of_build, sim_of_cone, sim_of_drives, sim_of_dump, sim_of_schedule};
 
 use bench_text::BenchFault;
 use cmb_events::ScheduleFault;
 use cmb_kernel::KernelFault;
 use design::BuildFault;
+use drawn_stimuli::DriveFault;
 use fanin_cone::ConeFault;
 use std::alloc::AllocError;
 use std::fmt;
 use thiserror::Error;
+use timing_diagram::ColumnsFault;
 use timing_text::{DelayFault, OptionFault, StimulusFault};
 use vcd_dump::DumpFault;
 
 /// Why a run ended early.
 ///
 /// The first fault decides: the settings (default delay, period, horizon), the netlist, the delays,
-/// the stimuli, the schedule, the names of nets. A want of memory of any layer is [`Memory`](Self::Memory).
+/// the stimuli, the schedule, the names of nets; of a timing diagram its ticks before the netlist. A want of memory of any layer is [`Memory`](Self::Memory).
 #[derive(Clone, Copy, Debug, PartialEq, Eq, Error)]
 pub enum SimFault {
     Setting(OptionFault),
@@ -24,6 +26,10 @@ pub enum SimFault {
     Timing(DelayFault),
     Stimulus(StimulusFault),
     Schedule(ScheduleFault),
+    /// The ticks of a timing diagram can't be drawn.
+    Columns(ColumnsFault),
+    /// What is to drive the inputs is faulty.
+    Drives(DriveFault),
     /// No net has a name that was asked for.
     UnknownNet,
     /// The dump broke off.
@@ -42,7 +48,12 @@ impl SimFault {
             SimFault::Timing(fault) => fault.line(),
             SimFault::Stimulus(fault) => fault.line(),
             SimFault::Schedule(fault) => fault.line(),
-            SimFault::Setting(_) | SimFault::UnknownNet | SimFault::Dump(_) | SimFault::Memory => 0,
+            SimFault::Setting(_)
+            | SimFault::Columns(_)
+            | SimFault::Drives(_)
+            | SimFault::UnknownNet
+            | SimFault::Dump(_)
+            | SimFault::Memory => 0,
         }
     }
 
@@ -56,6 +67,8 @@ impl SimFault {
             SimFault::Timing(fault) => fault.name(),
             SimFault::Stimulus(fault) => fault.name(),
             SimFault::Schedule(fault) => fault.name(),
+            SimFault::Columns(fault) => fault.name(),
+            SimFault::Drives(fault) => fault.name(),
             SimFault::UnknownNet => "UnknownNet",
             SimFault::Dump(fault) => fault.name(),
             SimFault::Memory => "Memory",
@@ -140,6 +153,25 @@ impl From<ConeFault> for SimFault {
         match fault {
             ConeFault::UnknownNet { .. } => SimFault::UnknownNet,
             ConeFault::Memory => SimFault::Memory,
+        }
+    }
+}
+
+impl From<ColumnsFault> for SimFault {
+    ghost from_gives = { λ fault e. e ≡ sim.Columns fault };
+
+    fn from(fault: ColumnsFault) -> SimFault {
+        SimFault::Columns(fault)
+    }
+}
+
+impl From<DriveFault> for SimFault {
+    ghost from_gives = { λ fault e. e ≡ sim_of_drives fault };
+
+    fn from(fault: DriveFault) -> SimFault {
+        match fault {
+            DriveFault::Memory => SimFault::Memory,
+            other => SimFault::Drives(other),
         }
     }
 }

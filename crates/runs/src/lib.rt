@@ -3,6 +3,7 @@
 
 mod check_run;
 mod cone_run;
+mod diagram_run;
 mod draining;
 mod dumping;
 mod fault;
@@ -13,19 +14,26 @@ mod plain_run;
 mod preparation;
 mod simulation;
 mod source;
+mod stimuli_run;
 mod streaming;
 mod sweep_run;
 mod sweeps;
+mod trace_run;
 mod twin_run;
 mod view;
+mod why_run;
 mod windows;
 
 pub use check_run::{CheckAnswer, check};
 pub use cone_run::cone_text;
+pub use diagram_run::{DiagramView, diagram};
 pub use fault::SimFault;
 pub use plain_run::plain;
 pub use simulation::{Report, simulate};
 pub use source::{Picks, Source};
+pub use stimuli_run::stimuli;
 pub use sweep_run::sweep;
+pub use trace_run::trace;
 pub use twin_run::{Side, TwinAnswer, TwinFault, twin};
 pub use view::{Show, View};
+pub use why_run::why;

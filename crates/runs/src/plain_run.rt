@@ -66,7 +66,7 @@ fn dump_by_plain_engine<W: Write>(
 }
 
 /// The waveforms of the nets that are shown.
-fn shown_waves(
+pub(crate) fn shown_waves(
     alloc: Global,
     design: &Design,
     horizon: Horizon,

@@ -117,7 +117,7 @@ fn compare(
 }
 
 /// The number of the net of this name.
-fn net_named(design: &Design, name: &[u8]) -> Result<u32, SimFault>
+pub(crate) fn net_named(design: &Design, name: &[u8]) -> Result<u32, SimFault>
     ensures { result ≡ net_or_unknown design.now name.now }
 {
     design.find(name).ok_or(SimFault::UnknownNet)

@@ -1,3 +1,5 @@
+mod Alike
+pub mod CallerLemmas
 mod Escapes
 mod Joined
 mod Nets

@@ -1,7 +1,7 @@
 -- The ticks that are drawn, and their columns.
 use Rattle.std.specs.Prelude.{ℕ, ◌+◌, ◌-◌, ◌*◌, ◌/◌, ◌≤◌, ◌==◌, nat_lt, if◌then◌else◌, min, Result, Ok, Err}
 use Rattle.timing_diagram.specs.declared.fault.ColumnsFault.{ColumnsFault}
-use Rattle.timing_diagram.specs.declared.fault.ColumnsFault.TheVariants.{NoStep, Backwards, TooManyColumns}
+use Rattle.timing_diagram.specs.declared.fault.ColumnsFault.TheVariants.{NoStep, Backwards, PastHorizon, TooManyColumns}
 
 -- the ticks from one to another, so many of them a column
 pub record Ticks : Type 0 where
@@ -31,10 +31,11 @@ pub record IsDrawable (ticks : Ticks) : Type 0 where
   pub forward : ticks.from ≤ ticks.to
   pub few : column_count ticks ≤ most_columns
 
--- the ticks from one to another by a step, where they can be drawn
-abbrev pub columns_of : ℕ → ℕ → ℕ → Result Ticks ColumnsFault
-columns_of from to step =
+-- the ticks from one to another by a step, where they can be drawn of a run to this horizon
+abbrev pub columns_of : ℕ → ℕ → ℕ → ℕ → Result Ticks ColumnsFault
+columns_of from to step horizon =
     if step == 0 then Err NoStep
     else if nat_lt to from then Err Backwards
+    else if nat_lt horizon to then Err PastHorizon
     else if nat_lt most_columns ((to - from) / step + 1) then Err TooManyColumns
     else Ok (record { from = from; to = to; step = step })

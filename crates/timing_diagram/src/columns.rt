@@ -1,8 +1,9 @@
-ghost use Rattle.std.specs.Prelude.{◌≡◌, ◌<◌, ◌≤◌, ◌*◌, ◌+◌, ◌/◌, Result, Ok, Err};
+ghost use Rattle.std.specs.Prelude.{◌≡◌, ◌<◌, ◌≤◌, ◌*◌, ◌+◌, ◌/◌, Result, Ok, Err, IfOk};
 ghost use Rattle.timing_diagram.specs.Columns.{most_columns};
 
 use crate::fault::ColumnsFault;
 use std::marker::Model;
+use timing_text::Horizon;
 
 /// The most columns of a diagram.
 const MOST_COLUMNS: u64 = 1_000;
@@ -29,21 +30,27 @@ impl Model for Columns {
 }
 
 impl Columns {
-    ghost use Rattle.timing_diagram.specs.Columns.{columns_of, column_count, first_tick, last_tick};
+    ghost use Rattle.timing_diagram.specs.Columns.{IsDrawable, columns_of, column_count, first_tick, last_tick};
 
-    /// The ticks from `from` to `to`, in columns of `step` ticks.
+    /// The ticks from `from` to `to`, in columns of `step` ticks, of a run to this horizon.
     ///
     /// # Errors
     /// [`ColumnsFault::NoStep`] where `step` is 0, else [`ColumnsFault::Backwards`] where `to` is before
-    /// `from`, else [`ColumnsFault::TooManyColumns`] where that is more than 1,000 columns.
-    pub fn new(from: u64, to: u64, step: u64) -> Result<Columns, ColumnsFault>
-        ensures { result ≡ columns_of from to step }
+    /// `from`, else [`ColumnsFault::PastHorizon`] where `to` is past the horizon, else
+    /// [`ColumnsFault::TooManyColumns`] where that is more than 1,000 columns.
+    pub fn new(from: u64, to: u64, step: u64, horizon: Horizon) -> Result<Columns, ColumnsFault>
+        ensures exact { result ≡ columns_of from to step horizon }
+        ensures drawable { IfOk result IsDrawable }
+        ensures within { IfOk result (λ ticks. ticks.to ≤ horizon) }
     {
         if step == 0 {
             return Err(ColumnsFault::NoStep);
         }
         if to < from {
             return Err(ColumnsFault::Backwards);
+        }
+        if to > horizon.ticks() {
+            return Err(ColumnsFault::PastHorizon);
         }
         if (to - from) / step >= MOST_COLUMNS {
             return Err(ColumnsFault::TooManyColumns);

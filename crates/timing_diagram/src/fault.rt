@@ -11,6 +11,8 @@ pub enum ColumnsFault {
     NoStep,
     /// The last tick is before the first.
     Backwards,
+    /// The last tick is past the horizon of the run.
+    PastHorizon,
     /// More than 1,000 columns.
     TooManyColumns,
 }
@@ -23,6 +25,7 @@ impl ColumnsFault {
         match self {
             ColumnsFault::NoStep => "NoStep",
             ColumnsFault::Backwards => "Backwards",
+            ColumnsFault::PastHorizon => "PastHorizon",
             ColumnsFault::TooManyColumns => "TooManyColumns",
         }
     }

@@ -1,0 +1,9 @@
+mod Chain
+mod Inside
+mod LastTicks
+mod Marked
+mod NetFacts
+mod Pieces
+mod PinLists
+mod Places
+mod SignalsUpTo

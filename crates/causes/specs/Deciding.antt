@@ -1,0 +1,71 @@
+-- Which pin of a gate decides what it shows, and since when signals show what they do.
+use Rattle.std.specs.Prelude.{ℕ, zero, suc, ◌+◌, ◌==◌, nat_le, max, if◌then◌else◌, List, [], ◌∷◌, Option, None, Some}
+use Rattle.std.specs.List.{list_any, position_or_len}
+use Rattle.std.specs.Option.{option_and_then, option_map_or}
+use Rattle.logic3.specs.declared.value.Value.{Value}
+use Rattle.logic3.specs.declared.value.Value.TheVariants.{Zero, One, Unknown}
+use Rattle.logic3.specs.declared.change.Change.{Change}
+use Rattle.logic3.specs.declared.gates.GateKind.{GateKind}
+use Rattle.logic3.specs.declared.gates.GateKind.TheVariants.{And, Nand, Or, Nor, Xor, Xnor, Not, Buf}
+use Rattle.logic3.specs.Value.{is_same}
+use Rattle.logic3.specs.Gate.{value_of_gate}
+use Rattle.design.specs.Samples.{source_tick}
+
+-- the value of one pin that settles what a gate shows, whatever the others show
+abbrev pub controlling : GateKind → Option Value
+controlling And = Some Zero
+controlling Nand = Some Zero
+controlling Or = Some One
+controlling Nor = Some One
+controlling Xor = None
+controlling Xnor = None
+controlling Not = None
+controlling Buf = None
+
+-- a value that some pin shows
+abbrev pub if_shown : List Value → Value → Option Value
+if_shown values value = if list_any (is_same value) values then Some value else None
+
+-- the value by which pins decide: X where the gate shows X, else the controlling one where some pin shows it
+abbrev pub deciding_value : GateKind → List Value → Option Value
+deciding_value kind values =
+    if is_same (value_of_gate kind values) Unknown then Some Unknown
+    else option_and_then (if_shown values) (controlling kind)
+
+-- the greatest of some numbers
+abbrev pub greatest : List ℕ → ℕ
+greatest [] = 0
+greatest (number ∷ numbers) = max number (greatest numbers)
+
+-- the place of the first of the greatest
+abbrev pub first_greatest : List ℕ → ℕ
+first_greatest numbers = position_or_len (λ number. number == greatest numbers) numbers
+
+-- the place of the pin that decides, from what the pins show and since when: the first by its value, else the first of those that
+-- changed last
+abbrev pub deciding_place : GateKind → List Value → List ℕ → ℕ
+deciding_place kind values since =
+    option_map_or (λ value. position_or_len (is_same value) values) (deciding_value kind values) (first_greatest since)
+
+-- the tick from which on a signal shows what it shows at a tick
+abbrev pub since : (ℕ → Value) → ℕ → ℕ
+since signal zero = 0
+since signal (suc tick) = if is_same (signal (suc tick)) (signal tick) then since signal tick else suc tick
+
+-- the same of a pin: its source's, later by the delay of its wire, and 0 before that is over
+abbrev pub pin_since : ℕ → (ℕ → Value) → ℕ → ℕ
+pin_since wire signal tick = option_map_or (λ at. since signal at + wire) (source_tick wire tick) 0
+
+-- the same of the pins of these sources, each with its wire
+abbrev pub pins_since : (ℕ → ℕ → Value) → ℕ → List ℕ → List ℕ → List ℕ
+pins_since signals tick (pin ∷ pins) (wire ∷ wires) = pin_since wire (signals pin) tick ∷ pins_since signals tick pins wires
+pins_since signals tick _ _ = []
+
+-- the tick of the last of the changes that is not after a tick, else the one before
+abbrev pub tick_after : Option ℕ → List Change → ℕ → Option ℕ
+tick_after before [] tick = before
+tick_after before (change ∷ changes) tick =
+    tick_after (if nat_le change.tick tick then Some change.tick else before) changes tick
+
+abbrev pub last_tick : List Change → ℕ → Option ℕ
+last_tick changes tick = tick_after None changes tick

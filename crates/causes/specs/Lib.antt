@@ -1,0 +1,14 @@
+pub use Rattle.logic3.specs.Value
+pub use Rattle.logic3.specs.Gate
+pub use Rattle.logic3.specs.Wave
+pub use Rattle.logic3.specs.Rising
+pub use Rattle.netlist.specs.Netlist
+pub use Rattle.bench_text.specs.Canonical
+pub use Rattle.design.specs.Circuit
+pub use Rattle.design.specs.Samples
+pub use Rattle.design.specs.Equations
+pub mod Deciding
+pub mod Reasons
+pub mod Causes
+pub mod Marks
+pub mod Text

@@ -1,0 +1,22 @@
+-- Marks for the nets that causes have with each value.
+use Rattle.std.specs.Prelude.{◌≡◌, ℕ, ◌+◌, ◌*◌, ◌<◌, List, Option, None, option_map, slice_index_or}
+use Rattle.logic3.specs.declared.value.Value.{Value}
+use Rattle.logic3.specs.declared.value.Value.TheVariants.{Zero, One, Unknown}
+use Rattle.causes.specs.declared.cause.Cause.{Cause}
+use Rattle.causes.specs.Causes.{repeated}
+
+-- a number for each value
+abbrev pub value_number : Value → ℕ
+value_number Zero = 0
+value_number One = 1
+value_number Unknown = 2
+
+-- the place of the mark of a net with a value
+abbrev pub mark_place : ℕ → Value → ℕ
+mark_place net value = 3 * net + value_number value
+
+-- the mark of a net with a value is the tick of the first cause that has the two
+abbrev pub AreMarked : ℕ → List Cause → List (Option ℕ) → Type 0
+AreMarked nets causes marks =
+    (net : ℕ) (value : Value) → net < nets →
+    slice_index_or marks (mark_place net value) None ≡ option_map (λ (cause : Cause). cause.tick) (repeated causes net value)

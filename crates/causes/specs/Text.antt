@@ -1,0 +1,72 @@
+-- Causes as text, a line each.
+use Rattle.std.specs.Prelude.{ℕ, List, [], ◌++◌, flat_map, codes, decimal, Option, None, Some, slice_get}
+use Rattle.std.specs.List.{zip}
+use Rattle.std.specs.Option.{option_map_or}
+use Rattle.logic3.specs.declared.value.Value.{Value}
+use Rattle.logic3.specs.declared.value.Value.TheVariants.{Zero, One, Unknown}
+use Rattle.netlist.specs.Netlist.{net_at, name_at}
+use Rattle.bench_text.specs.Canonical.{canonical_line, net_statement}
+use Rattle.design.specs.Circuit.{Net}
+use Rattle.design.specs.Design.{DesignView}
+use Rattle.design.specs.Equations.{value_of}
+use Rattle.design.specs.Samples.{asked_tick, source_tick}
+use Rattle.causes.specs.declared.cause.Cause.{Cause}
+use Rattle.causes.specs.declared.cause.Reason.{Reason}
+use Rattle.causes.specs.declared.cause.Reason.TheVariants.{Pin, Stimulus, NoStimulus, BeforeDelay, BeforeFirstSample, BeforeWire, Loop}
+use Rattle.causes.specs.Causes.{causes_of}
+
+abbrev pub value_text : Value → List ℕ
+value_text Zero = codes "0"
+value_text One = codes "1"
+value_text Unknown = codes "x"
+
+-- a name at a tick, as `y@7`
+abbrev pub moment_text : List ℕ → ℕ → List ℕ
+moment_text name tick = name ++ codes "@" ++ decimal tick
+
+-- what it shows there, as `y@7 = 1`
+abbrev pub shown_text : List ℕ → ℕ → Value → List ℕ
+shown_text name tick value = moment_text name tick ++ codes " = " ++ value_text value
+
+-- what a pin shows: its source at the tick of it that the pin shows, and `a = x` before the delay of its wire is over
+abbrev pub pin_text : DesignView → ℕ → ℕ × ℕ → List ℕ
+pin_text design asked (pin, wire) =
+    codes ", "
+    ++ option_map_or (λ at. shown_text (name_at design.netlist pin) at (value_of design.circuit pin at)) (source_tick wire asked)
+    (name_at design.netlist pin ++ codes " = x")
+
+-- what the pins of a net show at the tick at which it looks at them
+abbrev pub pins_text : DesignView → List ℕ → List ℕ → ℕ → List ℕ
+pins_text design pins wires asked = flat_map (pin_text design asked) (zip pins wires)
+
+abbrev pub looks_text : DesignView → Option Net → ℕ → List ℕ
+looks_text design None tick = []
+looks_text design (Some net) tick = option_map_or (pins_text design net.pins net.wires) (asked_tick net tick) []
+
+-- the stimulus of an input, as in a stimulus text
+abbrev pub stimulus_text : List ℕ → Value → ℕ → List ℕ
+stimulus_text name value tick = codes ", stimulus " ++ decimal tick ++ codes " " ++ name ++ codes " " ++ value_text value
+
+abbrev pub loop_text : List ℕ → ℕ → List ℕ
+loop_text name tick = codes ", a loop: the same as " ++ moment_text name tick
+
+-- why, behind the statement of the net
+abbrev pub reason_text : DesignView → Cause → Reason → List ℕ
+reason_text design cause (Pin place) = looks_text design (slice_get design.circuit cause.net) cause.tick
+reason_text design cause (BeforeWire place) =
+    looks_text design (slice_get design.circuit cause.net) cause.tick ++ codes ", before the delay of a wire is over"
+reason_text design cause (Stimulus tick) = stimulus_text (name_at design.netlist cause.net) cause.value tick
+reason_text design cause NoStimulus = codes ", no stimulus yet"
+reason_text design cause BeforeDelay = codes ", before its delay is over"
+reason_text design cause BeforeFirstSample = codes ", before its first sample shows"
+reason_text design cause (Loop tick) = loop_text (name_at design.netlist cause.net) tick
+
+-- the line of a cause: what the net shows, its statement, and why
+abbrev pub cause_line : DesignView → Cause → List ℕ
+cause_line design cause =
+    shown_text (name_at design.netlist cause.net) cause.tick cause.value ++ codes ": "
+    ++ canonical_line (net_statement design.netlist (net_at design.netlist cause.net)) ++ reason_text design cause cause.reason ++ codes "\n"
+
+-- the lines of the causes of a net's value at a tick
+unfoldable pub why_text : DesignView → ℕ → ℕ → List ℕ
+why_text design net tick = flat_map (cause_line design) (causes_of design.circuit net tick)

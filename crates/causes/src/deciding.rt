@@ -1,0 +1,88 @@
+//! Which pin of a gate decides what it shows.
+ghost use Rattle.std.specs.Prelude.{◌≡◌, ◌<◌, ◌==◌, length};
+ghost use Rattle.std.specs.List.{position_or_len};
+ghost use Rattle.logic3.specs.Gate.{HasArity};
+ghost use Rattle.logic3.specs.Rising.{TicksRise};
+ghost use Rattle.logic3.specs.Value.{is_same};
+ghost use Rattle.causes.specs.Deciding.{controlling, deciding_place, deciding_value, greatest, last_tick};
+
+use logic3::{Change, GateKind, Value, gate};
+
+/// The value that decides what a gate of this kind shows as soon as one pin has it, if there is one.
+fn controlling(kind: GateKind) -> Option<Value>
+    ensures { result ≡ controlling kind }
+{
+    match kind {
+        GateKind::And | GateKind::Nand => Some(Value::Zero),
+        GateKind::Or | GateKind::Nor => Some(Value::One),
+        GateKind::Xor | GateKind::Xnor | GateKind::Not | GateKind::Buf => None,
+    }
+}
+
+/// The place of the first pin that shows a value; how many pins there are, where none does.
+fn place_of(values: &[Value], value: Value) -> usize
+    ensures { result ≡ position_or_len (is_same value) values.now }
+{
+    values.iter().take_while(|shown| value != **shown).count()
+}
+
+/// The value of the pins that decide, if it is by their value that they do.
+fn deciding_value(kind: GateKind, values: &[Value]) -> Option<Value>
+    requires { HasArity kind (length values.now) }
+    ensures { result ≡ deciding_value kind values.now }
+{
+    if gate(kind, values) == Value::Unknown {
+        return Some(Value::Unknown);
+    }
+    let value = controlling(kind)?;
+    if place_of(values, value) < values.len() {
+        Some(value)
+    } else {
+        None
+    }
+}
+
+/// The greatest of these ticks; 0 where there are none.
+fn greatest(ticks: &[u64]) -> u64
+    ensures { result ≡ greatest ticks.now }
+{
+    let mut top = 0;
+    for tick in ticks {
+        if *tick > top {
+            top = *tick;
+        }
+    }
+    top
+}
+
+/// The place of the first tick that is this one; how many there are, where none is.
+fn place_of_tick(ticks: &[u64], tick: u64) -> usize
+    ensures { result ≡ position_or_len (λ other. other == tick) ticks.now }
+{
+    ticks.iter().take_while(|other| **other != tick).count()
+}
+
+/// The place of the pin that decides what a gate shows, from what the pins show and since when.
+pub fn deciding_place(kind: GateKind, values: &[Value], since: &[u64]) -> usize
+    requires arity { HasArity kind (length values.now) }
+    requires each { length since.now ≡ length values.now }
+    ensures place { result ≡ deciding_place kind values.now since.now }
+    ensures within { result < length values.now }
+{
+    match deciding_value(kind, values) {
+        Some(value) => place_of(values, value),
+        None => place_of_tick(since, greatest(since)),
+    }
+}
+
+/// The tick of the last of the changes that is not after a tick, if there is one.
+///
+/// Takes logarithmic time.
+pub fn last_tick(changes: &[Change], tick: u64) -> Option<u64>
+    requires { TicksRise changes.now }
+    ensures { result ≡ last_tick changes.now tick }
+{
+    let due = changes.partition_point(|change| u64::from(change.tick) <= tick);
+    let change = changes[..due].last()?;
+    Some(u64::from(change.tick))
+}

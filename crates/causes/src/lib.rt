@@ -1,0 +1,14 @@
+//! Why a net has its value at a tick: a walk back over the pins that decide, and its text.
+#![tactic(auto)]
+
+mod cause;
+mod deciding;
+mod pins;
+mod reasons;
+mod statement;
+mod text;
+mod walk;
+
+pub use cause::{Cause, Reason};
+pub use text::why_text;
+pub use walk::why;

@@ -1,0 +1,68 @@
+//! The subcommand `draw`: what it takes, and the order that it is.
+use crate::described::{Absent, Described, Takes};
+use crate::help::subcommand_named;
+use crate::options::{ALONE, LENGTH, SHOWN, SOURCE, number_given, show_given, source_given};
+use clap::{ArgMatches, Command};
+use orders::{Order, PickOptions};
+use runs::DiagramView;
+use std::alloc::{AllocError, Global};
+use timing_diagram::Form;
+
+const ABOUT: &str =
+    "Simulates a circuit and draws a timing diagram on standard output, as text or as SVG";
+
+const USAGE: &str = "nullsim draw --bench <FILE> --horizon <N> [OPTIONS]";
+
+const FROM: &str = "The first tick that is drawn";
+
+const TO: &str = "The last tick that is drawn; without it the horizon";
+
+const STEP: &str = "How many ticks stand in a column; there are 1000 columns at most";
+
+const SVG: &str = "Draw a picture, an SVG text, which browsers show";
+
+static OPTIONS: [Described; 4] = [
+    Described("from", Takes::Number, Absent::Default("0"), FROM),
+    Described("to", Takes::Number, Absent::Nothing, TO),
+    Described("step", Takes::Number, Absent::Default("1"), STEP),
+    Described("svg", Takes::Nothing, Absent::Nothing, SVG),
+];
+
+/// The subcommand with its options.
+pub(super) fn subcommand<'a>(alloc: Global) -> Result<Command<'a>, AllocError> {
+    subcommand_named(
+        alloc,
+        "draw",
+        ABOUT,
+        USAGE,
+        &[SOURCE.as_slice(), LENGTH.as_slice(), SHOWN.as_slice(), OPTIONS.as_slice()],
+    )
+}
+
+/// The order of its options.
+pub(super) fn order_given<'a>(options: &ArgMatches<'a>) -> Order<'a> {
+    Order::Draw {
+        source: source_given(options, &ALONE, PickOptions::Nothing),
+        view: view_given(options),
+    }
+}
+
+fn view_given(options: &ArgMatches<'_>) -> DiagramView {
+    let horizon = number_given(options, "horizon");
+    DiagramView {
+        show: show_given(options),
+        horizon,
+        from: number_given(options, "from"),
+        to: options.get_one("to").unwrap_or(horizon),
+        step: number_given(options, "step"),
+        form: form_given(options),
+    }
+}
+
+fn form_given(options: &ArgMatches<'_>) -> Form {
+    if options.get_flag("svg") {
+        Form::Svg
+    } else {
+        Form::Text
+    }
+}

@@ -1,0 +1,36 @@
+//! The options that pick the events to begin with, and what they pick.
+use crate::described::{Absent, Described, Takes};
+use crate::help::mistake;
+use crate::options::{SCHEDULE, number_given};
+use clap::error::ErrorKind;
+use clap::{ArgMatches, Error};
+use orders::PickOptions;
+use std::alloc::Global;
+
+const SEED: &str = "What the events that are drawn start from";
+
+const PICKS: &str = "How many events to draw in place of a schedule: 0 to 10000000";
+
+const BOTH: &str = "the argument '--schedule <FILE>' cannot be used with '--picks <N>' above 0";
+
+pub(super) static PICKED: [Described; 3] = [
+    Described("schedule", Takes::File, Absent::Nothing, SCHEDULE),
+    Described("seed", Takes::Number, Absent::Default("0"), SEED),
+    Described("picks", Takes::Number, Absent::Default("0"), PICKS),
+];
+
+/// What the options pick. A schedule beside events to be drawn is a mistake.
+pub(super) fn picks_given<'a>(
+    alloc: Global,
+    options: &ArgMatches<'a>,
+) -> Result<PickOptions<'a>, Error> {
+    match (options.get_str("schedule"), number_given(options, "picks")) {
+        (None, 0) => Ok(PickOptions::Nothing),
+        (Some(name), 0) => Ok(PickOptions::File(name)),
+        (None, picks) => Ok(PickOptions::Seeded {
+            seed: number_given(options, "seed"),
+            picks,
+        }),
+        (Some(_), _) => Err(mistake(alloc, ErrorKind::ArgumentConflict, BOTH)?),
+    }
+}

@@ -1,0 +1,55 @@
+//! The subcommand `stimuli`: what it takes, and the order that it is.
+use crate::described::{Absent, Described, Takes};
+use crate::drives::{DRIVES, drives_given};
+use crate::help::subcommand_named;
+use crate::options::{BENCH, LENGTH, number_given};
+use clap::{ArgMatches, Command, Error};
+use drawn_stimuli::Draws;
+use orders::Order;
+use std::alloc::{AllocError, Global};
+
+const ABOUT: &str =
+    "Writes what drives the inputs of a circuit: clocks, held values and pulses by name, and drawn\n\
+     values for all other inputs";
+
+const USAGE: &str = "nullsim stimuli --bench <FILE> --horizon <N> [OPTIONS]";
+
+const EVERY: &str = "How many ticks lie between drawn values: at least 1";
+
+const SEED: &str = "What the drawn values start from";
+
+static CIRCUIT: [Described; 1] = [Described("bench", Takes::File, Absent::Refused, BENCH)];
+
+static DRAWS: [Described; 2] = [
+    Described("every", Takes::Number, Absent::Default("10"), EVERY),
+    Described("seed", Takes::Number, Absent::Default("0"), SEED),
+];
+
+/// The subcommand with its options.
+pub(super) fn subcommand<'a>(alloc: Global) -> Result<Command<'a>, AllocError> {
+    subcommand_named(
+        alloc,
+        "stimuli",
+        ABOUT,
+        USAGE,
+        &[
+            CIRCUIT.as_slice(),
+            LENGTH.as_slice(),
+            DRIVES.as_slice(),
+            DRAWS.as_slice(),
+        ],
+    )
+}
+
+/// The order of its options.
+pub(super) fn order_given<'a>(alloc: Global, options: &ArgMatches<'a>) -> Result<Order<'a>, Error> {
+    Ok(Order::Stimuli {
+        bench: options.get_str("bench").unwrap_or(""),
+        drives: drives_given(alloc, options)?,
+        draws: Draws {
+            seed: number_given(options, "seed"),
+            every: number_given(options, "every"),
+        },
+        horizon: number_given(options, "horizon"),
+    })
+}

@@ -1,0 +1,32 @@
+//! The subcommand `trace`: what it takes, and the order that it is.
+use crate::help::subcommand_named;
+use crate::options::{ALONE, LENGTH, SOURCE, number_given, source_given};
+use crate::picks::{PICKED, picks_given};
+use clap::{ArgMatches, Command, Error};
+use orders::Order;
+use std::alloc::{AllocError, Global};
+
+const ABOUT: &str =
+    "Simulates a circuit by processes that exchange messages, and writes a line for each event:\n\
+     lines such as advance a 0 -> 6: 0@0 1@3 null 6 and deliver y 0: 1@3";
+
+const USAGE: &str = "nullsim trace --bench <FILE> --horizon <N> [OPTIONS]";
+
+/// The subcommand with its options.
+pub(super) fn subcommand<'a>(alloc: Global) -> Result<Command<'a>, AllocError> {
+    subcommand_named(
+        alloc,
+        "trace",
+        ABOUT,
+        USAGE,
+        &[SOURCE.as_slice(), LENGTH.as_slice(), PICKED.as_slice()],
+    )
+}
+
+/// The order of its options.
+pub(super) fn order_given<'a>(alloc: Global, options: &ArgMatches<'a>) -> Result<Order<'a>, Error> {
+    Ok(Order::Trace {
+        source: source_given(options, &ALONE, picks_given(alloc, options)?),
+        horizon: number_given(options, "horizon"),
+    })
+}

@@ -1,0 +1,42 @@
+//! The subcommand `why`: what it takes, and the order that it is.
+use crate::described::{Absent, Described, Takes};
+use crate::help::subcommand_named;
+use crate::options::{ALONE, SOURCE, number_given, source_given};
+use clap::{ArgMatches, Command};
+use orders::{Order, PickOptions};
+use std::alloc::{AllocError, Global};
+
+const ABOUT: &str =
+    "Writes why a net has its value at a tick: a line for each net on the way back over the pins\n\
+     that decide, down to a cause that needs no other";
+
+const USAGE: &str = "nullsim why --bench <FILE> --net <NAME> --at <TICK> [OPTIONS]";
+
+const NET: &str = "The net, by its name";
+
+const AT: &str = "The tick: 0 to 10000000";
+
+static OPTIONS: [Described; 2] = [
+    Described("net", Takes::Net, Absent::Refused, NET),
+    Described("at", Takes::Number, Absent::Refused, AT),
+];
+
+/// The subcommand with its options.
+pub(super) fn subcommand<'a>(alloc: Global) -> Result<Command<'a>, AllocError> {
+    subcommand_named(
+        alloc,
+        "why",
+        ABOUT,
+        USAGE,
+        &[SOURCE.as_slice(), OPTIONS.as_slice()],
+    )
+}
+
+/// The order of its options.
+pub(super) fn order_given<'a>(options: &ArgMatches<'a>) -> Order<'a> {
+    Order::Why {
+        source: source_given(options, &ALONE, PickOptions::Nothing),
+        net: options.get_str("net").unwrap_or("").as_bytes(),
+        tick: number_given(options, "at"),
+    }
+}

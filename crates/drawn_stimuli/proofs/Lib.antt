@@ -1,0 +1,10 @@
+mod KeptDrives
+mod Quiet
+mod Drawn
+mod TextLines
+mod ReadLine
+mod DistinctInputs
+mod InOrder
+mod ReadBack
+mod DrivesCount
+mod Words

@@ -1,0 +1,71 @@
+-- The stimulus text of drives and draws.
+use Rattle.std.specs.Prelude.{ℕ, ◌+◌, ◌==◌, if◌then◌else◌, List, ◌++◌, flat_map, map, Result, Ok, Err, codes, decimal, []}
+use Rattle.std.specs.List.{range_with_len}
+use Rattle.std.specs.Option.{option_map_or}
+use Rattle.logic3.specs.declared.value.Value.{Value}
+use Rattle.logic3.specs.declared.value.Value.TheVariants.{Zero, One, Unknown}
+use Rattle.logic3.specs.Wave.{change_at}
+use Rattle.text_lines.specs.Text.{unless_too_long}
+use Rattle.netlist.specs.Netlist.{NetlistView}
+use Rattle.timing_text.specs.Stimuli.{NamedChange}
+use Rattle.drawn_stimuli.specs.declared.drive.Draws.{Draws}
+use Rattle.drawn_stimuli.specs.declared.drive.Rounds.{Rounds}
+use Rattle.drawn_stimuli.specs.declared.fault.DriveFault.{DriveFault}
+use Rattle.drawn_stimuli.specs.declared.fault.DriveFault.TheVariants.{BadEvery, TooLong}
+use Rattle.drawn_stimuli.specs.Signals.{signal_of}
+use Rattle.drawn_stimuli.specs.Inputs.{DriveView, InputView, drawn_count, first_fault, inputs_of}
+
+abbrev pub value_word : Value → List ℕ
+value_word Zero = codes "0"
+value_word One = codes "1"
+value_word Unknown = codes "x"
+
+-- ---- the changes
+
+-- the change of an input at a tick, if it changes there
+abbrev pub input_changes : Rounds → ℕ → InputView → List NamedChange
+input_changes rounds tick input =
+    map (λ change. record { name = input.name; change = change }) (change_at (signal_of rounds input.source) tick)
+
+-- the changes at a tick, in the order of inputs
+abbrev pub tick_changes : Rounds → List InputView → ℕ → List NamedChange
+tick_changes rounds inputs tick = flat_map (input_changes rounds tick) inputs
+
+-- the changes at each tick up to the horizon
+abbrev pub drawn_changes : Rounds → List InputView → ℕ → List NamedChange
+drawn_changes rounds inputs horizon = flat_map (tick_changes rounds inputs) (range_with_len 0 (horizon + 1))
+
+-- ---- their lines
+
+-- `TICK NAME VALUE`
+abbrev pub change_line : NamedChange → List ℕ
+change_line s = decimal s.change.tick ++ codes " " ++ s.name ++ codes " " ++ value_word s.change.value ++ codes "\n"
+
+abbrev pub input_text : Rounds → ℕ → InputView → List ℕ
+input_text rounds tick input = flat_map change_line (input_changes rounds tick input)
+
+abbrev pub tick_text : Rounds → List InputView → ℕ → List ℕ
+tick_text rounds inputs tick = flat_map (input_text rounds tick) inputs
+
+-- a line for each change
+abbrev pub lines_text : Rounds → List InputView → ℕ → List ℕ
+lines_text rounds inputs horizon = flat_map change_line (drawn_changes rounds inputs horizon)
+
+-- the rounds of the inputs that are drawn
+abbrev pub rounds_of : NetlistView → List DriveView → Draws → Rounds
+rounds_of netlist drives draws = record { draws = draws; inputs = drawn_count (inputs_of netlist drives) }
+
+-- the value of an input at a tick
+abbrev pub driven_value : NetlistView → List DriveView → Draws → InputView → ℕ → Value
+driven_value netlist drives draws input = signal_of (rounds_of netlist drives draws) input.source
+
+-- the changes of the inputs of a netlist, as the text tells them
+abbrev pub drawn_stimuli : NetlistView → List DriveView → Draws → ℕ → List NamedChange
+drawn_stimuli netlist drives draws horizon = drawn_changes (rounds_of netlist drives draws) (inputs_of netlist drives) horizon
+
+-- the text of drives and draws, or the first fault
+abbrev pub stimuli_text : NetlistView → List DriveView → Draws → ℕ → Result (List ℕ) DriveFault
+stimuli_text netlist drives draws horizon =
+    if draws.every == 0 then Err BadEvery
+    else option_map_or Err (first_fault netlist [] drives)
+    (unless_too_long TooLong Ok (lines_text (rounds_of netlist drives draws) (inputs_of netlist drives) horizon))

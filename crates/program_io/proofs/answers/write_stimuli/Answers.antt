@@ -1,0 +1,33 @@
+use Rattle.std.proofs.lemmas.Result.{err_from_is_err_and}
+use Rattle.std.proofs.Common.{◌≡◌, refl, sym, ap, map}
+use Rattle.drawn_stimuli.specs.Inputs.{seen_drive}
+use Rattle.runs.specs.Driven.{stimuli_of_drives}
+use Rattle.program_io.specs.Answers.{answered, just, stimuli_answer}
+use Rattle.program_io.proofs.AnswerEnds.{AnswerEndsBy-refused, AnswerEndsBy-text, GoesOut-text, WriteEndsBy-no_read, fault_of_run-no_read}
+use Rattle.program_io.proofs.answers.write_stimuli.Goals as goal
+
+pub returns-in_err-text-clause-err : goal.returns-in_err-text-clause-err
+returns-in_err-text-clause-err g c =
+    let p = err_from_is_err_and c.from_residual.result c.from_residual.ensures.1 in
+    rw (p.1, p.2) (AnswerEndsBy-refused (λ answer. answer ≡ stimuli_answer c.args.bench.now (map seen_drive c.args.drives.now) c.args.draws c.args.horizon) just (stimuli_of_drives c.args.bench.now (map seen_drive c.args.drives.now) c.args.draws c.args.horizon) refl _ _ c.in_err-text.ensures.err)
+
+pub returns-in_err-text-clause-no_read : goal.returns-in_err-text-clause-no_read
+returns-in_err-text-clause-no_read g c =
+    let p = err_from_is_err_and c.from_residual.result c.from_residual.ensures.1 in
+    rw (p.1, p.2) (fault_of_run-no_read _ _)
+
+pub returns-in_err-write_text-clause-err : goal.returns-in_err-write_text-clause-err
+returns-in_err-write_text-clause-err g c =
+    let p = err_from_is_err_and c.from_residual-in_err-write_text.result c.from_residual-in_err-write_text.ensures.1 in
+    rw (p.1, p.2) (AnswerEndsBy-text (λ answer. answer ≡ stimuli_answer c.args.bench.now (map seen_drive c.args.drives.now) c.args.draws c.args.horizon) c.in_ok-text.text.items _
+    (ap (answered just) (sym c.in_ok-text.ensures.ok)) c.as_slice.ensures.value _ _ _ c.in_err-write_text.ensures.err)
+
+pub returns-in_err-write_text-clause-no_read : goal.returns-in_err-write_text-clause-no_read
+returns-in_err-write_text-clause-no_read g c =
+    let p = err_from_is_err_and c.from_residual-in_err-write_text.result c.from_residual-in_err-write_text.ensures.1 in
+    rw (p.1, p.2) (WriteEndsBy-no_read _ _ _ _ c.in_err-write_text.ensures.err)
+
+pub returns-clause-ok : goal.returns-clause-ok
+returns-clause-ok g c =
+    GoesOut-text (λ answer. answer ≡ stimuli_answer c.args.bench.now (map seen_drive c.args.drives.now) c.args.draws c.args.horizon) c.in_ok-text.text.items _
+    (ap (answered just) (sym c.in_ok-text.ensures.ok)) c.as_slice.ensures.value _ _ c.in_ok-write_text.ensures.ok

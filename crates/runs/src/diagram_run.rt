@@ -1,0 +1,104 @@
+//! The timing diagram of a run.
+ghost use Rattle.std.specs.Prelude.{◌≡◌, ◌≢◌, ◌≤◌, Ok, Err, IfErr, IfOk, IsOkAnd, OnOk};
+ghost use Rattle.std.specs.Io.KnownBytes.{Appends};
+ghost use Rattle.timing_diagram.specs.Columns.{IsDrawable};
+ghost use Rattle.runs.specs.Drawn.{diagram_of_design, diagram_of_source, ticks_of_view};
+ghost use Rattle.runs.specs.Ends.{BreaksOff, IsRefusal, RunEndsBy};
+ghost use Rattle.runs.specs.Source.{seen_source, MayWantMemory};
+ghost use Rattle.runs.specs.declared.fault.SimFault.TheVariants.{Memory};
+
+use crate::dumping::shown_nets;
+use crate::fault::SimFault;
+use crate::plain_run::shown_waves;
+use crate::preparation::prepare;
+use crate::source::Source;
+use crate::view::Show;
+use design::Design;
+use std::alloc::Global;
+use std::io::Write;
+use timing_diagram::{Columns, Form, draw};
+use timing_text::Horizon;
+
+/// What a timing diagram shows of a run.
+#[derive(Clone, Copy, Debug)]
+pub struct DiagramView {
+    /// Which nets it shows, from top to bottom.
+    pub show: Show,
+    /// The last tick of the run: at most 10,000,000.
+    pub horizon: u64,
+    /// The first tick that is drawn.
+    pub from: u64,
+    /// The last tick that is drawn: at most the horizon.
+    pub to: u64,
+    /// How many ticks a column has: at least 1, and so many that there are at most 1,000 columns.
+    pub step: u64,
+    pub form: Form,
+}
+
+/// Writes the timing diagram of a run, which goes by the plain engine to its horizon.
+///
+/// A column shows what the equations give the net at the column's ticks.
+///
+/// # Errors
+/// The horizon and the columns are looked at first, then the settings and the texts; a refusal comes
+/// before the first byte is written, and the diagram is made whole before that. After a failed write a
+/// first part of it went out.
+pub fn diagram<W: Write>(
+    alloc: Global,
+    source: &Source<'_>,
+    view: &DiagramView,
+    out: &mut W,
+) -> Result<(), SimFault>
+    ensures ok { OnOk result (IsOkAnd (diagram_of_source (seen_source source.now) view.now)
+        (Appends (W.contents out.old) (W.contents out.new))) }
+    ensures err { IfErr result (RunEndsBy (diagram_of_source (seen_source source.now) view.now)
+        (W.contents out.old) (W.contents out.new)) }
+    ensures memory { result ≡ Err Memory → MayWantMemory (seen_source source.now) view.now.horizon }
+{
+    let columns = columns_of(view)?;
+    let (design, horizon) = prepare(alloc, source, view.horizon)?;
+    draw_design(alloc, &design, horizon, view, columns, out)
+}
+
+/// The columns of a diagram.
+fn columns_of(view: &DiagramView) -> Result<Columns, SimFault>
+    ensures ok { IfOk result (λ ticks. ticks_of_view view.now ≡ Ok ticks) }
+    ensures drawable { IfOk result IsDrawable }
+    ensures within { IfOk result (λ ticks. ticks.to ≤ view.now.horizon) }
+    ensures err { IfErr result (IsRefusal (ticks_of_view view.now)) }
+    ensures no_memory { IfErr result (λ fault. fault ≢ Memory) }
+{
+    let horizon = Horizon::new(view.horizon)?;
+    Ok(Columns::new(view.from, view.to, view.step, horizon)?)
+}
+
+/// Runs a design by the plain engine, and draws it.
+fn draw_design<W: Write>(
+    alloc: Global,
+    design: &Design,
+    horizon: Horizon,
+    view: &DiagramView,
+    columns: Columns,
+    out: &mut W,
+) -> Result<(), SimFault>
+    requires drawable { IsDrawable columns }
+    requires within { columns.to ≤ horizon }
+    ensures ok { OnOk result (Appends (W.contents out.old) (W.contents out.new)
+        (diagram_of_design view.now columns design.now)) }
+    ensures err { IfErr result (BreaksOff (W.contents out.old) (W.contents out.new)
+        (diagram_of_design view.now columns design.now)) }
+{
+    let nets = shown_nets(alloc, design, view.show)?;
+    let shown = nets.as_slice();
+    let waves = shown_waves(alloc, design, horizon, view.show, shown)?;
+    draw(
+        alloc,
+        out,
+        design,
+        shown,
+        waves.as_slice(),
+        columns,
+        view.form,
+    )?;
+    Ok(())
+}

@@ -1,0 +1,49 @@
+//! The trace of a run.
+ghost use Rattle.std.specs.Prelude.{◌≡◌, All, Err, IfErr, IsOkAnd, OnOk};
+ghost use Rattle.std.specs.Io.KnownBytes.{Appends};
+ghost use Rattle.cmb_events.specs.Schedule.{Exists};
+ghost use Rattle.runs.specs.Ends.{BreaksOff, RunEndsBy};
+ghost use Rattle.runs.specs.Simulated.{seen_run};
+ghost use Rattle.runs.specs.Source.{seen_source, MayWantMemory};
+ghost use Rattle.runs.specs.Traced.{trace_of_run, trace_of_source};
+ghost use Rattle.runs.specs.declared.fault.SimFault.TheVariants.{Memory};
+
+use crate::fault::SimFault;
+use crate::preparation::{PreparedRun, prepare_run};
+use crate::source::Source;
+use std::alloc::Global;
+use std::io::Write;
+
+/// Runs a source by the kernel, which applies the events that are picked and then completes by rounds,
+/// and writes a line for each event that it applies, as [`event_trace::trace`] says; the last line has
+/// the counts.
+///
+/// # Errors
+/// A refusal of the settings or of a text comes before the first byte is written. After a failed write
+/// or a want of memory a first part of the trace went out, which may be nothing.
+pub fn trace<W: Write>(
+    alloc: Global,
+    source: &Source<'_>,
+    horizon: u64,
+    out: &mut W,
+) -> Result<(), SimFault>
+    ensures ok { OnOk result (IsOkAnd (trace_of_source (seen_source source.now) horizon)
+        (Appends (W.contents out.old) (W.contents out.new))) }
+    ensures err { IfErr result (RunEndsBy (trace_of_source (seen_source source.now) horizon)
+        (W.contents out.old) (W.contents out.new)) }
+    ensures memory { result ≡ Err Memory → MayWantMemory (seen_source source.now) horizon }
+{
+    let run = prepare_run(alloc, source, horizon)?;
+    trace_prepared(alloc, &run, out)
+}
+
+/// The same for a prepared run.
+fn trace_prepared<W: Write>(alloc: Global, run: &PreparedRun, out: &mut W) -> Result<(), SimFault>
+    requires exist { All (Exists run.now.design.circuit) run.now.schedule }
+    ensures ok { OnOk result (Appends (W.contents out.old) (W.contents out.new) (trace_of_run (seen_run run.now))) }
+    ensures err { IfErr result (BreaksOff (W.contents out.old) (W.contents out.new) (trace_of_run (seen_run run.now))) }
+{
+    let events = run.schedule.events();
+    event_trace::trace(alloc, out, &run.design, run.horizon, events)?;
+    Ok(())
+}

@@ -1,0 +1,47 @@
+//! Which tick is looked at next.
+ghost use Rattle.std.specs.Prelude.{◌≡◌, ◌≢◌, ℕ, ◌<◌, ◌≤◌, ◌%◌, ◌^◌, Some};
+ghost use Rattle.logic3.specs.Wave.{value_at};
+ghost use Rattle.wave_diff.specs.Ticks.{IsBefore};
+
+use logic3::{Change, Waveform};
+
+/// The first multiple of a number from a tick on; none where it doesn't fit.
+pub fn next_multiple(tick: u64, every: u64) -> Option<u64>
+    requires { 0 < every }
+    ensures multiple { (at : ℕ) → result ≡ Some at → at % every ≡ 0 }
+    ensures from { (at : ℕ) → result ≡ Some at → tick ≤ at }
+    ensures first { (at : ℕ) → tick ≤ at → at < 2 ^ 64 → IsBefore at result → at % every ≢ 0 }
+{
+    let over = tick % every;
+    if over == 0 {
+        return Some(tick);
+    }
+    tick.checked_add(every - over)
+}
+
+/// The tick of the first change of a waveform after a tick. Takes logarithmic time.
+fn change_after(wave: &Waveform, tick: u64) -> Option<u64>
+    ensures later { (at : ℕ) → result ≡ Some at → tick < at }
+    ensures steady { (at : ℕ) → tick ≤ at → IsBefore at result → value_at wave.now at ≡ value_at wave.now tick }
+{
+    let changes = wave.changes();
+    let due = changes.partition_point(|change| u64::from(change.tick) <= tick);
+    if due < changes.len() {
+        Some(u64::from(changes[due].tick))
+    } else {
+        None
+    }
+}
+
+/// The tick of the first change of two waveforms after a tick.
+pub fn next_change(first: &Waveform, second: &Waveform, tick: u64) -> Option<u64>
+    ensures later { (at : ℕ) → result ≡ Some at → tick < at }
+    ensures first { (at : ℕ) → tick ≤ at → IsBefore at result → value_at first.now at ≡ value_at first.now tick }
+    ensures second { (at : ℕ) → tick ≤ at → IsBefore at result → value_at second.now at ≡ value_at second.now tick }
+{
+    match (change_after(first, tick), change_after(second, tick)) {
+        (Some(one), Some(other)) => Some(one.min(other)),
+        (Some(one), None) => Some(one),
+        (None, other) => other,
+    }
+}
