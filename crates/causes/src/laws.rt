@@ -5,14 +5,18 @@ ghost use Rattle.logic3.specs.declared.value.Value.TheVariants.{Unknown};
 ghost use Rattle.logic3.specs.declared.gates.GateKind.{GateKind};
 ghost use Rattle.logic3.specs.Gate.{HasArity, value_of_gate};
 ghost use Rattle.design.specs.Circuit.{Circuit, IsCircuit};
-ghost use Rattle.causes.specs.Causes.{causes_of};
+ghost use Rattle.causes.specs.Causes.{causes_of, leads_to};
+ghost use Rattle.causes.specs.declared.cause.Cause.{Cause};
 ghost use Rattle.causes.specs.Deciding.{controlling, deciding_place, deciding_value};
 ghost use Rattle.causes.specs.Why.{IsWhy};
 
 /// The first cause is that of the net's value at the tick, each one is the cause of its net's value
-/// behind those before it and leads to the next one, and the last one leads nowhere.
+/// behind those before it and leads to the next one, and the last one leads nowhere. Where a cause leads
+/// is a net at an earlier tick.
 pub fn causes_lead_on()
-    ensures { (circuit : Circuit) (net tick : ℕ) → IsCircuit circuit → IsWhy circuit net tick (causes_of circuit net tick) }
+    ensures why { (circuit : Circuit) (net tick : ℕ) → IsCircuit circuit → IsWhy circuit net tick (causes_of circuit net tick) }
+    ensures earlier { (circuit : Circuit) (cause : Cause) (from : ℕ × ℕ) → IsCircuit circuit → leads_to circuit cause ≡ Some from →
+        (from.0 < length circuit) × (from.1 < cause.tick) }
 {}
 
 /// Where a gate shows X, the pin that decides shows X. Where a pin shows the value that controls a gate,
