@@ -35,7 +35,12 @@ pub(super) fn subcommand<'a>(alloc: Global) -> Result<Command<'a>, AllocError> {
         "draw",
         ABOUT,
         USAGE,
-        &[SOURCE.as_slice(), LENGTH.as_slice(), SHOWN.as_slice(), OPTIONS.as_slice()],
+        &[
+            SOURCE.as_slice(),
+            LENGTH.as_slice(),
+            SHOWN.as_slice(),
+            OPTIONS.as_slice(),
+        ],
     )
 }
 

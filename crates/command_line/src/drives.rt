@@ -7,12 +7,14 @@ use drawn_stimuli::{Drive, Driven};
 use logic3::Value;
 use std::alloc::{AllocError, Global};
 
-const CLOCK: &str = "An input that is 0 at tick 0, and then changes every HALF ticks, which are at\n\
+const CLOCK: &str =
+    "An input that is 0 at tick 0, and then changes every HALF ticks, which are at\n\
      least 1, such as clk=5; may be given for several inputs";
 
 const HOLD: &str = "An input that shows one value throughout: 0, 1 or x; may be given for several";
 
-const PULSE: &str = "An input that is 1 from tick FROM up to but not at tick TO, which is later, and\n\
+const PULSE: &str =
+    "An input that is 1 from tick FROM up to but not at tick TO, which is later, and\n\
      0 elsewhere, such as reset=0..12; may be given for several";
 
 const NO_DRIVE: &str =
@@ -22,7 +24,12 @@ const NO_DRIVE: &str =
 pub(super) static DRIVES: [Described; 3] = [
     Described("clock", Takes::Drives("NAME=HALF"), Absent::Nothing, CLOCK),
     Described("hold", Takes::Drives("NAME=VALUE"), Absent::Nothing, HOLD),
-    Described("pulse", Takes::Drives("NAME=FROM..TO"), Absent::Nothing, PULSE),
+    Described(
+        "pulse",
+        Takes::Drives("NAME=FROM..TO"),
+        Absent::Nothing,
+        PULSE,
+    ),
 ];
 
 /// What drives inputs by name: clocks first, then held values, then pulses.

@@ -16,7 +16,12 @@ pub(super) fn subcommand<'a>(alloc: Global) -> Result<Command<'a>, AllocError> {
         "plain",
         ABOUT,
         USAGE,
-        &[SOURCE.as_slice(), LENGTH.as_slice(), SHOWN.as_slice(), UNITS.as_slice()],
+        &[
+            SOURCE.as_slice(),
+            LENGTH.as_slice(),
+            SHOWN.as_slice(),
+            UNITS.as_slice(),
+        ],
     )
 }
 

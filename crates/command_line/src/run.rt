@@ -16,12 +16,7 @@ const COUNTS: &str = "Also write the line events E changes C nulls N rounds R on
      error";
 
 /// The option that no other subcommand takes.
-static OPTIONS: [Described; 1] = [Described(
-    "counts",
-    Takes::Nothing,
-    Absent::Nothing,
-    COUNTS,
-)];
+static OPTIONS: [Described; 1] = [Described("counts", Takes::Nothing, Absent::Nothing, COUNTS)];
 
 /// The subcommand with its options.
 pub(super) fn subcommand<'a>(alloc: Global) -> Result<Command<'a>, AllocError> {

@@ -150,8 +150,10 @@ pub IsAnswer-stimuli : (known : KnownTexts) (bench : Bor (List ℕ)) (drives : V
     (answer : Result Answer ProgramFault) → answer ≡ stimuli_answer bytes (map seen_drive asked) draws horizon →
     IsAnswer known (orders.Stimuli bench drives draws horizon) answer
 IsAnswer-stimuli known bench drives draws horizon read bytes asked is_read is_bytes is_asked answer same =
-    let text = unwrap_or (known bench.now) read in
-    (text, unwrap_or-known (known bench.now) read,
-    same ∙ ap (λ list. stimuli_answer bytes (map seen_drive list) draws horizon) is_asked
-    ∙ ap (λ t. stimuli_answer t (map seen_drive drives.items) draws horizon) (is_bytes ∙ is_read)
-    ∙ ap (answered just) (stimuli_of_drives-cut text (map seen_drive drives.items) draws horizon))
+    let text = unwrap_or (known bench.now) read in (
+      text,
+      unwrap_or-known (known bench.now) read,
+      same ∙ ap (λ list. stimuli_answer bytes (map seen_drive list) draws horizon) is_asked
+          ∙ ap (λ t. stimuli_answer t (map seen_drive drives.items) draws horizon) (is_bytes ∙ is_read)
+          ∙ ap (answered just) (stimuli_of_drives-cut text (map seen_drive drives.items) draws horizon),
+    )

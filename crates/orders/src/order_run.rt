@@ -52,7 +52,9 @@ impl<'a> Order<'a> {
             Order::Trace { source, horizon } => {
                 carry_out_trace(alloc, source, *horizon, texts, out)
             }
-            Order::Why { source, net, tick } => carry_out_why(alloc, source, net, *tick, texts, out),
+            Order::Why { source, net, tick } => carry_out_why(
+                alloc, source, net, *tick, texts, out,
+            ),
             Order::Stimuli {
                 bench,
                 drives,

@@ -15,8 +15,8 @@ use crate::program_fault::ProgramFault;
 use cmb_kernel::Counts;
 use drawn_stimuli::{Draws, Driven};
 use runs::{
-    DiagramView, SimFault, Source, View, check, cone_text, diagram, plain, simulate, stimuli, sweep,
-    trace, twin, why,
+    DiagramView, SimFault, Source, View, check, cone_text, diagram, plain, simulate, stimuli,
+    sweep, trace, twin, why,
 };
 use std::alloc::Global;
 use std::io::Write;

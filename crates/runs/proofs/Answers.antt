@@ -1,7 +1,6 @@
 -- The answers to traces, causes and stimuli, step by step.
 use Rattle.std.proofs.Common.{◌≡◌, ℕ, ◌+◌, List, Option, None, Some, Result, Ok, Err, refl}
 use Rattle.std.specs.Option.{ok_or}
-use Rattle.text_lines.specs.Text.{◌>>=◌}
 use Rattle.bench_text.specs.declared.fault.BenchFault.{BenchFault}
 use Rattle.bench_text.specs.NetlistOf.{netlist_of}
 use Rattle.netlist.specs.Netlist.{NetlistView}
@@ -22,7 +21,7 @@ use Rattle.runs.specs.Ends.{IsRefusal}
 use Rattle.runs.specs.Explained.{why_of_source}
 use Rattle.runs.specs.Faults.{sim_of_bench, sim_of_drives}
 use Rattle.runs.specs.Simulated.{RunView, run_of_source}
-use Rattle.runs.specs.Source.{SourceView, design_of_source, or_fault}
+use Rattle.runs.specs.Source.{SourceView, design_of_source}
 use Rattle.runs.specs.Traced.{trace_of_run, trace_of_source}
 use Rattle.runs.specs.Twins.{net_or_unknown}
 

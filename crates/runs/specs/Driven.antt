@@ -1,5 +1,5 @@
 -- The stimulus text of a netlist's inputs.
-use Rattle.std.specs.Prelude.{ℕ, List, Result, Ok}
+use Rattle.std.specs.Prelude.{ℕ, List, Result}
 use Rattle.text_lines.specs.Text.{◌>>=◌}
 use Rattle.bench_text.specs.NetlistOf.{netlist_of}
 use Rattle.timing_text.specs.Options.{horizon_of}

@@ -19,12 +19,7 @@ use std::alloc::Global;
 /// # Errors
 /// A refusal of the settings or of a text, the tick among them as the horizon, and
 /// [`SimFault::UnknownNet`] where there is no net of this name.
-pub fn why(
-    alloc: Global,
-    source: &Source<'_>,
-    name: &[u8],
-    tick: u64,
-) -> Result<Vec<u8>, SimFault>
+pub fn why(alloc: Global, source: &Source<'_>, name: &[u8], tick: u64) -> Result<Vec<u8>, SimFault>
     ensures ok { IfOk result (λ text. why_of_source (seen_source source.now) name.now tick ≡ Ok text.items) }
     ensures err { IfErr result (IsRefusal (why_of_source (seen_source source.now) name.now tick)) }
     ensures memory { result ≡ Err Memory → MayWantMemory (seen_source source.now) tick }

@@ -1,5 +1,5 @@
 use Rattle.std.proofs.lemmas.Result.{err_from_is_err_and}
-use Rattle.std.proofs.Common.{◌≡◌, refl, sym, ap, map}
+use Rattle.std.proofs.Common.{◌≡◌, refl, sym, ap}
 use Rattle.runs.specs.Explained.{why_of_source}
 use Rattle.runs.specs.Source.{seen_source}
 use Rattle.program_io.specs.Answers.{answered, just, why_answer}

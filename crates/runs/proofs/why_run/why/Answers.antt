@@ -1,4 +1,4 @@
-use Rattle.std.proofs.Common.{◌≡◌, ◌+◌, Ok, sym, ap, ◌∙◌, arith}
+use Rattle.std.proofs.Common.{◌+◌, Ok, sym, ap, ◌∙◌, arith}
 use Rattle.std.proofs.lemmas.Result.{err_from_is_err_and}
 use Rattle.runs.specs.Explained.{why_of_source}
 use Rattle.runs.specs.Source.{design_of_source, seen_source}
