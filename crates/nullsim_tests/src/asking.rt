@@ -193,10 +193,5 @@ pub(crate) static REFUSED_STIMULI: [Refused; 8] = [
         "options:0: BadPulse\n",
         1,
     ),
-    (
-        "--bench x.bench --horizon 5",
-        3,
-        "x.bench:0: Read\n",
-        1,
-    ),
+    ("--bench x.bench --horizon 5", 3, "x.bench:0: Read\n", 1),
 ];

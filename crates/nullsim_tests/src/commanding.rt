@@ -3,9 +3,7 @@
 ghost use Rattle.std.specs.Prelude.{◌≡◌, option_map};
 ghost use Rattle.nullsim_tests.specs.Shelf.{text_under};
 
-use crate::asking::{
-    CAUSES, REFUSED_CAUSES, REFUSED_STIMULI, REFUSED_TRACES, STIMULI, TRACES,
-};
+use crate::asking::{CAUSES, REFUSED_CAUSES, REFUSED_STIMULI, REFUSED_TRACES, STIMULI, TRACES};
 use crate::checking::{CHECKS, REFUSED_CHECKS};
 use crate::comparing::{
     CONES, EDGE_TWICE, FLOP_TWICE, INVERTER_TWICE, ONE_AND_OTHER, OTHER_TWINS, REFUSED_CONES,

@@ -207,12 +207,14 @@ static OF_TRACE: [&str; 5] = [
     "--seed <N>",
     "--picks <N>",
 ];
+
 static OF_WHY: [&str; 4] = [
     "\nUsage: nullsim why --bench <FILE> --net <NAME> --at <TICK> [OPTIONS]\n",
     "--stimuli <FILE>",
     "--net <NAME>",
     "--at <N>",
 ];
+
 static OF_STIMULI: [&str; 6] = [
     "\nUsage: nullsim stimuli --bench <FILE> --horizon <N> [OPTIONS]\n",
     "--clock <NAME=HALF>",
