@@ -1,4 +1,5 @@
-"""The pages hold what the program prints: the commands that stand in them, and the pictures beside them."""
+"""The pages hold what the program prints: the commands that stand in them, the pictures beside them, and a trace
+that was reckoned from the definitions by another program."""
 import re
 import shutil
 import subprocess
@@ -8,24 +9,25 @@ from xml.etree import ElementTree
 
 from programs import EXAMPLES, ROOT, SECONDS, run
 
-# The pictures of the pages, each with the words that draw it.
-PICTURES = {
-    "hazard.svg": "draw --bench hazard.bench --stimuli hazard.stimuli --horizon 8 --svg",
-    "s27.svg": "draw --bench s27.bench --stimuli s27.stimuli --horizon 35 --svg",
+# Stored answers, each with the words that it is the answer to.
+STORED = {
+    "docs/hazard.svg": "draw --bench hazard.bench --stimuli hazard.stimuli --horizon 8 --svg",
+    "docs/s27.svg": "draw --bench s27.bench --stimuli s27.stimuli --horizon 35 --svg",
+    "examples/s27.trace": "trace --bench s27.bench --stimuli s27.stimuli --horizon 35",
 }
 
 # Commands in a page, and the text right behind them, if there is one.
 EXAMPLE = re.compile(r"^```sh\n(.*?)^```$(?:\n\n^```text\n(.*?)^```$)?", re.MULTILINE | re.DOTALL)
 
 
-def picture_fault(program: Path, picture: Path, words: str) -> str | None:
-    """What is wrong with a stored picture: it is an SVG text, and just what is drawn now."""
-    drawn = run([program, *words.split()])
-    if drawn.status != 0 or drawn.err:
-        return f"it ended with {drawn.status} and {drawn.err!r}"
-    if ElementTree.fromstring(drawn.out).tag != "{http://www.w3.org/2000/svg}svg":
+def stored_fault(program: Path, stored: Path, words: str) -> str | None:
+    """What is wrong with a stored answer: it is just what goes out now, and a picture is an SVG text."""
+    answer = run([program, *words.split()])
+    if answer.status != 0 or answer.err:
+        return f"it ended with {answer.status} and {answer.err!r}"
+    if stored.suffix == ".svg" and ElementTree.fromstring(answer.out).tag != "{http://www.w3.org/2000/svg}svg":
         return "what is drawn is no SVG"
-    return None if picture.read_bytes() == drawn.out else f"`nullsim {words}` draws another"
+    return None if stored.read_bytes() == answer.out else f"`nullsim {words}` answers another"
 
 
 def examples_of(page: str) -> list[tuple[str, str | None]]:
@@ -50,9 +52,8 @@ def example_fault(program: Path, commands: str, shown: str | None, folder: str) 
 
 
 def cases(program: Path, folder: str) -> list[tuple[str, Callable[[], str | None]]]:
-    """Each picture and each example of a page with its check."""
-    found = [(f"docs/{name}", lambda it=(program, ROOT / "docs" / name, words): picture_fault(*it))
-             for name, words in PICTURES.items()]
+    """Each stored answer and each example of a page with its check."""
+    found = [(name, lambda it=(program, ROOT / name, words): stored_fault(*it)) for name, words in STORED.items()]
     there = Path(folder, "pages")
     shutil.copytree(EXAMPLES, there / "examples")
     for page in [ROOT / "README.md", *sorted((ROOT / "docs").glob("*.md"))]:

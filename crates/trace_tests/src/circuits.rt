@@ -58,3 +58,27 @@ pub(crate) const SELF_INVERTER: Circuit = Circuit {
     stimuli: b"",
     period: 10,
 };
+
+/// A buffer and a gate that compares its two sides.
+pub(crate) const HAZARD: Circuit = Circuit {
+    bench: b"INPUT(a)\nb = BUFF(a)\ny = XOR(a, b)\n",
+    delays: b"",
+    stimuli: b"0 a 0\n5 a 1\n",
+    period: 10,
+};
+
+/// A gate whose two pins change at once.
+pub(crate) const CROSSING: Circuit = Circuit {
+    bench: b"INPUT(a)\nINPUT(b)\ny = AND(a, b)\n",
+    delays: b"",
+    stimuli: b"0 a 1\n4 a 0\n0 b 0\n4 b 1\n",
+    period: 10,
+};
+
+/// A flip-flop whose pin changes at a tick at which it samples.
+pub(crate) const SAMPLER: Circuit = Circuit {
+    bench: b"INPUT(d)\nq = DFF(d)\n",
+    delays: b"",
+    stimuli: b"4 d 1\n5 d 0\n",
+    period: 4,
+};

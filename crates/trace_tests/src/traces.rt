@@ -1,6 +1,7 @@
 //! Traces that were worked out by hand.
 use crate::circuits::{
-    Circuit, DOUBLE_PIN, GATED_OSCILLATOR, INVERTER, PRESET_RING, SELF_INVERTER,
+    CROSSING, Circuit, DOUBLE_PIN, GATED_OSCILLATOR, HAZARD, INVERTER, PRESET_RING, SAMPLER,
+    SELF_INVERTER,
 };
 use cmb_events::Schedule;
 use cmb_kernel::Counts;
@@ -107,7 +108,59 @@ const DOUBLE_PIN_TRACE: &[u8] = b"round 1\n\
       advance y 1 -> 4: 1@2 x@3\n\
       events 10 changes 4 nulls 2 rounds 2\n";
 
-static TRACES: [Row; 6] = [
+const HAZARD_TRACE: &[u8] = b"round 1\n\
+      advance a 0 -> 9: 0@0 1@5 null 9\n\
+      advance b 0 -> 1: null 1\n\
+      advance y 0 -> 1: null 1\n\
+      round 2\n\
+      deliver b 0: 0@0\n\
+      deliver b 0: 1@5\n\
+      deliver b 0: null 9\n\
+      deliver y 0: 0@0\n\
+      deliver y 0: 1@5\n\
+      deliver y 0: null 9\n\
+      deliver y 1: null 1\n\
+      advance a 9 -> 9: idle\n\
+      advance b 1 -> 9: 0@1 1@6 null 9\n\
+      advance y 1 -> 2: null 2\n\
+      round 3\n\
+      deliver y 1: 0@1\n\
+      deliver y 1: 1@6\n\
+      deliver y 1: null 9\n\
+      advance a 9 -> 9: idle\n\
+      advance b 9 -> 9: idle\n\
+      advance y 2 -> 9: 0@2 1@6 0@7 null 9\n\
+      events 19 changes 7 nulls 6 rounds 3\n";
+
+// Where both pins change at tick 4 the gate stays.
+const CROSSING_TRACE: &[u8] = b"round 1\n\
+      advance a 0 -> 7: 1@0 0@4 null 7\n\
+      advance b 0 -> 7: 0@0 1@4 null 7\n\
+      advance y 0 -> 1: null 1\n\
+      round 2\n\
+      deliver y 0: 1@0\n\
+      deliver y 0: 0@4\n\
+      deliver y 0: null 7\n\
+      deliver y 1: 0@0\n\
+      deliver y 1: 1@4\n\
+      deliver y 1: null 7\n\
+      advance a 7 -> 7: idle\n\
+      advance b 7 -> 7: idle\n\
+      advance y 1 -> 7: 0@1 null 7\n\
+      events 12 changes 5 nulls 4 rounds 2\n";
+
+const SAMPLER_TRACE: &[u8] = b"round 1\n\
+      advance d 0 -> 13: 1@4 0@5 null 13\n\
+      advance q 0 -> 5: null 5\n\
+      round 2\n\
+      deliver q 0: 1@4\n\
+      deliver q 0: 0@5\n\
+      deliver q 0: null 13\n\
+      advance d 13 -> 13: idle\n\
+      advance q 5 -> 13: 1@5 0@9 null 13\n\
+      events 7 changes 4 nulls 3 rounds 2\n";
+
+static TRACES: [Row; 9] = [
     (INVERTER, 5, b"", INVERTER_TRACE, (7, 4, 3, 2)),
     (
         INVERTER,
@@ -126,6 +179,9 @@ static TRACES: [Row; 6] = [
     (GATED_OSCILLATOR, 7, b"", OSCILLATOR_TRACE, (16, 5, 4, 4)),
     (PRESET_RING, 7, b"", RING_TRACE, (19, 5, 5, 5)),
     (DOUBLE_PIN, 3, b"", DOUBLE_PIN_TRACE, (10, 4, 2, 2)),
+    (HAZARD, 8, b"", HAZARD_TRACE, (19, 7, 6, 3)),
+    (CROSSING, 6, b"", CROSSING_TRACE, (12, 5, 4, 2)),
+    (SAMPLER, 12, b"", SAMPLER_TRACE, (7, 4, 3, 2)),
 ];
 
 fn counts((events, changes, nulls, rounds): (u64, u64, u64, u64)) -> Counts {
