@@ -1,5 +1,7 @@
 //! Chains of causes, worked by hand.
-use crate::circuits::{CONTROLLED, Circuit, GATE_RING, HAZARD, PRESET_RING, RING_COUNTER, WIRED};
+use crate::circuits::{
+    CONTROLLED, Circuit, GATE_RING, HAZARD, PRESET_RING, RING_COUNTER, S27, WIRED,
+};
 use causes::{Cause, Reason, why, why_text};
 use design::{Design, plain_waves};
 use logic3::Value;
@@ -11,7 +13,30 @@ use timing_text::Horizon;
 // A circuit, a net, a tick, and the lines of why.
 type Row = (Circuit, &'static [u8], u64, &'static [u8]);
 
-static CHAINS: [Row; 20] = [
+static CHAINS: [Row; 22] = [
+    // Down to a stimulus, and round in a loop.
+    (
+        S27,
+        b"G6",
+        20,
+        b"G6@20 = 0: G6 = DFF(G11), G11@10 = 0\n\
+          G11@10 = 0: G11 = NOR(G5, G9), G5@9 = x, G9@9 = 1\n\
+          G9@9 = 1: G9 = NAND(G16, G15), G16@8 = 0, G15@8 = 0\n\
+          G16@8 = 0: G16 = OR(G3, G8), G3@7 = 0, G8@7 = 0\n\
+          G8@7 = 0: G8 = AND(G14, G6), G14@6 = 0, G6@6 = x\n\
+          G14@6 = 0: G14 = NOT(G0), G0@5 = 1\n\
+          G0@5 = 1: INPUT(G0), stimulus 0 G0 1\n",
+    ),
+    (
+        S27,
+        b"G17",
+        20,
+        b"G17@20 = 1: G17 = NOT(G11), G11@19 = 0\n\
+          G11@19 = 0: G11 = NOR(G5, G9), G5@18 = 1, G9@18 = 1\n\
+          G5@18 = 1: G5 = DFF(G10), G10@10 = 1\n\
+          G10@10 = 1: G10 = NOR(G14, G11), G14@9 = 0, G11@9 = 0\n\
+          G11@9 = 0: G11 = NOR(G5, G9), a loop: the same as G11@19\n",
+    ),
     (HAZARD, b"a", 4, b"a@4 = 0: INPUT(a), stimulus 0 a 0\n"),
     (
         HAZARD,

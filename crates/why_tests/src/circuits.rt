@@ -57,6 +57,14 @@ pub(crate) const GATE_RING: Circuit = Circuit {
     ..HAZARD
 };
 
+/// The ISCAS-89 circuit s27.
+pub(crate) const S27: Circuit = Circuit {
+    bench: worked_examples::S27_BENCH,
+    timing: b"",
+    stimuli: worked_examples::S27_STIMULI,
+    period: 10,
+};
+
 /// Wires that take three ticks.
 pub(crate) const WIRED: Circuit = Circuit {
     bench: b"INPUT(a)\nINPUT(b)\nc = BUFF(a)\ny = XOR(a, b)\n",
