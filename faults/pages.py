@@ -37,17 +37,19 @@ def examples_of(page: str) -> list[tuple[str, str | None]]:
 
 
 def example_fault(program: Path, commands: str, shown: str | None, folder: str) -> str | None:
-    """What is wrong with commands of a page: they are carried out, and each line that they print begins one of the
-    text's, in order. Where none is shown they end with status 0."""
+    """What is wrong with commands of a page: what they print is the text behind them, line for line, in which notes may
+    stand to the right. Where there is none they end with status 0."""
     given = "set -e\n" + commands.replace("./nullsim", str(program))
     ended = subprocess.run(["bash", "-c", given], cwd=folder, stdout=subprocess.PIPE, stderr=subprocess.STDOUT,
                            timeout=SECONDS, check=False, text=True)
     if shown is None:
         return None if ended.returncode == 0 else f"it ended with {ended.returncode} and {ended.stdout!r}"
-    lines = iter(shown.splitlines())
-    for line in ended.stdout.splitlines():
-        if not any(other.startswith(line) for other in lines):
-            return f"{line!r} stands nowhere behind it"
+    printed, lines = ended.stdout.splitlines(), shown.splitlines()
+    if len(printed) != len(lines):
+        return f"{len(lines)} lines stand behind it, and it prints {len(printed)}"
+    for one, line in zip(printed, lines):
+        if line != one and not line.startswith(f"{one}  "):
+            return f"{line!r} stands there, and it prints {one!r}"
     return None
 
 
