@@ -8,7 +8,8 @@ use Rattle.orders.specs.declared.order.Order.{Order}
 use Rattle.orders.specs.Options.{KnownTexts}
 use Rattle.orders.specs.OrderAnswer.{Answered}
 use Rattle.orders.specs.Readings.{ReadsAll, files_of}
-use Rattle.nullsim.specs.Command.{OrderTold, Streams, counts_line, counts_text}
+use Rattle.event_trace.specs.Lines.{counts_line}
+use Rattle.nullsim.specs.Command.{OrderTold, Streams, counts_text}
 
 -- texts joined from the left
 abbrev pub joined : List ℕ → List (List ℕ) → List ℕ

@@ -1,11 +1,12 @@
 -- How the program with words ends.
-use Rattle.std.specs.Prelude.{◌≡◌, ◌⊎◌, ℕ, Bool, List, [], ◌∷◌, ◌++◌, Option, None, Some, String, codes, decimal, bytes_eq, string_bytes, IsTrue}
+use Rattle.std.specs.Prelude.{◌≡◌, ◌⊎◌, ℕ, Bool, List, [], ◌∷◌, ◌++◌, Option, None, Some, String, codes, bytes_eq, string_bytes, IsTrue}
 use Rattle.std.specs.List.{list_any}
 use Rattle.std.specs.Io.KnownBytes.{Appends, Keeps}
 use Rattle.std.specs.declared.alloc.Global.{Global}
 use Rattle.vcd_dump.specs.Bytes.{AppendsPrefix}
 use Rattle.vcd_dump.specs.Dump.{line}
 use Rattle.cmb_kernel.specs.declared.counts.Counts.{Counts}
+use Rattle.event_trace.specs.Lines.{counts_line}
 use Rattle.orders.specs.declared.order.Order.{Order}
 use Rattle.program_io.specs.declared.program_fault.ProgramFault.{ProgramFault}
 use Rattle.program_io.specs.declared.program_fault.ProgramFault.TheVariants as program
@@ -28,13 +29,10 @@ pub record Streams : Type 0 where
 
 -- ---- an order
 
--- the line of counts, whose numbers are these texts
+-- the line of counts, whose numbers are these texts: for the numbers of counts it is the last line of a trace
 abbrev pub line_of_numbers : List ℕ → List ℕ → List ℕ → List ℕ → List ℕ
 line_of_numbers events changes nulls rounds =
     line (codes "events " ++ events ++ codes " changes " ++ changes ++ codes " nulls " ++ nulls ++ codes " rounds " ++ rounds)
-
-abbrev pub counts_line : Counts → List ℕ
-counts_line counts = line_of_numbers (decimal counts.events) (decimal counts.changes) (decimal counts.nulls) (decimal counts.rounds)
 
 -- the line of those that were asked for
 abbrev pub counts_text : Option Counts → List ℕ

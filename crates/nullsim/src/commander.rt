@@ -3,7 +3,8 @@ ghost use Rattle.std.specs.Prelude.{◌≡◌, ◌≢◌, IfErr, OnErr, OnOk};
 ghost use Rattle.std.specs.Io.KnownBytes.{Appends, Keeps};
 ghost use Rattle.vcd_dump.specs.Bytes.{AppendsPrefix};
 ghost use Rattle.vcd_dump.specs.Faults.{IsFailedWrite};
-ghost use Rattle.nullsim.specs.Command.{CommandEnds, Explains, OrderTold, counts_line, line_of_numbers};
+ghost use Rattle.event_trace.specs.Lines.{counts_line};
+ghost use Rattle.nullsim.specs.Command.{CommandEnds, Explains, OrderTold, line_of_numbers};
 
 use crate::words::order_of_words;
 use cmb_kernel::Counts;
