@@ -1,2 +1,4 @@
+pub mod CallerLemmas
+mod FirstDifference
 mod Found
 mod Steady

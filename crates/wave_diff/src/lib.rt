@@ -1,9 +1,16 @@
 //! Where two waveforms differ, and the line that tells it.
 #![tactic(auto)]
 
+mod compared;
+mod comparison;
 mod difference;
+mod fault;
+pub mod laws;
 mod text;
 mod ticks;
 
-pub use difference::{Compared, Difference, first_difference};
-pub use text::{Side, push_comparison, push_only};
+pub use compared::Compared;
+pub use comparison::{Comparison, Side};
+pub use difference::{Difference, first_difference};
+pub use fault::ComparedFault;
+pub use text::push_line;

@@ -1,49 +1,35 @@
 //! What a comparison tells, a line for each name.
-ghost use Rattle.std.specs.Prelude.{◌≡◌, [], ◌∷◌, ◌++◌, decimal, OnOk};
-ghost use Rattle.wave_diff.specs.Text.{comparison_line, difference_text, only_line, value_text};
+ghost use Rattle.std.specs.Prelude.{◌≡◌, [], ◌∷◌, ◌++◌, OnOk};
+ghost use Rattle.wave_diff.specs.Text.{comparison_line, comparison_text, difference_text, value_text};
 
+use crate::comparison::{Comparison, Side};
 use crate::difference::Difference;
 use itoa::Buffer;
 use logic3::Value;
 use std::alloc::AllocError;
 
-/// Which of two sides.
-#[derive(Clone, Copy, Debug, PartialEq, Eq)]
-pub enum Side {
-    First,
-    Second,
-}
-
-/// Adds the line that tells of a name that stands on both sides: `y same`, or `y differs 7 0 x`, with
-/// the tick and what the first and the second side show there.
+/// Adds the line that tells of a name: `y same`; `y same, cones differ`; `y differs 7 0 x`, with the
+/// tick and what the first and the second run show there; `y only in first` or `y only in second`.
 ///
-/// An `AllocError` leaves the text with a part of the line.
-pub fn push_comparison(
-    text: &mut Vec<u8>,
-    name: &[u8],
-    difference: Option<Difference>,
-) -> Result<(), AllocError>
-    ensures { OnOk result (text.new.items ≡ text.old.items ++ comparison_line name.now difference) }
+/// An `AllocError` leaves the text with a first part of the line.
+pub fn push_line(text: &mut Vec<u8>, name: &[u8], comparison: Comparison) -> Result<(), AllocError>
+    ensures { OnOk result (text.new.items ≡ text.old.items ++ comparison_line name.now comparison) }
 {
     text.extend_from_slice(name)?;
-    match difference {
-        Some(found) => push_difference(text, found)?,
-        None => text.extend_from_slice(b" same")?,
-    }
+    push_comparison(text, comparison)?;
     text.push(b'\n')?;
     Ok(())
 }
 
-/// Adds the line that tells of a name that stands on one side alone: `y only in first`.
-///
-/// An `AllocError` leaves the text with a part of the line.
-pub fn push_only(text: &mut Vec<u8>, name: &[u8], side: Side) -> Result<(), AllocError>
-    ensures { OnOk result (text.new.items ≡ text.old.items ++ only_line name.now side) }
+fn push_comparison(text: &mut Vec<u8>, comparison: Comparison) -> Result<(), AllocError>
+    ensures { OnOk result (text.new.items ≡ text.old.items ++ comparison_text comparison) }
 {
-    text.extend_from_slice(name)?;
-    match side {
-        Side::First => text.extend_from_slice(b" only in first\n")?,
-        Side::Second => text.extend_from_slice(b" only in second\n")?,
+    match comparison {
+        Comparison::Same { agree: true } => text.extend_from_slice(b" same")?,
+        Comparison::Same { agree: false } => text.extend_from_slice(b" same, cones differ")?,
+        Comparison::Differs(found) => push_difference(text, found)?,
+        Comparison::OnlyIn(Side::First) => text.extend_from_slice(b" only in first")?,
+        Comparison::OnlyIn(Side::Second) => text.extend_from_slice(b" only in second")?,
     }
     Ok(())
 }

@@ -1,15 +1,15 @@
-use Rattle.std.proofs.Common.{◌≡◌, ℕ, ◌+◌, ◌-◌, ◌%◌, ◌==◌, ◌≤◌, true, false, Some}
-use Rattle.std.specs.Option.{option_map_or}
+use Rattle.std.proofs.Common.{◌≡◌, ℕ, ◌+◌, ◌-◌}
+use Rattle.std.specs.Option.{IfSome, option_map_or}
+use Rattle.logic3.specs.Wave.{value_at}
 use Rattle.wave_diff.specs.Ticks.{IsBefore}
-use Rattle.wave_diff.specs.Difference.{differ_at}
+use Rattle.wave_diff.specs.Compared.{IsCompared}
 use Rattle.wave_diff.proofs.difference.first_difference.Given as goal
 
 -- the two show the same at each compared tick before the next one
 abbrev pub invariant-loop-next : goal.invariant-loop-next
 invariant-loop-next l = record {
-  passed : (at : ℕ) → l.compared.from ≤ at → at ≤ l.compared.to → IsBefore at l.next → (at % l.compared.every == 0) ≡ true →
-      differ_at l.first l.second at ≡ false;
-  next : (tick : ℕ) → l.next ≡ Some tick → (l.compared.from ≤ tick) × (tick % l.compared.every ≡ 0);
+  passed : (at : ℕ) → IsCompared l.compared at → IsBefore at l.next → value_at l.first at ≡ value_at l.second at;
+  next : IfSome l.next (IsCompared l.compared);
 }
 
 abbrev pub decreases-loop-next : goal.decreases-loop-next
