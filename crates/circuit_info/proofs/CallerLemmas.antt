@@ -1,1 +1,2 @@
 -- What crates above may cite of the lemmas of this one.
+pub use Rattle.circuit_info.proofs.OneText.{one_info_text}

@@ -1,20 +1,24 @@
 -- The walk from gates back over their pins, step by step.
 use Rattle.std.proofs.Common.{◌≡◌, ◌≢◌, ℕ, ◌+◌, ◌==◌, ◌&&◌, ◌<◌, ◌≤◌, not, Bool, true, false, IsTrue, true≢false, List, [], ◌∷◌, ◌++◌, length, get_or, set, map, Some, refl, sym, ap, ◌∙◌, subst, arith, All, AllPairs, Contains, ◌⊎◌, inl, inr, ⊎_elim, length-set}
 use Rattle.std.proofs.lemmas.Bool.{cases_lt, cases_eq, eqb-true}
-use Rattle.std.proofs.lemmas.List.{get_or-set_same, get_or-set_other, map-append, length-map, get_or-map, get_or_default, get_or_past}
-use Rattle.std.proofs.lemmas.List.Elements.{All-push, All-weaker, All-pop, All-map, All-contains, Contains-get_or, Contains-push, Contains-push_cases, Contains-append_left}
+use Rattle.std.proofs.lemmas.List.{get_or-set_same, get_or-set_other, map-append, length-map, get_or-map, get_or_default, get_or_past, get_or_push, length_push}
+use Rattle.std.proofs.lemmas.List.Elements.{All-nil, All-push, All-weaker, All-pop, All-map, All-contains, Contains-get_or, Contains-push, Contains-push_cases, Contains-append_left}
 use Rattle.std.proofs.lemmas.List.Quantifiers.{all_pairs_push}
 use Rattle.netlist.specs.Netlist.{NetlistView, IsNetlist}
 use Rattle.netlist.proofs.CallerLemmas.{no_net}
 use Rattle.circuit_info.specs.declared.levels.Step.{Step}
 use Rattle.circuit_info.specs.Levels.{greatest, is_gate, is_gate_at, pins_at, level_at, level_above, AreLinked}
-use Rattle.circuit_info.specs.Climb.{is_seen, is_known, levelled, KnownBefore, HasLevel, Waits, gates_on, IsClimb, ClosesAt}
+use Rattle.circuit_info.specs.Loops.{HasLevel, at_source, above_pins}
+use Rattle.circuit_info.specs.Climb.{is_seen, is_known, levelled, KnownBefore, IsLevelled, Waits, gates_on, IsClimb}
 use Rattle.circuit_info.proofs.Tops.{greatest_least, map_alike}
-use Rattle.circuit_info.proofs.Links.{AllPairs-front, AllPairs-last, AreLinked-front, AreLinked-push}
+use Rattle.circuit_info.proofs.Links.{AllPairs-front, AllPairs-last, AreJoined-front, AreJoined-push}
 use Rattle.circuit_info.proofs.Marks.{cases_zero, seen_now, seen_still, seen_cases, one_more_level}
 
 pub gates_on_push : (path : List Step) (step : Step) → gates_on (path ++ step ∷ []) ≡ gates_on path ++ step.gate ∷ []
 gates_on_push path step = map-append (λ (step : Step). step.gate) path (step ∷ [])
+
+abbrev pub HasAtPin : NetlistView → ℕ → ℕ → Type 0
+HasAtPin netlist net next = Contains (pins_at netlist net) next
 
 abbrev pub Differ : ℕ → ℕ → Type 0
 Differ earlier later = earlier ≢ later
@@ -48,7 +52,7 @@ module _ {netlist : NetlistView} {levels : List ℕ} {seen : List Bool} where
         (subst (λ gates. Contains gates gate) (sym (gates_on_push path _)) (Contains-push (gates_on path) gate))))
         (λ was. ⊎_elim
         (λ on. inl (subst (λ gates. Contains gates net) (sym (gates_on_push path _)) (Contains-append_left (gates_on path) (gate ∷ []) net on)))
-        (λ some. inr some)
+        (λ left. inr left)
         (climb.seen_so net was))
         (seen_cases seen gate net seen_net);
   }
@@ -89,7 +93,7 @@ module _ {netlist : NetlistView} {levels : List ℕ} {seen : List Bool} (rest : 
         (record { gate = last_waits.gate; entered = last_waits.entered; level = last_waits.level; before = before });
     once = subst (AllPairs Differ) same climb.once;
     linked = subst (AreLinked netlist) same climb.linked;
-    seen_so = λ net is. subst (λ gates. Contains gates net ⊎ (0 < level_at levels net)) same (climb.seen_so net is);
+    seen_so = λ net is. subst (λ gates. Contains gates net ⊎ (0 < level_at levels net) ⊎ (HasLevel netlist net → ⊥)) same (climb.seen_so net is);
   }
     where
       same : gates_on (rest ++ step ∷ []) ≡ gates_on (rest ++ record { gate = step.gate; place = place } ∷ [])
@@ -132,11 +136,11 @@ module _ {netlist : NetlistView} {levels : List ℕ} {seen : List Bool} (rest : 
     still : (net : ℕ) → All (λ pin. IsTrue (is_known netlist levels pin)) (pins_at netlist net) → All (λ pin. IsTrue (is_known netlist after pin)) (pins_at netlist net)
     still net known = All-weaker (λ pin. IsTrue (is_known netlist levels pin)) (λ pin. IsTrue (is_known netlist after pin)) known_still (pins_at netlist net) known
 
-    HasLevel-new : HasLevel netlist after step.gate
-    HasLevel-new = record { gate = last_waits.gate; known = still step.gate all_known; level = level_same ∙ above_same step.gate all_known }
+    IsLevelled-new : IsLevelled netlist after step.gate
+    IsLevelled-new = record { gate = last_waits.gate; known = still step.gate all_known; level = level_same ∙ above_same step.gate all_known }
 
-    HasLevel-kept : (net : ℕ) → net ≢ step.gate → HasLevel netlist levels net → HasLevel netlist after net
-    HasLevel-kept net apart old = record {
+    IsLevelled-kept : (net : ℕ) → net ≢ step.gate → IsLevelled netlist levels net → IsLevelled netlist after net
+    IsLevelled-kept net apart old = record {
       gate = old.gate;
       known = still net old.known;
       level = level_other net apart ∙ old.level ∙ above_same net old.known;
@@ -154,8 +158,8 @@ module _ {netlist : NetlistView} {levels : List ℕ} {seen : List Bool} (rest : 
       size = length-set levels step.gate level ∙ climb.size;
       marks = climb.marks;
       known = λ net some. elim (cases_eq net step.gate) [
-        | inl same ↦ subst (HasLevel netlist after) (sym same) HasLevel-new
-        | inr apart ↦ HasLevel-kept net apart (climb.known net (subst (λ n. 0 < n) (level_other net apart) some))
+        | inl same ↦ subst (IsLevelled netlist after) (sym same) IsLevelled-new
+        | inr apart ↦ IsLevelled-kept net apart (climb.known net (subst (λ n. 0 < n) (level_other net apart) some))
       ];
       few = λ net. rw (one_more_level levels step.gate level inside last_waits.level some_level) (elim (cases_eq net step.gate) [
         | inl same ↦ let is = ap (level_at after) same ∙ level_same in omega (arith, is, few_above)
@@ -174,16 +178,19 @@ module _ {netlist : NetlistView} {levels : List ℕ} {seen : List Bool} (rest : 
             before = λ j before inside. known_still _ (old.before j before inside);
           };
       once = AllPairs-front Differ (gates_on rest) step.gate once_so;
-      linked = AreLinked-front netlist (gates_on rest) step.gate (subst (AreLinked netlist) (gates_on_push rest step) climb.linked);
+      linked = AreJoined-front (HasAtPin netlist) (gates_on rest) step.gate (subst (AreLinked netlist) (gates_on_push rest step) climb.linked);
       seen_so = λ net is. ⊎_elim
           (λ on. ⊎_elim
           (λ earlier. inl earlier)
-          (λ same. inr (subst (λ net. 0 < level_at after net) same (subst (λ n. 0 < n) (sym level_same) some_level)))
+          (λ same. inr (inl (subst (λ net. 0 < level_at after net) same (subst (λ n. 0 < n) (sym level_same) some_level))))
           (Contains-push_cases (gates_on rest) step.gate net (subst (λ gates. Contains gates net) (gates_on_push rest step) on)))
+          (λ left. ⊎_elim
           (λ some. elim (cases_eq net step.gate) [
-            | inl same ↦ inr (subst (λ net. 0 < level_at after net) (sym same) (subst (λ n. 0 < n) (sym level_same) some_level))
-            | inr apart ↦ inr (subst (λ n. 0 < n) (sym (level_other net apart)) some)
+            | inl same ↦ inr (inl (subst (λ net. 0 < level_at after net) (sym same) (subst (λ n. 0 < n) (sym level_same) some_level)))
+            | inr apart ↦ inr (inl (subst (λ n. 0 < n) (sym (level_other net apart)) some))
           ])
+          (λ without. inr (inr without))
+          left)
           (climb.seen_so net is);
     }
       where
@@ -203,6 +210,69 @@ unknown_gate netlist levels net unknown = go (is_gate_at netlist net) (level_at 
     go false true e is = absurd (true≢false is)
     go false false e is = absurd (true≢false is)
 
+-- gates each of which has one of them, or a net that has no level, at a pin, have none
+without_levels : (netlist : NetlistView) (gates : List ℕ) → All (λ net. IsTrue (is_gate_at netlist net)) gates →
+    ((k : ℕ) → k < length gates →
+    (pin : ℕ) × Contains (pins_at netlist (get_or gates k 0)) pin × (Contains gates pin ⊎ (HasLevel netlist pin → ⊥))) →
+    (net : ℕ) → HasLevel netlist net → Contains gates net → ⊥
+without_levels netlist gates are each _ (at_source net is) on = true≢false (sym (All-contains (λ net. IsTrue (is_gate_at netlist net)) gates net are on) ∙ is)
+without_levels netlist gates are each _ (above_pins net is pins) (k, within, at) =
+    let step = each k within in
+    let at_pin : Contains (pins_at netlist net) step.0 =
+    subst (λ net. Contains (pins_at netlist net) step.0) (get_or_default gates k 0 net within ∙ at) step.1 in
+    ⊎_elim
+    (λ again. without_levels netlist gates are each step.0 (pins step.0 at_pin) again)
+    (λ without. without (pins step.0 at_pin))
+    step.2
+
+-- the path is left, where its last gate has a pin whose level isn't known, and that was entered
+module _ {netlist : NetlistView} {levels : List ℕ} {seen : List Bool} (rest : List Step) (step : Step) (climb : IsClimb netlist levels seen (rest ++ step ∷ [])) where
+  module _ (pin : ℕ) (at_pin : Contains (pins_at netlist step.gate) pin) (unknown : is_known netlist levels pin ≡ false) (entered : IsTrue (is_seen seen pin)) where
+    abbrev gates : List ℕ
+    gates = gates_on (rest ++ step ∷ [])
+
+    are_gates : All (λ net. IsTrue (is_gate_at netlist net)) gates
+    are_gates = All-map (λ net. IsTrue (is_gate_at netlist net)) (λ (step : Step). step.gate) (rest ++ step ∷ [])
+        (All-weaker (Waits netlist levels seen) (λ (step : Step). IsTrue (is_gate_at netlist step.gate)) (λ step waits. waits.gate) (rest ++ step ∷ []) climb.waits)
+
+    pin_too : Contains gates pin ⊎ (HasLevel netlist pin → ⊥)
+    pin_too = ⊎_elim
+        (λ on. inl on)
+        (λ left. ⊎_elim
+        (λ some. absurd (omega (arith, some, (unknown_gate netlist levels pin unknown).1)))
+        (λ without. inr without)
+        left)
+        (climb.seen_so pin entered)
+
+    at_last : (k : ℕ) → k + 1 ≡ length gates → get_or gates k 0 ≡ step.gate
+    at_last k is =
+        let many = ap length (gates_on_push rest step) ∙ length_push (gates_on rest) step.gate in
+        ap (λ gates. get_or gates k 0) (gates_on_push rest step)
+        ∙ get_or_push (gates_on rest) step.gate 0 k (omega (arith, many, is))
+
+    each_goes_on : (k : ℕ) → k < length gates →
+        (pin : ℕ) × Contains (pins_at netlist (get_or gates k 0)) pin × (Contains gates pin ⊎ (HasLevel netlist pin → ⊥))
+    each_goes_on k within = ⊎_elim
+        (λ less. (get_or gates (k + 1) 0, climb.linked k less, inl (Contains-get_or gates (k + 1) 0 less)))
+        (λ past. (pin, subst (λ net. Contains (pins_at netlist net) pin) (sym (at_last k (omega (arith, past, within)))) at_pin, pin_too))
+        (cases_lt (k + 1) (length gates))
+
+    pub IsClimb-clear : IsClimb netlist levels seen []
+    IsClimb-clear = record {
+      size = climb.size;
+      marks = climb.marks;
+      known = climb.known;
+      few = climb.few;
+      entered = climb.entered;
+      waits = All-nil (Waits netlist levels seen);
+      once = λ i j d before within. absurd (omega (arith, within));
+      linked = λ place within. absurd (omega (arith, within));
+      seen_so = λ net is. ⊎_elim
+          (λ on. inr (inr (λ has. without_levels netlist gates are_gates each_goes_on net has on)))
+          (λ left. inr left)
+          (climb.seen_so net is);
+    }
+
 module _ {netlist : NetlistView} {levels : List ℕ} {seen : List Bool} (rest : List Step) (step : Step) (climb : IsClimb netlist levels seen (rest ++ step ∷ [])) where
   module _ (place : ℕ) (before : KnownBefore netlist levels (pins_at netlist step.gate) place) (within : place < length (pins_at netlist step.gate)) where
     abbrev stayed : List Step
@@ -211,19 +281,6 @@ module _ {netlist : NetlistView} {levels : List ℕ} {seen : List Bool} (rest : 
     abbrev pin : ℕ
     pin = get_or (pins_at netlist step.gate) place 0
 
-    -- a pin whose level isn't known, and that was entered, is on the path
-    pub stopped_on_path : is_known netlist levels pin ≡ false → IsTrue (is_seen seen pin) → ClosesAt netlist pin stayed
-    stopped_on_path unknown entered = record {
-      on = ⊎_elim
-          (λ on. on)
-          (λ some. absurd (omega (arith, some, (unknown_gate netlist levels pin unknown).1)))
-          ((IsClimb-stay rest step climb place before).seen_so pin entered);
-      rest = rest;
-      step = record { gate = step.gate; place = place };
-      last = refl;
-      at_pin = Contains-get_or (pins_at netlist step.gate) place 0 within;
-    }
-
     -- on to a gate at one of its pins
     pub IsClimb-on : pin < length netlist.nets → is_known netlist levels pin ≡ false → is_seen seen pin ≡ false →
         IsClimb netlist levels (set seen pin true) (rest ++ record { gate = step.gate; place = place } ∷ [] ++ record { gate = pin; place = 0 } ∷ [])
@@ -231,7 +288,7 @@ module _ {netlist : NetlistView} {levels : List ℕ} {seen : List Bool} (rest : 
         let stay = IsClimb-stay rest step climb place before in
         IsClimb-enter stayed stay pin below new (unknown_gate netlist levels pin unknown).0
         (subst (λ gates. AreLinked netlist (gates ++ pin ∷ [])) (sym (gates_on_push rest _))
-        (AreLinked-push netlist (gates_on rest) step.gate pin (subst (AreLinked netlist) (gates_on_push rest _) stay.linked)
+        (AreJoined-push (HasAtPin netlist) (gates_on rest) step.gate pin (subst (AreLinked netlist) (gates_on_push rest _) stay.linked)
         (Contains-get_or (pins_at netlist step.gate) place 0 within)))
 
 -- pins are numbers of nets

@@ -5,6 +5,7 @@ use Rattle.std.proofs.lemmas.List.{ext_get_or, get_or-map, length-map, get_or_de
 use Rattle.netlist.specs.Netlist.{NetlistView}
 use Rattle.netlist.proofs.CallerLemmas.{no_net}
 use Rattle.circuit_info.specs.Levels.{greatest, is_gate, is_gate_at, pins_at, level_at, level_above, IsLevelling, IsGateLoop}
+use Rattle.circuit_info.specs.Loops.{HasLevel, at_source, above_pins}
 use Rattle.circuit_info.proofs.Tops.{greatest_bounds, map_alike}
 
 module _ (netlist : NetlistView) where
@@ -48,6 +49,18 @@ module _ (netlist : NetlistView) where
         let last : length nets - 1 < length nets = omega (arith, gates.some) in
         let less = above levels ok (get_or nets (length nets - 1) 0) (get_or nets 0 0) (gate_in (length nets - 1) last) gates.closed in
         omega (arith, less, falls (length nets - 1) last)
+
+  module _ (levels : List ℕ) (ok : IsLevelling netlist levels) where
+    level_below : (bound net : ℕ) → level_at levels net < bound → HasLevel netlist net
+    level_below zero net less = absurd (omega (arith, less))
+    level_below (suc bound) net less = go (is_gate_at netlist net) refl (λ pin lower. level_below bound pin lower)
+      where
+        go : (gate : Bool) → is_gate_at netlist net ≡ gate → ((pin : ℕ) → level_at levels pin < bound → HasLevel netlist pin) → HasLevel netlist net
+        go true is lower = above_pins net is (λ pin at. lower pin (omega (arith, less, above levels ok net pin is at)))
+        go false is lower = at_source net is
+
+    pub each_has_level : (net : ℕ) → HasLevel netlist net
+    each_has_level net = level_below (level_at levels net + 1) net (omega arith)
 
   module _ (levels others : List ℕ) (ok : IsLevelling netlist levels) (also : IsLevelling netlist others) where
     same_below : (bound net : ℕ) → net < length netlist.nets → level_at levels net < bound → level_at levels net ≡ level_at others net

@@ -1,8 +1,12 @@
 pub mod CallerLemmas
 mod Climbing
-mod Ends
 mod Counting
+mod Heights
+mod Knowing
 mod Levelling
 mod Links
 mod Marks
+mod NamedLoops
+mod OneText
 mod Tops
+mod Ways

@@ -1,8 +1,9 @@
 -- The walk from gates back over their pins: the levels that are known, the gates that it has entered, and those on its path.
-use Rattle.std.specs.Prelude.{◌≡◌, ◌≢◌, ℕ, ◌<◌, ◌≤◌, ◌==◌, ◌&&◌, not, Bool, false, IsTrue, List, [], ◌∷◌, ◌++◌, length, drop, map, count_by, slice_index_or, Option, Some, None, All, AllPairs, Contains, ◌⊎◌}
+use Rattle.std.specs.Prelude.{◌≡◌, ◌≢◌, ℕ, ◌<◌, ◌≤◌, ◌==◌, ◌&&◌, ◌↔◌, not, Bool, false, IsTrue, List, [], ◌∷◌, ◌++◌, length, drop, map, count_by, slice_index_or, All, AllPairs, Contains, ◌⊎◌}
 use Rattle.netlist.specs.Netlist.{NetlistView}
 use Rattle.circuit_info.specs.declared.levels.Step.{Step}
 use Rattle.circuit_info.specs.Levels.{is_gate_at, pins_at, level_at, level_above, AreLinked}
+use Rattle.circuit_info.specs.Loops.{HasLevel, IsWalk}
 
 abbrev pub is_seen : List Bool → ℕ → Bool
 is_seen seen net = slice_index_or seen net false
@@ -28,7 +29,7 @@ KnownBefore netlist levels pins place =
     (k : ℕ) → k < place → k < length pins → IsTrue (is_known netlist levels (slice_index_or pins k 0))
 
 -- a gate whose level is that above its pins
-pub record HasLevel (netlist : NetlistView) (levels : List ℕ) (net : ℕ) : Type 0 where
+pub record IsLevelled (netlist : NetlistView) (levels : List ℕ) (net : ℕ) : Type 0 where
   pub gate : IsTrue (is_gate_at netlist net)
   pub known : All (λ pin. IsTrue (is_known netlist levels pin)) (pins_at netlist net)
   pub level : level_at levels net ≡ level_above netlist levels net
@@ -43,34 +44,35 @@ pub record Waits (netlist : NetlistView) (levels : List ℕ) (seen : List Bool) 
 abbrev pub gates_on : List Step → List ℕ
 gates_on path = map (λ (step : Step). step.gate) path
 
--- each gate that was entered is on the path or has its level
+-- a gate that was entered is on the path, or its level is known, or it has none
 pub record IsClimb (netlist : NetlistView) (levels : List ℕ) (seen : List Bool) (path : List Step) : Type 0 where
   pub size : length levels ≡ length netlist.nets
   pub marks : length seen ≡ length netlist.nets
-  pub known : (net : ℕ) → 0 < level_at levels net → HasLevel netlist levels net
+  pub known : (net : ℕ) → 0 < level_at levels net → IsLevelled netlist levels net
   pub few : (net : ℕ) → level_at levels net ≤ levelled levels
   pub entered : (net : ℕ) → 0 < level_at levels net → IsTrue (is_seen seen net)
   pub waits : All (Waits netlist levels seen) path
   pub once : AllPairs (λ (earlier later : ℕ). earlier ≢ later) (gates_on path)
   pub linked : AreLinked netlist (gates_on path)
-  pub seen_so : (net : ℕ) → IsTrue (is_seen seen net) → Contains (gates_on path) net ⊎ (0 < level_at levels net)
+  pub seen_so : (net : ℕ) → IsTrue (is_seen seen net) → Contains (gates_on path) net ⊎ (0 < level_at levels net) ⊎ (HasLevel netlist net → ⊥)
 
--- the last gate of the path has this one, which is on the path, at a pin
-pub record ClosesAt (netlist : NetlistView) (gate : ℕ) (path : List Step) : Type 0 where
-  pub on : Contains (gates_on path) gate
-  pub rest : List Step
-  pub step : Step
-  pub last : path ≡ rest ++ step ∷ []
-  pub at_pin : Contains (pins_at netlist step.gate) gate
+-- the levels that are known are those of the nets that have one
+pub record KnowsLevels (netlist : NetlistView) (levels : List ℕ) : Type 0 where
+  pub size : length levels ≡ length netlist.nets
+  pub known : (net : ℕ) → IsTrue (is_known netlist levels net) ↔ HasLevel netlist net
 
--- where a walk stops: at a gate that closes a loop, or when all gates of its path have their levels
-abbrev pub StopsAt : NetlistView → Option ℕ → List Step → Type 0
-StopsAt netlist None path = path ≡ []
-StopsAt netlist (Some gate) path = ClosesAt netlist gate path
+-- a walk from the first of these nets over nets that have no level, each once, which leads on to the second
+pub record IsWay (netlist : NetlistView) (start : ℕ) (passed : List Bool) (way : List ℕ) (net : ℕ) : Type 0 where
+  pub size : length passed ≡ length netlist.nets
+  pub without : HasLevel netlist net → ⊥
+  pub first : slice_index_or (way ++ net ∷ []) 0 0 ≡ start
+  pub walk : IsWalk netlist (way ++ net ∷ [])
+  pub once : AllPairs (λ (earlier later : ℕ). earlier ≢ later) way
+  pub passed_so : (other : ℕ) → IsTrue (is_seen passed other) ↔ Contains way other
 
--- what is left of some gates from this one on
-pub record IsRestFrom (gates : List ℕ) (gate : ℕ) (nets : List ℕ) : Type 0 where
+-- what is left of a way from this net on
+pub record IsRestFrom (way : List ℕ) (net : ℕ) (nets : List ℕ) : Type 0 where
   pub place : ℕ
-  pub within : place < length gates
-  pub first : slice_index_or gates place 0 ≡ gate
-  pub rest : nets ≡ drop place gates
+  pub within : place < length way
+  pub first : slice_index_or way place 0 ≡ net
+  pub rest : nets ≡ drop place way

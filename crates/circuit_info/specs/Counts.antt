@@ -5,6 +5,7 @@ use Rattle.logic3.specs.declared.gates.GateKind.TheVariants.{And, Nand, Or, Nor,
 use Rattle.netlist.specs.declared.part.Part.{Part}
 use Rattle.netlist.specs.declared.part.Part.TheVariants.{Input, Gate, Flop}
 use Rattle.netlist.specs.Netlist.{NetView, NetlistView}
+use Rattle.circuit_info.specs.Levels.{is_gate}
 
 -- a number for each part, no two alike
 abbrev pub part_code : Part → ℕ
@@ -22,6 +23,10 @@ part_code Flop = 9
 -- how many nets this part drives
 abbrev pub part_count : NetlistView → Part → ℕ
 part_count netlist part = count_by (λ (net : NetView). part_code net.part == part_code part) netlist.nets
+
+-- how many nets gates drive
+abbrev pub gate_count : NetlistView → ℕ
+gate_count netlist = count_by (λ (net : NetView). is_gate net.part) netlist.nets
 
 -- the pins of all nets, net after net
 abbrev pub all_pins : NetlistView → List ℕ

@@ -3,8 +3,6 @@ use Rattle.std.specs.Prelude.{◌≡◌, ◌≢◌, ℕ, ◌+◌, ◌-◌, ◌<�
 use Rattle.netlist.specs.declared.part.Part.{Part}
 use Rattle.netlist.specs.declared.part.Part.TheVariants.{Input, Gate, Flop}
 use Rattle.netlist.specs.Netlist.{NetlistView, net_at}
-use Rattle.circuit_info.specs.declared.levels.Depths.{Depths}
-use Rattle.circuit_info.specs.declared.levels.Depths.TheVariants.{Levels, Loop}
 
 abbrev pub is_gate : Part → Bool
 is_gate Input = false
@@ -48,8 +46,3 @@ pub record IsGateLoop (netlist : NetlistView) (nets : List ℕ) : Type 0 where
   pub once : AllPairs (λ (earlier later : ℕ). earlier ≢ later) nets
   pub linked : AreLinked netlist nets
   pub closed : Contains (pins_at netlist (slice_index_or nets (length nets - 1) 0)) (slice_index_or nets 0 0)
-
--- the levels of a netlist's nets, or a loop of its gates
-abbrev pub IsDepths : NetlistView → Depths → Type 0
-IsDepths netlist (Levels levels) = IsLevelling netlist levels.items
-IsDepths netlist (Loop nets) = IsGateLoop netlist nets.items

@@ -2,4 +2,6 @@ pub use Rattle.netlist.specs.Netlist
 pub use Rattle.netlist.specs.Part
 pub mod Counts
 pub mod Levels
+pub mod Loops
 pub mod Climb
+pub mod Text

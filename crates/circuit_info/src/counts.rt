@@ -1,6 +1,7 @@
 //! What is counted of a netlist's nets and pins.
 ghost use Rattle.std.specs.Prelude.{◌≡◌, ◌<◌, ◌≤◌, length, All, IfOk};
-ghost use Rattle.circuit_info.specs.Counts.{all_pins, fan_ins, part_code, part_count, IsFanOuts, IsFirstGreatest};
+ghost use Rattle.circuit_info.specs.Levels.{is_gate};
+ghost use Rattle.circuit_info.specs.Counts.{all_pins, fan_ins, gate_count, part_code, part_count, IsFanOuts, IsFirstGreatest};
 
 use logic3::GateKind;
 use netlist::{Netlist, Part};
@@ -17,6 +18,26 @@ pub fn part_count(netlist: &Netlist, part: Part) -> u32
         }
     }
     count
+}
+
+/// How many nets gates drive: 0 to 100,000.
+pub fn gate_count(netlist: &Netlist) -> u32
+    ensures { result ≡ gate_count netlist.now }
+{
+    let mut gates = 0;
+    for net in 0..netlist.nets() {
+        if is_gate(netlist.part(net)) {
+            gates += 1;
+        }
+    }
+    gates
+}
+
+/// Whether a part is a gate.
+pub(crate) fn is_gate(part: Part) -> bool
+    ensures { result ≡ is_gate part }
+{
+    matches!(part, Part::Gate(_))
 }
 
 /// A number for each part, no two alike.

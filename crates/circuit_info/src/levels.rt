@@ -1,14 +1,18 @@
-//! How many gates stand one behind the other, and loops of gates.
+//! How many gates stand one behind the other, and the loop that is named where some have no level.
 //!
 //! A walk goes from gates back over their pins, as deep as it can, and gives a gate its level once it knows those of all
-//! its pins. Where it comes to a gate that it has entered and not yet left, it has found a loop. It keeps its path in a
-//! list of its own, so that long chains of gates take no stack.
-ghost use Rattle.std.specs.Prelude.{◌≡◌, ◌≢◌, ℕ, ◌+◌, ◌<◌, ◌≤◌, [], ◌∷◌, ◌++◌, false, length, map, set, slice_index_or, true, All, Contains, IfOk, None, IsTrue, OnOk};
+//! its pins. Where it comes to a gate that it entered before and that has no level yet, none of the gates of its path has
+//! a level, and it leaves them all. It keeps its path in a list of its own, so that long chains of gates take no stack.
+ghost use Rattle.std.specs.Prelude.{◌≡◌, ℕ, ◌+◌, ◌<◌, ◌≤◌, [], ◌∷◌, ◌++◌, length, map, set, true, All, IfOk, OnOk};
 ghost use Rattle.netlist.specs.Netlist.{IsNetlist};
-ghost use Rattle.circuit_info.specs.Levels.{greatest, is_gate, is_gate_at, level_at, IsDepths};
-ghost use Rattle.circuit_info.specs.Climb.{gates_on, is_known, is_seen, IsClimb, IsRestFrom, KeepsSeen, KnownBefore, StopsAt};
+ghost use Rattle.circuit_info.specs.Levels.{greatest, level_at, IsLevelling};
+ghost use Rattle.circuit_info.specs.Loops.{HasLevel, IsDepths};
+ghost use Rattle.circuit_info.specs.Climb.{IsClimb, KeepsSeen, KnowsLevels};
 
-use netlist::{Netlist, Part};
+use crate::counts::is_gate;
+use crate::known::first_unknown;
+use crate::loops::{least_without, named_loop};
+use netlist::Netlist;
 use std::alloc::{AllocError, Global};
 
 /// How gates stand behind each other.
@@ -17,11 +21,13 @@ pub enum Depths {
     /// The level of each net, in order: 0 for inputs and flip-flops, and for a gate one more than the highest level of
     /// the nets at its pins.
     Levels(Vec<u32>),
-    /// The numbers of gates that form a loop, each once: each has the next one at a pin, and the last one the first.
+    /// The numbers of gates that form a loop, each once: each has the next one at a pin, and the last one the first. Where
+    /// there are several loops, it is the one that this walk comes to: go from the least net that has no level, each time
+    /// on to the net at the first of its pins that has none, until a net comes again; the loop begins at that one.
     Loop(Vec<u32>),
 }
 
-/// The levels of a netlist's nets, or else a loop of gates without a flip-flop.
+/// The levels of a netlist's nets, or else the named loop of its gates, in which no flip-flop stands.
 ///
 /// Takes time and memory in proportion to the nets and pins.
 ///
@@ -35,9 +41,10 @@ pub fn levels_of(alloc: Global, netlist: &Netlist) -> Result<Depths, AllocError>
         seen: vec![in alloc; false; netlist.nets() as usize]?,
         path: Vec::new(alloc),
     };
-    match walk.climb_all(netlist)? {
-        Some(gate) => {
-            let nets = loop_on(alloc, walk.path.as_slice(), gate)?;
+    walk.climb_all(netlist)?;
+    match least_without(netlist, walk.levels.as_slice()) {
+        Some(net) => {
+            let nets = named_loop(alloc, netlist, walk.levels.as_slice(), net)?;
             Ok(Depths::Loop(nets))
         }
         None => Ok(Depths::Levels(walk.levels)),
@@ -67,7 +74,7 @@ struct Step {
 /// A walk from gates back over their pins.
 #[derive(Debug, Drop)]
 struct Walk {
-    // The levels of nets; 0 for gates whose level isn't known yet.
+    // The levels of nets; 0 for gates whose level isn't known yet, or that have none.
     levels: Vec<u32>,
     // The gates that it has entered.
     seen: Vec<bool>,
@@ -76,24 +83,20 @@ struct Walk {
 }
 
 impl Walk {
-    /// Goes on from each gate, until a gate closes a loop.
-    fn climb_all(&mut self, netlist: &Netlist) -> Result<Option<u32>, AllocError>
+    /// Goes on from each gate.
+    fn climb_all(&mut self, netlist: &Netlist) -> Result<(), AllocError>
         requires climb { IsClimb netlist.now self.old.levels.items self.old.seen.items self.old.path.items }
         requires path { self.old.path.items ≡ [] }
-        ensures climb { OnOk result (IsClimb netlist.now self.new.levels.items self.new.seen.items self.new.path.items) }
-        ensures stops { IfOk result (λ gate. StopsAt netlist.now gate self.new.path.items) }
-        ensures all { IfOk result (λ gate. gate ≡ None →
-            (net : ℕ) → net < length netlist.now.nets → IsTrue (is_gate_at netlist.now net) → IsTrue (is_seen self.new.seen.items net)) }
+        ensures knows { OnOk result (KnowsLevels netlist.now self.new.levels.items) }
+        ensures levels { OnOk result (((net : ℕ) → HasLevel netlist.now net) → IsLevelling netlist.now self.new.levels.items) }
     {
         for net in 0..netlist.nets() {
             if is_gate(netlist.part(net)) && !self.seen[net as usize] {
                 self.enter(net)?;
-                if let Some(gate) = self.climb(netlist)? {
-                    return Ok(Some(gate));
-                }
+                self.climb(netlist)?;
             }
         }
-        Ok(None)
+        Ok(())
     }
 
     /// Goes to a gate.
@@ -111,12 +114,12 @@ impl Walk {
         Ok(())
     }
 
-    /// Goes on until all gates of the path have their levels, or a gate closes a loop.
-    fn climb(&mut self, netlist: &Netlist) -> Result<Option<u32>, AllocError>
+    /// Goes on until all gates of the path have their levels, or it is sure that they have none.
+    fn climb(&mut self, netlist: &Netlist) -> Result<(), AllocError>
         requires formed { IsNetlist netlist.now }
         requires climb { IsClimb netlist.now self.old.levels.items self.old.seen.items self.old.path.items }
         ensures climb { OnOk result (IsClimb netlist.now self.new.levels.items self.new.seen.items self.new.path.items) }
-        ensures stops { IfOk result (λ gate. StopsAt netlist.now gate self.new.path.items) }
+        ensures path { OnOk result (self.new.path.items ≡ []) }
         ensures kept { OnOk result (KeepsSeen self.old.seen.items self.new.seen.items) }
     {
         while let Some(step) = self.path.pop() {
@@ -126,48 +129,18 @@ impl Walk {
                 self.levels[step.gate as usize] = level_above(pins, self.levels.as_slice());
                 continue;
             }
+            if self.seen[pins[place] as usize] {
+                self.path.clear();
+                continue;
+            }
             self.path.push(Step {
                 gate: step.gate,
                 place,
             })?;
-            if self.seen[pins[place] as usize] {
-                return Ok(Some(pins[place]));
-            }
             self.enter(pins[place])?;
         }
-        Ok(None)
+        Ok(())
     }
-}
-
-/// Whether a part is a gate.
-fn is_gate(part: Part) -> bool
-    ensures { result ≡ is_gate part }
-{
-    matches!(part, Part::Gate(_))
-}
-
-/// The first place, from one on, of a pin whose level isn't known; past the last pin where all are.
-fn first_unknown(netlist: &Netlist, pins: &[u32], from: usize, levels: &[u32]) -> usize
-    requires size { length levels.now ≡ length netlist.now.nets }
-    requires pins { All (λ pin. pin < length netlist.now.nets) pins.now }
-    requires before { KnownBefore netlist.now levels.now pins.now from }
-    ensures known { KnownBefore netlist.now levels.now pins.now result }
-    ensures unknown { result < length pins.now → is_known netlist.now levels.now (slice_index_or pins.now result 0) ≡ false }
-{
-    let mut place = from;
-    while place < pins.len() && is_known(netlist, pins[place], levels) {
-        place += 1;
-    }
-    place
-}
-
-/// Whether the level of a net is known.
-fn is_known(netlist: &Netlist, net: u32, levels: &[u32]) -> bool
-    requires size { length levels.now ≡ length netlist.now.nets }
-    requires net { net < length netlist.now.nets }
-    ensures { result ≡ is_known netlist.now levels.now net }
-{
-    !(is_gate(netlist.part(net)) && levels[net as usize] == 0)
 }
 
 /// One more than the greatest level of these pins.
@@ -184,37 +157,4 @@ fn level_above(pins: &[u32], levels: &[u32]) -> u32
         }
     }
     top + 1
-}
-
-/// The gates of a path from this one on, in order.
-fn loop_on(alloc: Global, path: &[Step], gate: u32) -> Result<Vec<u32>, AllocError>
-    requires { Contains (gates_on path.now) gate }
-    ensures { IfOk result (λ nets. IsRestFrom (gates_on path.now) gate nets.items) }
-{
-    let from = place_of(path, gate);
-    gates_of(alloc, &path[from..])
-}
-
-/// The first place of a gate on a path.
-fn place_of(path: &[Step], gate: u32) -> usize
-    requires { Contains (gates_on path.now) gate }
-    ensures within { result < length path.now }
-    ensures is { slice_index_or (gates_on path.now) result 0 ≡ gate }
-{
-    let mut place = 0;
-    while path[place].gate != gate {
-        place += 1;
-    }
-    place
-}
-
-/// The gates of a path, in order.
-fn gates_of(alloc: Global, path: &[Step]) -> Result<Vec<u32>, AllocError>
-    ensures { IfOk result (λ nets. nets.items ≡ gates_on path.now) }
-{
-    let mut nets = Vec::new(alloc);
-    for step in path {
-        nets.push(step.gate)?;
-    }
-    Ok(nets)
 }

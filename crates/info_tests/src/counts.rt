@@ -1,6 +1,6 @@
 //! How many nets a part drives, and at how many pins nets stand.
 use bench_text::read;
-use circuit_info::{all_pins, fan_ins, fan_outs, first_greatest, part_count};
+use circuit_info::{all_pins, fan_ins, fan_outs, first_greatest, gate_count, part_count};
 use logic3::GateKind;
 use netlist::{Netlist, Part};
 use std::alloc::Global;
@@ -27,6 +27,7 @@ fn parts_of_s27(rt: HostRuntime) -> Result<(), Fail> {
     for &(part, count) in &S27_PARTS {
         assert!(&rt; part_count(&netlist, part) == count);
     }
+    assert!(&rt; gate_count(&netlist) == 10);
     Ok(())
 }
 

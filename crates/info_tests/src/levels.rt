@@ -1,9 +1,9 @@
 //! Levels and loops of gates, and nets that no output hangs on.
 use bench_text::read;
-use circuit_info::{Depths, greatest, levels_of};
+use circuit_info::{Depths, greatest, info_text, levels_of};
 use fanin_cone::outside;
 use netlist::Netlist;
-use std::alloc::Global;
+use std::alloc::{AllocError, Global};
 use std::process::Abort;
 use std::test::Fail;
 use worked_examples::S27_BENCH;
@@ -33,19 +33,41 @@ static LEVELS: [(&[u8], &[u32], u32); 6] = [
     (b"INPUT(a)", &[0], 0),
 ];
 
-// Netlists with a loop of gates, and the loop that is found.
-static LOOPS: [(&[u8], &[u32]); 5] = [
+// Netlists with a loop of gates, and the loop that is named.
+static LOOPS: [(&[u8], &[u32]); 11] = [
     (b"y = NOT(y)", &[0]),
     // The ring.
     (b"x = NOT(y)\ny = NOT(z)\nz = NOT(x)", &[0, 1, 2]),
+    // The oscillator with a gate.
     (b"INPUT(e)\nOUTPUT(y)\ny = NAND(e, y)", &[1]),
     // A gate that isn't in the loop takes what it shows.
     (b"y = NOT(p)\np = NOT(q)\nq = NOT(p)", &[1, 2]),
+    // The way to the loop comes to it in the midst of its nets.
+    (
+        b"s = NOT(c)\na = NOT(b)\nb = NOT(c)\nc = NOT(a)",
+        &[3, 1, 2],
+    ),
+    // Two loops, of which the least net leads to that at its first pin.
+    (
+        b"y = AND(d, b)\na = NOT(b)\nb = NOT(a)\nc = NOT(d)\nd = NOT(c)",
+        &[4, 3],
+    ),
+    // Two loops with one gate in both.
+    (b"a = AND(c, b)\nb = NOT(a)\nc = NOT(a)", &[0, 2]),
+    // Two loops that have nothing to do with each other, behind a gate that has a level.
+    (
+        b"INPUT(e)\nu = NOT(e)\na = NOT(b)\nb = NOT(a)\nc = NOT(d)\nd = NOT(c)",
+        &[2, 3],
+    ),
     // A loop through a flip-flop comes first, and then one without.
     (
         b"q = DFF(n)\nn = NOT(q)\nINPUT(a)\nb = OR(a, c)\nc = AND(a, b)",
         &[3, 4],
     ),
+    // A flip-flop stands at a gate's first pin and behind it, and the loop goes through the second one.
+    (b"q = DFF(a)\na = AND(q, b)\nb = OR(a, q)", &[1, 2]),
+    // The first pin of a gate has a level by a gate that is defined last.
+    (b"INPUT(e)\na = OR(u, b)\nb = OR(u, a)\nu = NOT(e)", &[1, 2]),
 ];
 
 fn has_levels(
@@ -89,6 +111,62 @@ fn loops(rt: HostRuntime) -> Result<(), Fail> {
         has_loop(&rt, rt.alloc(), bench, nets)?;
     }
     Ok(())
+}
+
+const LONG: u32 = 50_000;
+
+// An input `a`, and so many inverters `g0`, `g1` and so on, each with the next one at its pin, and this net at the pin
+// of the last one.
+fn chain(alloc: Global, gates: u32, end: &[u8]) -> Result<Vec<u8>, AllocError> {
+    let mut text = Vec::from_slice(alloc, b"INPUT(a)\ng0 = NOT(")?;
+    for number in 1..gates {
+        push_gate(&mut text, number)?;
+        text.extend_from_slice(b")\n")?;
+        push_gate(&mut text, number)?;
+        text.extend_from_slice(b" = NOT(")?;
+    }
+    text.extend_from_slice(end)?;
+    text.extend_from_slice(b")\n")?;
+    Ok(text)
+}
+
+fn push_gate(text: &mut Vec<u8>, number: u32) -> Result<(), AllocError> {
+    let digits = number.to_string(*text.allocator())?;
+    text.push(b'g')?;
+    text.extend_from_slice(digits.as_bytes())
+}
+
+fn tells_end(rt: &impl Abort, alloc: Global, netlist: &Netlist, end: &[u8]) -> Result<(), Fail> {
+    let text = info_text(alloc, netlist, &[])?;
+    assert!(rt; text.as_slice().ends_with(end));
+    Ok(())
+}
+
+#[test]
+fn long_chain(rt: HostRuntime) -> Result<(), Fail> {
+    let bench = chain(rt.alloc(), LONG, b"a")?;
+    let netlist = read(rt.alloc(), bench.as_slice())?;
+    let end = b"NOT 50000\nBUF 0\nfan-in 1 g0\nfan-out 1 a\nlevels 50000\n";
+    tells_end(&rt, rt.alloc(), &netlist, end)
+}
+
+#[test]
+fn long_ring(rt: HostRuntime) -> Result<(), Fail> {
+    let bench = chain(rt.alloc(), LONG, b"g0")?;
+    let netlist = read(rt.alloc(), bench.as_slice())?;
+    match levels_of(rt.alloc(), &netlist)? {
+        Depths::Levels(_) => assert!(&rt; false),
+        Depths::Loop(found) => assert!(&rt; found.iter().copied().eq(1..=LONG)),
+    }
+    Ok(())
+}
+
+// The walk over the whole chain comes to a net that is its own pin.
+#[test]
+fn long_way(rt: HostRuntime) -> Result<(), Fail> {
+    let bench = chain(rt.alloc(), LONG, b"g49999")?;
+    let netlist = read(rt.alloc(), bench.as_slice())?;
+    tells_end(&rt, rt.alloc(), &netlist, b"\nloop g49999\n")
 }
 
 // Netlists, and their nets that no output hangs on.

@@ -1,7 +1,9 @@
-//! Tests of what is told of a circuit: counts, levels, loops, and nets that no output hangs on.
+//! Tests of what is told of a circuit: counts, levels, loops, nets that no output hangs on, and the whole text.
 #![tactic(auto)]
 
 #[cfg(test)]
 mod counts;
 #[cfg(test)]
 mod levels;
+#[cfg(test)]
+mod text;

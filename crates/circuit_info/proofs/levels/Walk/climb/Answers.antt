@@ -1,8 +1,10 @@
 use Rattle.std.proofs.Common.{◌≡◌, ◌∷◌, [], ◌++◌, ap, ◌∙◌, subst, arith, ◌<◌, length, get_or, IsTrue, false}
 use Rattle.std.proofs.lemmas.List.{length_push}
+use Rattle.std.proofs.lemmas.List.Elements.{Contains-get_or}
+use Rattle.circuit_info.specs.Levels.{pins_at}
 use Rattle.circuit_info.specs.Climb.{unseen, is_seen, IsClimb}
 use Rattle.circuit_info.proofs.Marks.{fewer_unseen, seen_still, read_true, read_false}
-use Rattle.circuit_info.proofs.Climbing.{IsClimb-stay, IsClimb-leave, last_below, last_waits, IsClimb-on, stopped_on_path, pins_below}
+use Rattle.circuit_info.proofs.Climbing.{IsClimb-leave, last_below, last_waits, IsClimb-on, IsClimb-clear, pins_below}
 use Rattle.circuit_info.proofs.levels.Walk.climb.Goals as goal
 use Rattle.circuit_info.proofs.levels.Walk.climb.Goals.{In-Some}
 
@@ -35,24 +37,20 @@ loop-step-preserved-then-place-pins c =
       kept = c.loop-step.invariant.kept;
     }
 
-pub returns-then-index-clause-climb : goal.returns-then-index-clause-climb
-returns-then-index-clause-climb c =
-    let climb = climb_at (goal.at.returns-then-index-clause-climb c).In-Some in
-    let known = rw (c.as_slice.ensures.value, c.pins_of-pins.ensures) at c.first_unknown-place.ensures.known in
-    rw c.in_ok-push.ensures.items (IsClimb-stay c.pop.new.self.items c.in-Some.step climb c.first_unknown-place.result known)
-
-pub returns-then-index-clause-stops : goal.returns-then-index-clause-stops
-returns-then-index-clause-stops c =
-    let climb = climb_at (goal.at.returns-then-index-clause-stops c).In-Some in
-    let known = rw (c.as_slice.ensures.value, c.pins_of-pins.ensures) at c.first_unknown-place.ensures.known in
+pub loop-step-preserved-then-index : goal.loop-step-preserved-then-index
+loop-step-preserved-then-index c =
+    let climb = climb_at (goal.at.loop-step-preserved-then-index c).In-Some in
     let unknown = rw (c.as_slice.ensures.value, c.pins_of-pins.ensures) at (c.first_unknown-place.ensures.unknown c.if-place-pins.false) in
     let within = rw c.pins_of-pins.ensures at c.if-place-pins.false in
     let on = pins_below c.args.netlist.now c.requires.formed c.in-Some.step.gate (last_below c.pop.new.self.items c.in-Some.step climb) c.first_unknown-place.result within in
     let below : get_or c.pins_of-pins.result.now c.first_unknown-place.result 0 < length c.loop-step.self.seen.items = rw (c.pins_of-pins.ensures, c.loop-step.invariant.climb.marks) on in
     let at : IsTrue (is_seen c.loop-step.self.seen.items (get_or c.pins_of-pins.result.now c.first_unknown-place.result 0)) = read_true c.loop-step.self.seen.items (get_or c.pins_of-pins.result.now c.first_unknown-place.result 0) c.index.result.now c.index.ensures c.if-index.true below in
     let seen = rw c.pins_of-pins.ensures at at in
-    rw (c.in_ok-push.ensures.items, c.pins_of-pins.ensures)
-    (stopped_on_path c.pop.new.self.items c.in-Some.step climb c.first_unknown-place.result known within unknown seen)
+    record {
+      climb = rw c.clear.ensures.items (IsClimb-clear c.pop.new.self.items c.in-Some.step climb _
+          (Contains-get_or (pins_at c.args.netlist.now c.in-Some.step.gate) c.first_unknown-place.result 0 within) unknown seen);
+      kept = c.loop-step.invariant.kept;
+    }
 
 pub loop-step-preserved : goal.loop-step-preserved
 loop-step-preserved c =

@@ -1,0 +1,30 @@
+//! Which levels are known while they are looked for.
+ghost use Rattle.std.specs.Prelude.{◌≡◌, ◌<◌, false, length, slice_index_or, All};
+ghost use Rattle.circuit_info.specs.Climb.{is_known, KnownBefore};
+
+use crate::counts::is_gate;
+use netlist::Netlist;
+
+/// Whether the level of a net is known: a gate whose level isn't has 0.
+pub(crate) fn is_known(netlist: &Netlist, net: u32, levels: &[u32]) -> bool
+    requires size { length levels.now ≡ length netlist.now.nets }
+    requires net { net < length netlist.now.nets }
+    ensures { result ≡ is_known netlist.now levels.now net }
+{
+    !(is_gate(netlist.part(net)) && levels[net as usize] == 0)
+}
+
+/// The first place, from one on, of a pin whose level isn't known; past the last pin where all are.
+pub(crate) fn first_unknown(netlist: &Netlist, pins: &[u32], from: usize, levels: &[u32]) -> usize
+    requires size { length levels.now ≡ length netlist.now.nets }
+    requires pins { All (λ pin. pin < length netlist.now.nets) pins.now }
+    requires before { KnownBefore netlist.now levels.now pins.now from }
+    ensures known { KnownBefore netlist.now levels.now pins.now result }
+    ensures unknown { result < length pins.now → is_known netlist.now levels.now (slice_index_or pins.now result 0) ≡ false }
+{
+    let mut place = from;
+    while place < pins.len() && is_known(netlist, pins[place], levels) {
+        place += 1;
+    }
+    place
+}
