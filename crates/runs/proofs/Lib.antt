@@ -4,9 +4,13 @@ pub mod CallerLemmas
 mod Checks
 mod Cones
 mod Diagrams
+mod DiffNames
+mod Diffs
 mod Drains
 mod Ends
+mod Infos
 mod Isolated
+mod Members
 mod Nets
 mod Others
 mod Passes

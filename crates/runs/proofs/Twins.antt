@@ -27,7 +27,7 @@ use Rattle.runs.proofs.Runs.{ready_of_run}
 
 -- ---- refusals
 
-module _ (answer : Result Twins TwinFault) where
+module _ {A : Type 0} (answer : Result A TwinFault) where
   -- a side has no net of the name
   pub IsTwinRefusal-net : (side : Side) (fault : TwinFault) → fault.side ≡ side → (found : Option ℕ) → ok_or found UnknownNet ≡ Err fault.fault →
       answer ≡ Err (on side fault.fault) → IsTwinRefusal answer fault
@@ -40,7 +40,7 @@ module _ (answer : Result Twins TwinFault) where
       go _ found lacks is = is
 
   -- what refuses a side's run
-  pub IsTwinRefusal-lifted : {A : Type 0} (refused : Result A SimFault) (side : Side) (fault : TwinFault) → fault.side ≡ side →
+  pub IsTwinRefusal-lifted : {B : Type 0} (refused : Result B SimFault) (side : Side) (fault : TwinFault) → fault.side ≡ side →
       ((why : SimFault) → refused ≡ Err why → answer ≡ Err (on side why)) → IsRefusal refused fault.fault → IsTwinRefusal answer fault
   IsTwinRefusal-lifted refused side fault on_side lifts refusal = rw on_side (go fault.fault refusal)
     where

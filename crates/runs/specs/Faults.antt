@@ -6,6 +6,7 @@ use Rattle.cmb_events.specs.ScheduleFaults as of_schedule
 use Rattle.vcd_dump.specs.Faults as of_dump
 use Rattle.timing_diagram.specs.Faults as of_columns
 use Rattle.drawn_stimuli.specs.Faults as of_drives
+use Rattle.wave_diff.specs.Faults as of_compared
 use Rattle.bench_text.specs.declared.fault.BenchFault.{BenchFault}
 use Rattle.bench_text.specs.declared.fault.BenchFault.TheVariants as bench
 use Rattle.design.specs.declared.fault.BuildFault.{BuildFault}
@@ -21,7 +22,7 @@ use Rattle.drawn_stimuli.specs.declared.fault.DriveFault.TheVariants as drives
 use Rattle.vcd_dump.specs.declared.fault.DumpFault.{DumpFault}
 use Rattle.vcd_dump.specs.declared.fault.DumpFault.TheVariants as dump
 use Rattle.runs.specs.declared.fault.SimFault.{SimFault}
-use Rattle.runs.specs.declared.fault.SimFault.TheVariants.{Setting, Bench, Timing, Stimulus, Schedule, Columns, Drives, UnknownNet, Dump, Memory}
+use Rattle.runs.specs.declared.fault.SimFault.TheVariants.{Setting, Bench, Timing, Stimulus, Schedule, Columns, Drives, Compared, UnknownNet, Dump, Memory}
 
 -- the line that a fault names, and 0 for one without a line
 abbrev pub line_of : SimFault → ℕ
@@ -39,6 +40,7 @@ name_of (Stimulus fault) = stimulus_name fault
 name_of (Schedule fault) = of_schedule.name_of fault
 name_of (Columns fault) = of_columns.name_of fault
 name_of (Drives fault) = of_drives.name_of fault
+name_of (Compared fault) = of_compared.name_of fault
 name_of UnknownNet = codes "UnknownNet"
 name_of (Dump fault) = of_dump.name_of fault
 name_of Memory = codes "Memory"

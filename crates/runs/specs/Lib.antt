@@ -1,5 +1,6 @@
 pub mod Checked
 pub mod ConeText
+pub mod Diffs
 pub mod Drained
 pub mod Drawn
 pub mod Driven
@@ -7,6 +8,7 @@ pub mod Ends
 pub mod Events
 pub mod Explained
 pub mod Faults
+pub mod InfoText
 pub mod Isolation
 pub mod Paces
 pub mod Shown

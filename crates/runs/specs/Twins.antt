@@ -56,7 +56,7 @@ pub record IsComparison (twins : Twins) (name : List ℕ) (horizon : ℕ) (answe
   pub second : answer.second ≡ wave_of (value_of twins.second.design.circuit twins.other_net) 0 (horizon + 1)
 
 -- before a byte is written: the fault is the answer, unless memory was wanting
-abbrev pub IsTwinRefusal : Result Twins TwinFault → TwinFault → Type 0
+abbrev pub IsTwinRefusal : {A : Type 0} → Result A TwinFault → TwinFault → Type 0
 IsTwinRefusal answer fault = refused fault.side fault.fault
   where
     refused : Side → SimFault → Type 0

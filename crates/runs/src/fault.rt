@@ -14,11 +14,13 @@ use thiserror::Error;
 use timing_diagram::ColumnsFault;
 use timing_text::{DelayFault, OptionFault, StimulusFault};
 use vcd_dump::DumpFault;
+use wave_diff::ComparedFault;
 
 /// Why a run ended early.
 ///
 /// The first fault decides: the settings (default delay, period, horizon), the netlist, the delays,
-/// the stimuli, the schedule, the names of nets; of a timing diagram its ticks before the netlist. A want of memory of any layer is [`Memory`](Self::Memory).
+/// the stimuli, the schedule, the names of nets; the ticks of a timing diagram, and those at which runs are
+/// compared, come before all else but the horizon. A want of memory of any layer is [`Memory`](Self::Memory).
 #[derive(Clone, Copy, Debug, PartialEq, Eq, Error)]
 pub enum SimFault {
     Setting(OptionFault),
@@ -30,6 +32,8 @@ pub enum SimFault {
     Columns(ColumnsFault),
     /// What is to drive the inputs is faulty.
     Drives(DriveFault),
+    /// The ticks at which runs are to be compared are refused.
+    Compared(ComparedFault),
     /// No net has a name that was asked for.
     UnknownNet,
     /// The dump broke off.
@@ -51,6 +55,7 @@ impl SimFault {
             SimFault::Setting(_)
             | SimFault::Columns(_)
             | SimFault::Drives(_)
+            | SimFault::Compared(_)
             | SimFault::UnknownNet
             | SimFault::Dump(_)
             | SimFault::Memory => 0,
@@ -69,6 +74,7 @@ impl SimFault {
             SimFault::Schedule(fault) => fault.name(),
             SimFault::Columns(fault) => fault.name(),
             SimFault::Drives(fault) => fault.name(),
+            SimFault::Compared(fault) => fault.name(),
             SimFault::UnknownNet => "UnknownNet",
             SimFault::Dump(fault) => fault.name(),
             SimFault::Memory => "Memory",
@@ -173,6 +179,14 @@ impl From<DriveFault> for SimFault {
             DriveFault::Memory => SimFault::Memory,
             other => SimFault::Drives(other),
         }
+    }
+}
+
+impl From<ComparedFault> for SimFault {
+    ghost from_gives = { λ fault e. e ≡ sim.Compared fault };
+
+    fn from(fault: ComparedFault) -> SimFault {
+        SimFault::Compared(fault)
     }
 }
 

@@ -20,7 +20,7 @@ pub(crate) fn hidden_nets(alloc: Global, nets: u32, shown: &[u32]) -> Result<Vec
 }
 
 /// Which of so many nets are among these.
-fn marks_of(alloc: Global, nets: u32, among: &[u32]) -> Result<Vec<bool>, AllocError>
+pub(crate) fn marks_of(alloc: Global, nets: u32, among: &[u32]) -> Result<Vec<bool>, AllocError>
     requires { All (λ net. net < nets) among.now }
     ensures size { IfOk result (λ marks. length marks.items ≡ nets) }
     ensures marks { IfOk result (λ marks.

@@ -40,7 +40,7 @@ pub struct TwinFault {
 
 impl Side {
     /// The result, whose fault is now one of this side.
-    fn blame<T>(self, outcome: Result<T, SimFault>) -> Result<T, TwinFault>
+    pub(crate) fn blame<T>(self, outcome: Result<T, SimFault>) -> Result<T, TwinFault>
         ensures ok { IfOk result (λ value. outcome ≡ Ok value) }
         ensures err { IfErr result (λ fault. outcome ≡ Err fault.fault) }
         ensures side { IfErr result (λ fault. fault.side ≡ self) }
@@ -124,7 +124,7 @@ pub(crate) fn net_named(design: &Design, name: &[u8]) -> Result<u32, SimFault>
 }
 
 /// Whether the runs agree, up to the first one's horizon, on the net's fan-in cone there.
-fn is_agreed(
+pub(crate) fn is_agreed(
     alloc: Global,
     first: &PreparedRun,
     second: &PreparedRun,
