@@ -32,7 +32,7 @@ def deck() -> bytes:
 def commands() -> list[tuple[list, bytes, int]]:
     """The words, the input and the status of the commands that are refused memory."""
     lines = (streams.RUN, streams.COUNTED, streams.PLAIN, streams.DRAW, streams.TRACE, streams.WHY, streams.STIMULI,
-             streams.CHECK, streams.CONE, streams.TWIN)
+             streams.CHECK, streams.INFO, streams.CONE, streams.DIFF, streams.TWIN)
     return [
         ([], deck(), 0),
         *((words, b"", 0) for words in lines),

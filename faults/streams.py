@@ -15,7 +15,10 @@ TRACE = ["trace", *RUN[1:]]
 WHY = "why --bench s27.bench --stimuli s27.stimuli --net G17 --at 30".split()
 STIMULI = "stimuli --bench s27.bench --horizon 90 --clock G0=10 --hold G1=1 --pulse G2=0..12".split()
 CHECK = ["check", *RUN[1:]]
+INFO = "info --bench s27.bench".split()
 CONE = "cone --bench s27.bench G12 G14".split()
+DIFF = ("diff --net p --horizon 12 --first parity.bench --first-stimuli parity.stimuli "
+        "--second bigger.bench --second-stimuli bigger.stimuli").split()
 TWIN = ("twin --net p --horizon 12 --first parity.bench --first-stimuli parity.stimuli "
         "--second bigger.bench --second-stimuli bigger.stimuli --second-schedule bigger.schedule").split()
 HELP = ["--help"]
@@ -153,7 +156,7 @@ def cases(program: Path, folder: str, deck: bytes) -> list[tuple[str, Callable[[
         ("wrong words to a full device", lambda: with_full_error(program, ["--halp"], 2)),
         ("counts to a full device", lambda: with_full_error(program, COUNTED, 0)),
     ]
-    for words in (RUN, COUNTED, PLAIN, DRAW, TRACE, WHY, STIMULI, CHECK, CONE, TWIN, HELP, LONG):
+    for words in (RUN, COUNTED, PLAIN, DRAW, TRACE, WHY, STIMULI, CHECK, INFO, CONE, DIFF, TWIN, HELP, LONG):
         line = " ".join(words[:3])
         found += [
             (f"{line} .. to a full device", lambda words=words: to_full_device(program, words)),

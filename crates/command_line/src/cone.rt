@@ -1,8 +1,8 @@
 //! The subcommand `cone`: what it takes, and the order that it is.
 use crate::described::{Absent, Described, Takes};
 use crate::help::subcommand_named;
-use crate::options::BENCH;
-use clap::{ArgMatches, Command, Error};
+use crate::options::{BENCH, names_given};
+use clap::{ArgMatches, Command};
 use orders::Order;
 use std::alloc::{AllocError, Global};
 
@@ -23,18 +23,12 @@ pub(super) fn subcommand<'a>(alloc: Global) -> Result<Command<'a>, AllocError> {
 }
 
 /// The order of its options.
-pub(super) fn order_given<'a>(alloc: Global, options: &ArgMatches<'a>) -> Result<Order<'a>, Error> {
+pub(super) fn order_given<'a>(
+    alloc: Global,
+    options: &ArgMatches<'a>,
+) -> Result<Order<'a>, AllocError> {
     Ok(Order::Cone {
         bench: options.get_str("bench").unwrap_or(""),
-        names: names_given(alloc, options)?,
+        names: names_given(alloc, options, "names")?,
     })
-}
-
-fn names_given<'a>(alloc: Global, options: &ArgMatches<'a>) -> Result<Vec<&'a [u8]>, AllocError> {
-    options
-        .get_strs("names")
-        .unwrap_or(&[])
-        .iter()
-        .map(|name| name.as_bytes())
-        .collect(alloc)
 }

@@ -22,6 +22,8 @@ pub(super) enum Takes {
     Net,
     /// The names of nets, which stand by themselves.
     Nets,
+    /// The names of nets, with commas between; it may be given again.
+    NetList,
     /// What drives an input, in such a form; it may be given again.
     Drives(&'static str),
     Nothing,
@@ -86,6 +88,10 @@ fn taking<'a>(arg: Arg<'a>, takes: Takes) -> Arg<'a> {
             .value_parser(words)
             .hide_possible_values(true),
         Takes::Net | Takes::Nets => arg.value_name("NAME"),
+        Takes::NetList => arg
+            .value_name("NAMES")
+            .value_delimiter(',')
+            .action(ArgAction::Append),
         Takes::Drives(form) => arg.value_name(form).action(ArgAction::Append),
         Takes::Nothing => arg.action(ArgAction::SetTrue),
     }

@@ -1,6 +1,6 @@
 //! The program's words: its subcommands, and the help.
 use crate::described::{Described, with_tables};
-use crate::{check, cone, draw, plain, run, stimuli, trace, twin, why};
+use crate::{check, cone, diff, draw, info, plain, run, stimuli, trace, twin, why};
 use clap::error::ErrorKind;
 use clap::{Command, Error};
 use std::alloc::{AllocError, Global};
@@ -15,9 +15,10 @@ const USAGE: &str = "nullsim <COMMAND> [OPTIONS]\n       nullsim < DECK";
 
 const ENDS: &str =
     "Exit status: 0 done, 1 an input was refused, 2 a mistake in the command line, 3 reading or\n\
-     writing failed, 4 out of memory. For 1, 3 and 4 standard error has one line WHERE:LINE: NAME,\n\
-     such as adder.bench:3: Undefined. LINE is 0 where no single line is at fault, as in\n\
-     adder.bench:0: Read for a file that can't be read. docs/FORMATS.md lists the names.\n\
+     writing failed, 4 out of memory, 5 what diff compared isn't all the same. For 1, 3 and 4\n\
+     standard error has one line WHERE:LINE: NAME, such as adder.bench:3: Undefined. LINE is 0 where\n\
+     no single line is at fault, as in adder.bench:0: Read for a file that can't be read.\n\
+     docs/FORMATS.md lists the names.\n\
      \n\
      Example: nullsim run --bench adder.bench --stimuli adder.stimuli --horizon 500 > adder.vcd";
 
@@ -44,7 +45,9 @@ fn add_subcommands<'a>(
     add(subcommands, trace::subcommand(alloc))?;
     add(subcommands, why::subcommand(alloc))?;
     add(subcommands, stimuli::subcommand(alloc))?;
+    add(subcommands, info::subcommand(alloc))?;
     add(subcommands, cone::subcommand(alloc))?;
+    add(subcommands, diff::subcommand(alloc))?;
     add(subcommands, twin::subcommand(alloc))?;
     add(subcommands, check::subcommand(alloc))
 }

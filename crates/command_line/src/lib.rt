@@ -4,9 +4,11 @@
 mod check;
 mod cone;
 mod described;
+mod diff;
 mod draw;
 mod drives;
 mod help;
+mod info;
 mod options;
 mod picks;
 mod plain;

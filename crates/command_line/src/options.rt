@@ -3,6 +3,7 @@ use crate::described::{Absent, Described, Takes};
 use clap::ArgMatches;
 use orders::{PickOptions, SourceOptions};
 use runs::{Show, View};
+use std::alloc::{AllocError, Global};
 use vcd_dump::TimeUnit;
 
 /// What the options of a run are called.
@@ -171,4 +172,26 @@ pub(super) fn view_given(options: &ArgMatches<'_>) -> View {
 /// The number of an option that is required or has a default.
 pub(super) fn number_given(options: &ArgMatches<'_>, id: &str) -> u64 {
     options.get_one(id).unwrap_or(0)
+}
+
+/// What picks the events of one of two runs.
+pub(super) fn side_picks<'a>(options: &ArgMatches<'a>, id: &str) -> PickOptions<'a> {
+    match options.get_str(id) {
+        Some(name) => PickOptions::File(name),
+        None => PickOptions::Nothing,
+    }
+}
+
+/// The names of nets that an option gives.
+pub(super) fn names_given<'a>(
+    alloc: Global,
+    options: &ArgMatches<'a>,
+    id: &str,
+) -> Result<Vec<&'a [u8]>, AllocError> {
+    options
+        .get_strs(id)
+        .unwrap_or(&[])
+        .iter()
+        .map(|name| name.as_bytes())
+        .collect(alloc)
 }

@@ -1,9 +1,11 @@
 //! The subcommand `twin`: what it takes, and the order that it is.
 use crate::described::{Absent, Described, Takes};
 use crate::help::subcommand_named;
-use crate::options::{FIRST, FIRST_SIDE, LENGTH, SECOND, SECOND_SIDE, number_given, source_given};
+use crate::options::{
+    FIRST, FIRST_SIDE, LENGTH, SECOND, SECOND_SIDE, number_given, side_picks, source_given,
+};
 use clap::{ArgMatches, Command};
-use orders::{Order, PickOptions};
+use orders::Order;
 use std::alloc::{AllocError, Global};
 
 const ABOUT: &str =
@@ -40,12 +42,5 @@ pub(super) fn order_given<'a>(options: &ArgMatches<'a>) -> Order<'a> {
         second: source_given(options, &SECOND, side_picks(options, SECOND.schedule)),
         net: options.get_str("net").unwrap_or("").as_bytes(),
         horizon: number_given(options, "horizon"),
-    }
-}
-
-fn side_picks<'a>(options: &ArgMatches<'a>, id: &str) -> PickOptions<'a> {
-    match options.get_str(id) {
-        Some(name) => PickOptions::File(name),
-        None => PickOptions::Nothing,
     }
 }

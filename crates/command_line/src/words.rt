@@ -1,6 +1,6 @@
 //! Words as an order, or why they are none.
 use crate::help::{mistake, program};
-use crate::{check, cone, draw, plain, run, stimuli, trace, twin, why};
+use crate::{check, cone, diff, draw, info, plain, run, stimuli, trace, twin, why};
 use clap::error::ErrorKind;
 use clap::{ArgMatches, Error};
 use orders::Order;
@@ -54,7 +54,9 @@ fn order_matched<'a>(alloc: Global, matches: &ArgMatches<'a>) -> Result<Order<'a
         Some(("trace", options)) => trace::order_given(alloc, options),
         Some(("why", options)) => Ok(why::order_given(options)),
         Some(("stimuli", options)) => stimuli::order_given(alloc, options),
-        Some(("cone", options)) => cone::order_given(alloc, options),
+        Some(("info", options)) => Ok(info::order_given(options)),
+        Some(("cone", options)) => Ok(cone::order_given(alloc, options)?),
+        Some(("diff", options)) => Ok(diff::order_given(alloc, options)?),
         Some(("twin", options)) => Ok(twin::order_given(options)),
         Some(("check", options)) => Ok(check::order_given(options)),
         _ => Err(mistake(alloc, ErrorKind::MissingSubcommand, "a command is missing")?),

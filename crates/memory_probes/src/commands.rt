@@ -1,7 +1,9 @@
 //! Words, orders and the program with words: a first part of the answer is out, and want of memory is told.
 use crate::following::Follower;
 use crate::telling::Teller;
-use crate::whole_runs::{CONE, OSCILLATOR, SAME, TOLD, TWINS, answered, ended};
+use crate::whole_runs::{
+    CONE, INFO, NO_DIFFERENCE, OSCILLATOR, SAME, TOLD, TWINS, answered, ended,
+};
 use command_line::parse_words;
 use nullsim::{Order, ReadFault, Texts, answer_order, command, order_of_words, read_text};
 use std::alloc::{AllocError, Global};
@@ -30,7 +32,7 @@ impl Texts for Shelf {
 /// A command line and its answer.
 type Line = (&'static str, &'static [u8]);
 
-static LINES: [Line; 5] = [
+static LINES: [Line; 7] = [
     (
         "run --bench e.bench --delays e.delays --stimuli e.stimuli --schedule e.schedule --horizon 12",
         OSCILLATOR_DUMP,
@@ -48,6 +50,12 @@ static LINES: [Line; 5] = [
     (
         "check --bench e.bench --delays e.delays --stimuli e.stimuli --horizon 12",
         SAME,
+    ),
+    ("info --bench e.bench", INFO),
+    (
+        "diff --net y,e --horizon 12 --first e.bench --first-delays e.delays --first-stimuli e.stimuli \
+          --second e.bench --second-delays e.delays --second-stimuli e.stimuli",
+        NO_DIFFERENCE,
     ),
 ];
 

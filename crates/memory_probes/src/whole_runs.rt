@@ -2,8 +2,13 @@
 use crate::following::Follower;
 use crate::telling::{Fault, Teller};
 use decks::{answer_deck, deck, tell};
-use program_io::{read_text, write_check, write_cone, write_plain, write_run, write_twin};
-use runs::{Picks, Show, Source, View, check, cone_text, plain, simulate, sweep, twin};
+use program_io::{
+    read_text, write_check, write_cone, write_diff, write_info, write_plain, write_run, write_twin,
+};
+use runs::{
+    DiffTicks, Picks, Show, Source, View, check, cone_text, diff, info, plain, simulate, sweep,
+    twin,
+};
 use std::alloc::Global;
 use std::io::Write;
 use vcd_dump::TimeUnit;
@@ -60,6 +65,21 @@ pub(crate) const TWINS: &[u8] =
 
 /// What goes out of a comparison of both engines on the oscillator.
 pub(crate) const SAME: &[u8] = b"nets 2\npins 2\nsame 2\n";
+
+/// What goes out of what the oscillator is.
+pub(crate) const INFO: &[u8] = b"nets 2\npins 2\ninputs 1\noutputs 0\nflip-flops 0\ngates 1\n\
+      AND 0\nNAND 1\nOR 0\nNOR 0\nXOR 0\nXNOR 0\nNOT 0\nBUF 0\n\
+      fan-in 2 y\nfan-out 1 e\nloop y\nunobserved e\nunobserved y\n";
+
+/// What goes out of the oscillator, compared with itself.
+pub(crate) const NO_DIFFERENCE: &[u8] = b"y same\ne same\n";
+
+/// The ticks of the oscillator, all of which count.
+const COUNTING: DiffTicks = DiffTicks {
+    horizon: 12,
+    from: 0,
+    every: 1,
+};
 
 /// Probes the calls for runs, then those for decks.
 pub(crate) fn probe<W: Write>(alloc: Global, teller: &mut Teller<W>) -> Option<()> {
@@ -130,6 +150,9 @@ fn comparisons<W: Write>(alloc: Global, teller: &mut Teller<W>) -> Option<()> {
     teller.told("runs::check", check(alloc, &OSCILLATOR, 12))?;
     let text = cone_text(alloc, OSCILLATOR.bench, &[b"y".as_slice()]);
     teller.told("runs::cone_text", text)?;
+    teller.told("runs::info", info(alloc, OSCILLATOR.bench))?;
+    let answer = diff(alloc, &OSCILLATOR, &OSCILLATOR, &[], COUNTING);
+    teller.told("runs::diff", answer)?;
     Some(())
 }
 
@@ -137,6 +160,13 @@ fn written_comparisons<W: Write>(alloc: Global, teller: &mut Teller<W>) -> Optio
     let mut out = Follower::of(CONE);
     let answer = write_cone(alloc, OSCILLATOR.bench, &[b"y".as_slice()], &mut out);
     ended(teller, "write_cone", answer, &out)?;
+    let mut out = Follower::of(INFO);
+    let answer = write_info(alloc, OSCILLATOR.bench, &mut out);
+    ended(teller, "write_info", answer, &out)?;
+    let mut out = Follower::of(NO_DIFFERENCE);
+    let names = [b"y".as_slice(), b"e".as_slice()];
+    let answer = write_diff(alloc, &OSCILLATOR, &OSCILLATOR, &names, COUNTING, &mut out);
+    ended(teller, "write_diff", answer, &out)?;
     let mut out = Follower::of(TWINS);
     let answer = write_twin(alloc, &OSCILLATOR, &OSCILLATOR, b"y", 12, &mut out);
     ended(teller, "write_twin", answer, &out)?;

@@ -1,13 +1,14 @@
 -- How the program with words ends.
-use Rattle.std.specs.Prelude.{◌≡◌, ◌⊎◌, ℕ, Bool, List, [], ◌∷◌, ◌++◌, Option, None, Some, String, codes, bytes_eq, string_bytes, IsTrue}
+use Rattle.std.specs.Prelude.{◌≡◌, ◌⊎◌, ℕ, Bool, List, [], ◌∷◌, ◌++◌, Option, String, codes, bytes_eq, string_bytes, IsTrue}
 use Rattle.std.specs.List.{list_any}
 use Rattle.std.specs.Io.KnownBytes.{Appends, Keeps}
 use Rattle.std.specs.declared.alloc.Global.{Global}
 use Rattle.vcd_dump.specs.Bytes.{AppendsPrefix}
 use Rattle.vcd_dump.specs.Dump.{line}
-use Rattle.cmb_kernel.specs.declared.counts.Counts.{Counts}
 use Rattle.event_trace.specs.Lines.{counts_line}
 use Rattle.orders.specs.declared.order.Order.{Order}
+use Rattle.program_io.specs.declared.outcome.Outcome.{Outcome}
+use Rattle.program_io.specs.declared.outcome.Outcome.TheVariants.{Done, Counted, Differing}
 use Rattle.program_io.specs.declared.program_fault.ProgramFault.{ProgramFault}
 use Rattle.program_io.specs.declared.program_fault.ProgramFault.TheVariants as program
 use Rattle.program_io.specs.Ends.{ForAnswer, WriteEndsBy}
@@ -34,16 +35,24 @@ abbrev pub line_of_numbers : List ℕ → List ℕ → List ℕ → List ℕ →
 line_of_numbers events changes nulls rounds =
     line (codes "events " ++ events ++ codes " changes " ++ changes ++ codes " nulls " ++ nulls ++ codes " rounds " ++ rounds)
 
--- the line of those that were asked for
-abbrev pub counts_text : Option Counts → List ℕ
-counts_text None = []
-counts_text (Some counts) = counts_line counts
+-- what is told beside an answer: the line of the counts that were asked for
+abbrev pub outcome_text : Outcome → List ℕ
+outcome_text Done = []
+outcome_text (Counted counts) = counts_line counts
+outcome_text Differing = []
 
--- its files were read and its answer went out; its counts were told, or a first part of them
+-- 5 where what was compared differs
+abbrev pub status_of_outcome : Outcome → ℕ
+status_of_outcome Done = 0
+status_of_outcome (Counted counts) = 0
+status_of_outcome Differing = 5
+
+-- its files were read and its answer went out; what is told beside it was told, or a first part of that
 abbrev pub OrderDone : KnownTexts → Order → Streams → Streams → ℕ → Type 0
 OrderDone known order old new status =
-    (status ≡ 0) × ReadsAll (files_of order) old.readings new.readings
-    × ForAnswer (IsAnswer known order) (λ answer. Appends old.out new.out answer.text × AppendsPrefix old.err new.err (counts_text answer.counts))
+    ReadsAll (files_of order) old.readings new.readings
+    × ForAnswer (IsAnswer known order) (λ answer. Appends old.out new.out answer.text
+    × AppendsPrefix old.err new.err (outcome_text answer.outcome) × (status ≡ status_of_outcome answer.outcome))
 
 -- it ended by a fault, which was told
 abbrev pub OrderBroken : KnownTexts → Order → Streams → Streams → ℕ → Type 0

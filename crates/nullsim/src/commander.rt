@@ -4,15 +4,15 @@ ghost use Rattle.std.specs.Io.KnownBytes.{Appends, Keeps};
 ghost use Rattle.vcd_dump.specs.Bytes.{AppendsPrefix};
 ghost use Rattle.vcd_dump.specs.Faults.{IsFailedWrite};
 ghost use Rattle.event_trace.specs.Lines.{counts_line};
-ghost use Rattle.nullsim.specs.Command.{CommandEnds, Explains, OrderTold, line_of_numbers};
+ghost use Rattle.nullsim.specs.Command.{CommandEnds, Explains, OrderTold, line_of_numbers, outcome_text, status_of_outcome};
 
 use crate::words::order_of_words;
 use cmb_kernel::Counts;
 use command_line::NoOrder;
 use itoa::Buffer;
 use orders::{Order, Texts};
-use program_io::status::{DONE, WRONG_WORDS};
-use program_io::{ProgramFault, SECTIONS, report, write_pieces, write_text};
+use program_io::status::{DIFFERENT, DONE, WRONG_WORDS};
+use program_io::{Outcome, ProgramFault, SECTIONS, report, write_pieces, write_text};
 use std::alloc::Global;
 use std::io::Write;
 use vcd_dump::{DumpFault, write_all_bytes};
@@ -43,9 +43,10 @@ pub fn command<T: Texts, W: Write, E: Write>(
 
 /// Carries out an order, and answers the exit status.
 ///
-/// 0 says that this is done, 1 that an input is refused, 3 that a read or a write failed, and 4 that
-/// memory was wanting. For each but 0 one line `WHERE:LINE: NAME` goes to `err`, and for 0 the line
-/// of the counts where they are asked for; a fault of `err` is ignored.
+/// 0 says that this is done, 1 that an input is refused, 3 that a read or a write failed, 4 that
+/// memory was wanting, and 5 that it is done and what was compared differs. For 1, 3 and 4 one line
+/// `WHERE:LINE: NAME` goes to `err`, and for 0 the line of the counts where they are asked for; a fault
+/// of `err` is ignored.
 pub fn answer_order<T: Texts, W: Write, E: Write>(
     alloc: Global,
     order: &Order<'_>,
@@ -59,12 +60,24 @@ pub fn answer_order<T: Texts, W: Write, E: Write>(
     ensures no_usage { result ≢ 2 }
 {
     match order.carry_out(alloc, texts, out) {
-        Ok(None) => DONE,
-        Ok(Some(counts)) => {
+        Ok(outcome) => tell_outcome(err, outcome),
+        Err(fault) => report(err, fault, order.text_names(fault.side())),
+    }
+}
+
+/// Writes what is told beside an answer, or a first part of it where the writer fails, and answers the
+/// exit status. Takes no memory.
+fn tell_outcome<E: Write>(err: &mut E, outcome: Outcome) -> u8
+    ensures status { result ≡ status_of_outcome outcome }
+    ensures told { AppendsPrefix (E.contents err.old) (E.contents err.new) (outcome_text outcome) }
+{
+    match outcome {
+        Outcome::Done => DONE,
+        Outcome::Counted(counts) => {
             let _ = write_counts_line(err, counts);
             DONE
         }
-        Err(fault) => report(err, fault, order.text_names(fault.side())),
+        Outcome::Differing => DIFFERENT,
     }
 }
 

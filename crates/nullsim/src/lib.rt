@@ -9,9 +9,9 @@ pub use commander::{answer_order, command, write_counts_line};
 pub use deck_text::{DeckTextFault, Sections, read_sections};
 pub use decks::{DeckFault, answer_deck, deck, tell};
 pub use orders::{Order, PickOptions, SourceOptions, Texts};
-pub use program_io::{ProgramFault, ReadFault, read_text};
+pub use program_io::{Outcome, ProgramFault, ReadFault, read_text};
 pub use runs::{
-    CheckAnswer, DiagramView, Picks, Report, Show, Side, SimFault, Source, TwinAnswer, TwinFault,
-    View, check, cone_text, diagram, plain, simulate, twin,
+    CheckAnswer, DiagramView, DiffAnswer, DiffTicks, Picks, Report, Show, Side, SimFault, Source,
+    TwinAnswer, TwinFault, View, check, cone_text, diagram, diff, info, plain, simulate, twin,
 };
 pub use words::order_of_words;

@@ -1,5 +1,5 @@
 //! Command lines through `command`: what their tests share, and the tests that go over the tables of
-//! `plainly`, `running`, `drawing`, `asking`, `checking` and `comparing`.
+//! `plainly`, `running`, `drawing`, `asking`, `checking`, `comparing` and `differing`.
 ghost use Rattle.std.specs.Prelude.{◌≡◌, option_map};
 ghost use Rattle.nullsim_tests.specs.Shelf.{text_under};
 
@@ -8,6 +8,10 @@ use crate::checking::{CHECKS, REFUSED_CHECKS};
 use crate::comparing::{
     CONES, EDGE_TWICE, FLOP_TWICE, INVERTER_TWICE, ONE_AND_OTHER, OTHER_TWINS, REFUSED_CONES,
     REFUSED_TWINS, TWINS_WITHOUT_TEXTS,
+};
+use crate::differing::{
+    INFOS, NOT_THE_SAME, OTHER_DIFFERENCES, REFUSED_DIFFS, REFUSED_INFOS, SAME_CIRCUITS,
+    SAME_IN_BOTH,
 };
 use crate::drawing::{DRAWINGS, REFUSED_DRAWINGS};
 use crate::files::{FILES, Named};
@@ -151,7 +155,13 @@ fn lines_that_are_carried_out(rt: HostRuntime) -> Result<(), Fail> {
         ("why", CAUSES.as_slice()),
         ("stimuli", STIMULI.as_slice()),
         ("check", CHECKS.as_slice()),
+        ("info", INFOS.as_slice()),
         ("cone", CONES.as_slice()),
+        (
+            "diff --first one.bench --first-stimuli both.stim --second other.bench",
+            SAME_IN_BOTH.as_slice(),
+        ),
+        ("diff", SAME_CIRCUITS.as_slice()),
         (
             "twin --first one.bench --first-stimuli both.stim --second other.bench",
             ONE_AND_OTHER.as_slice(),
@@ -173,6 +183,24 @@ fn lines_that_are_carried_out(rt: HostRuntime) -> Result<(), Fail> {
         for &(rest, text) in table {
             let answer = answer_to(rt.alloc(), start, rest)?;
             is_answer(&rt, &answer, (start, rest), 0, text, "");
+        }
+    }
+    Ok(())
+}
+
+// The status says that what was compared isn't all the same, and standard error says nothing.
+#[test]
+fn lines_that_tell_a_difference(rt: HostRuntime) -> Result<(), Fail> {
+    for (start, table) in [
+        (
+            "diff --first one.bench --first-stimuli both.stim --second other.bench",
+            NOT_THE_SAME.as_slice(),
+        ),
+        ("diff", OTHER_DIFFERENCES.as_slice()),
+    ] {
+        for &(rest, text) in table {
+            let answer = answer_to(rt.alloc(), start, rest)?;
+            is_answer(&rt, &answer, (start, rest), 5, text, "");
         }
     }
     Ok(())
@@ -208,7 +236,9 @@ fn lines_that_are_refused(rt: HostRuntime) -> Result<(), Fail> {
         ("why", REFUSED_CAUSES.as_slice()),
         ("stimuli", REFUSED_STIMULI.as_slice()),
         ("check", REFUSED_CHECKS.as_slice()),
+        ("info", REFUSED_INFOS.as_slice()),
         ("cone", REFUSED_CONES.as_slice()),
+        ("diff", REFUSED_DIFFS.as_slice()),
         ("twin", REFUSED_TWINS.as_slice()),
         ("twin", TWINS_WITHOUT_TEXTS.as_slice()),
     ] {

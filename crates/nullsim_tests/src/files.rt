@@ -4,7 +4,7 @@ use worked_examples::{S27_BENCH, S27_STIMULI};
 /// A text with its name.
 pub(crate) type Named = (&'static str, &'static [u8]);
 
-pub(crate) static FILES: [Named; 65] = [
+pub(crate) static FILES: [Named; 66] = [
     ("inv.bench", b"INPUT(a)\nOUTPUT(y)\ny = NOT(a)\n"),
     ("inv.stim", b"0 a 0\n3 a 1\n"),
     ("slow.delays", b"y 9\n"),
@@ -19,6 +19,7 @@ pub(crate) static FILES: [Named; 65] = [
     ("late.delays", b"timing version 2\nwire q 0 1\n"),
     ("far.delays", b"timing version 2\nwire y 0 1000000\n"),
     ("ring.bench", b"q = DFF(n)\nn = NOT(q)\n"),
+    ("three.bench", b"x = NOT(y)\ny = NOT(z)\nz = NOT(x)\n"),
     // A gate that its input settles, whatever it shows itself.
     ("latch.bench", b"INPUT(a)\nOUTPUT(y)\ny = AND(a, y)\n"),
     ("latch.stim", b"0 a 0\n"),

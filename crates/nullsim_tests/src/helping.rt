@@ -109,6 +109,21 @@ static WITH_TWIN: [&str; 11] = [
     "twin --bench one.bench --net y --horizon 5",
 ];
 
+// No netlist, a side missing, numbers that are none, and options of other commands.
+static WITH_INFO_AND_DIFF: [&str; 11] = [
+    "info",
+    "info s27.bench",
+    "info --bench inv.bench y",
+    "info --bench inv.bench --horizon 5",
+    "diff --first one.bench --horizon 5",
+    "diff --second one.bench --horizon 5",
+    "diff --first one.bench --second other.bench",
+    "diff --first one.bench --second other.bench --horizon 5 --every x",
+    "diff --first one.bench --second other.bench --horizon 5 --from -1",
+    "diff --first one.bench --second other.bench --horizon 5 --net",
+    "diff --first one.bench --second other.bench --horizon 5 y",
+];
+
 // Nothing goes out, standard error says why, and no text is asked for.
 fn is_misuse(rt: &impl Abort, answer: &Answer, line: &str) {
     assert_eq!(rt; answer.status, 2, "at {line}");
@@ -128,6 +143,7 @@ fn wrong_words(rt: HostRuntime) -> Result<(), Fail> {
         WITH_QUESTIONS.as_slice(),
         WITH_CONE.as_slice(),
         WITH_TWIN.as_slice(),
+        WITH_INFO_AND_DIFF.as_slice(),
     ] {
         for line in table {
             let answer = answer_to(rt.alloc(), line, "")?;
@@ -138,7 +154,7 @@ fn wrong_words(rt: HostRuntime) -> Result<(), Fail> {
 }
 
 // The commands, which the help of the program lists.
-static COMMANDS: [&str; 11] = [
+static COMMANDS: [&str; 13] = [
     "\nUsage: nullsim <COMMAND> [OPTIONS]\n",
     "\n  run ",
     "\n  plain ",
@@ -146,7 +162,9 @@ static COMMANDS: [&str; 11] = [
     "\n  trace ",
     "\n  why ",
     "\n  stimuli ",
+    "\n  info ",
     "\n  cone ",
+    "\n  diff ",
     "\n  twin ",
     "\n  check ",
     "\nExit status: 0 done",
@@ -227,6 +245,20 @@ static OF_STIMULI: [&str; 6] = [
 // Those of `cone`.
 static OF_CONE: [&str; 3] = ["\nUsage: nullsim cone ", "--bench <FILE>", "<NAME>..."];
 
+// Those of `info` and `diff` that are theirs.
+static OF_INFO: [&str; 2] = ["\nUsage: nullsim info --bench <FILE>\n", "--bench <FILE>"];
+
+static OF_DIFF: [&str; 8] = [
+    "\nUsage: nullsim diff --first <FILE> --second <FILE> --horizon <N> [OPTIONS]\n",
+    "--first <FILE>",
+    "--second-schedule <FILE>",
+    "--horizon <N>",
+    "--net <NAMES>",
+    "--from <N>",
+    "--every <N>",
+    "5 what diff compared isn't all the same",
+];
+
 // Those of `twin`, of which each side has its own.
 static OF_TWIN: [&str; 15] = [
     "\nUsage: nullsim twin ",
@@ -301,6 +333,8 @@ fn help(rt: HostRuntime) -> Result<(), Fail> {
         ("trace --help", OF_TRACE.as_slice(), &["--counts "]),
         ("why --help", OF_WHY.as_slice(), &["--horizon <"]),
         ("stimuli -h", OF_STIMULI.as_slice(), &["--stimuli <"]),
+        ("info --help", OF_INFO.as_slice(), &["--horizon <"]),
+        ("diff --help", OF_DIFF.as_slice(), &["--counts "]),
         ("cone --help", OF_CONE.as_slice(), &["--horizon <"]),
         ("cone y -h", OF_CONE.as_slice(), &[]),
         ("twin --help", OF_TWIN.as_slice(), &["--picks <"]),

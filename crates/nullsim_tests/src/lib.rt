@@ -10,6 +10,8 @@ mod commanding;
 #[cfg(test)]
 mod comparing;
 #[cfg(test)]
+mod differing;
+#[cfg(test)]
 mod drawing;
 #[cfg(test)]
 mod files;

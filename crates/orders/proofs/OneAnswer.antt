@@ -12,69 +12,26 @@ use Rattle.netlist.specs.Names.{seen_names}
 use Rattle.drawn_stimuli.specs.declared.drive.Draws.{Draws}
 use Rattle.drawn_stimuli.specs.declared.drive.Driven.{Driven}
 use Rattle.drawn_stimuli.specs.Inputs.{seen_drive}
-use Rattle.logic3.specs.Rising.{Rises}
-use Rattle.netlist.proofs.CallerLemmas.{AllPairs-tail}
 use Rattle.fanin_cone.specs.Cone.{IsConeOf}
 use Rattle.fanin_cone.specs.Extract.{IsExtract, first_unknown}
 use Rattle.runs.specs.declared.fault.SimFault.{SimFault}
 use Rattle.orders.specs.declared.order.Order.{Order}
-use Rattle.orders.specs.declared.order.Order.TheVariants.{Run, Plain, Draw, Trace, Why, Stimuli, Cone, Twin, Check}
+use Rattle.orders.specs.declared.order.Order.TheVariants.{Run, Plain, Draw, Trace, Why, Stimuli, Info, Cone, Diff, Twin, Check}
 use Rattle.orders.specs.declared.order.SourceOptions.{SourceOptions}
 use Rattle.runs.specs.declared.twin_run.TwinAnswer.{TwinAnswer}
 use Rattle.runs.specs.declared.twin_run.TwinFault.{TwinFault}
 use Rattle.program_io.specs.AnswerText.{twin_text}
-use Rattle.program_io.specs.Answers.{Answer, IsTwinAnswer, answered, just, stimuli_answer}
+use Rattle.program_io.specs.Answers.{Answer, IsDiffAnswer, IsTwinAnswer, answered, compared, just, stimuli_answer}
 use Rattle.orders.specs.OrderAnswer.{ForSource, IsAnswer}
 use Rattle.runs.specs.ConeText.{IsConeAnswer, IsConeOfNetlist, IsExtractText}
+use Rattle.runs.specs.Diffs.{Pair, pair_of}
 use Rattle.runs.specs.Faults.{sim_of_bench}
+use Rattle.runs.specs.InfoText.{IsInfoAnswer}
+use Rattle.runs.proofs.CallerLemmas.{one_diff, one_info_answer, same_from_members}
 use Rattle.program_io.specs.declared.program_fault.ProgramFault.{ProgramFault}
 use Rattle.orders.specs.Options.{IsSourceOf, KnownTexts, all_known, picks_of_options, schedule_file, text_named}
 use Rattle.runs.specs.Source.{SourceView, or_fault}
 use Rattle.runs.specs.Twins.{IsComparison, Twins, twins_of}
-
--- ---- numbers that rise
-
-Rises-tail : (m : ℕ) (numbers : List ℕ) → Rises (m ∷ numbers) → Rises numbers
-Rises-tail = AllPairs-tail (λ (earlier later : ℕ). earlier < later)
-
--- a member after the head is in the tail
-Contains-tail : (n m : ℕ) (numbers : List ℕ) → Contains (m ∷ numbers) n → m < n → Contains numbers n
-Contains-tail n m numbers (zero, inside, is) above = absurd (omega (arith, is))
-Contains-tail n m numbers (suc k, inside, is) above = (k, omega (arith, inside), is)
-
--- each member of the tail comes after the head
-head-lt : (n m : ℕ) (numbers : List ℕ) → Rises (m ∷ numbers) → Contains numbers n → m < n
-head-lt n m numbers rising (k, inside, is) =
-    let below : m < get_or numbers k n = rising 0 (suc k) n (omega arith) (omega (arith, inside)) in
-    omega (arith, is)
-
--- no member comes before the head
-head-le : (n m : ℕ) (numbers : List ℕ) → Rises (m ∷ numbers) → Contains (m ∷ numbers) n → m ≤ n
-head-le n m numbers rising (zero, inside, is) = omega (arith, is)
-head-le n m numbers rising (suc k, inside, is) = omega (arith, head-lt n m numbers rising (k, omega (arith, inside), is))
-
-Contains-head : (n : ℕ) (numbers : List ℕ) → Contains (n ∷ numbers) n
-Contains-head n numbers = (0, omega arith, refl)
-
-Contains-later : (n m : ℕ) (numbers : List ℕ) → Contains numbers n → Contains (m ∷ numbers) n
-Contains-later n m numbers (k, inside, is) = (suc k, omega (arith, inside), is)
-
--- lists that rise and have the same members are equal
-same_from_members : (a b : List ℕ) → Rises a → Rises b → ((n : ℕ) → Contains a n → Contains b n) → ((n : ℕ) → Contains b n → Contains a n) → a ≡ b
-same_from_members [] [] rising other_rising into back = refl
-same_from_members [] (m ∷ b) rising other_rising into back = let at = back m (Contains-head m b) in absurd (omega (arith, at.1))
-same_from_members (n ∷ a) [] rising other_rising into back = let at = into n (Contains-head n a) in absurd (omega (arith, at.1))
-same_from_members (n ∷ a) (m ∷ b) rising other_rising into back =
-    let low : m ≤ n = head-le n m b other_rising (into n (Contains-head n a)) in
-    let high : n ≤ m = head-le m n a rising (back m (Contains-head m b)) in
-    let head : n ≡ m = omega arith in
-    let tail : a ≡ b =
-    same_from_members a b (Rises-tail n a rising) (Rises-tail m b other_rising)
-    (λ k in_a. let after : n < k = head-lt k n a rising in_a in
-    Contains-tail k m b (into k (Contains-later k n a in_a)) (omega arith))
-    (λ k in_b. let after : m < k = head-lt k m b other_rising in_b in
-    Contains-tail k n a (back k (Contains-later k m b in_b)) (omega arith)) in
-    cc
 
 -- ---- cones
 
@@ -147,6 +104,12 @@ one_twin_answer (Ok twins) name horizon a b (comparison, is, text) (other, other
     text ∙ ap (λ bytes. Ok (just bytes)) (one_comparison twins name horizon comparison other is other_is) ∙ sym other_text
 one_twin_answer (Err fault) name horizon a b is other_is = is ∙ sym other_is
 
+one_diff_answer : (made : Result Pair TwinFault) (a b : Result Answer ProgramFault) → IsDiffAnswer made a → IsDiffAnswer made b → a ≡ b
+one_diff_answer (Ok pair) a b (text, (same, is, answer)) (other_text, (other_same, other_is, other_answer)) =
+    let one = one_diff pair text other_text same other_same is other_is in
+    answer ∙ ap (λ bytes. Ok (compared bytes same)) one.0 ∙ ap (λ all. Ok (compared other_text all)) one.1 ∙ sym other_answer
+one_diff_answer (Err fault) a b is other_is = is ∙ sym other_is
+
 -- ---- sources
 
 module _ (texts : List ℕ → List ℕ) where
@@ -195,6 +158,12 @@ module _ (texts : List ℕ → List ℕ) where
       subst (λ (t : List ℕ). IsConeAnswer t (seen_names names.items) other_found) same_text other_is in
       answer ∙ ap (answered just) (one_cone_answer found other_found text (seen_names names.items) is of_text) ∙ sym other_answer
 
+  one_for_info : (bench : Bor (List ℕ)) (a b : Result Answer ProgramFault) → IsAnswer known (Info bench) a → IsAnswer known (Info bench) b → a ≡ b
+  one_for_info bench a b (text, read, (found, is, answer)) (other_text, other_read, (other_found, other_is, other_answer)) =
+      let same_text : other_text ≡ text = other_read ∙ sym read in
+      let of_text : IsInfoAnswer text other_found = subst (λ (t : List ℕ). IsInfoAnswer t other_found) same_text other_is in
+      answer ∙ ap (answered just) (one_info_answer text found other_found is of_text) ∙ sym other_answer
+
   one_for_stimuli : (bench : Bor (List ℕ)) (drives : Vec Driven Global) (draws : Draws) (horizon : ℕ) (a b : Result Answer ProgramFault) →
       IsAnswer known (Stimuli bench drives draws horizon) a → IsAnswer known (Stimuli bench drives draws horizon) b → a ≡ b
   one_for_stimuli bench drives draws horizon a b (text, read, is) (other_text, other_read, other_is) =
@@ -208,6 +177,10 @@ module _ (texts : List ℕ → List ℕ) where
   one_answer (Twin first second net horizon) a b =
       one_for_source first _ _ a b (λ one.
       one_for_source second _ _ a b (λ other. one_twin_answer (twins_of one other net.now horizon) net.now horizon a b))
+  one_answer (Info bench) a b = one_for_info bench a b
+  one_answer (Diff first second names ticks) a b =
+      one_for_source first _ _ a b (λ one.
+      one_for_source second _ _ a b (λ other. one_diff_answer (pair_of one other (seen_names names.items) ticks) a b))
   one_answer (Trace options horizon) a b = one_for_source options _ _ a b (λ source is other_is. is ∙ sym other_is)
   one_answer (Why options net tick) a b = one_for_source options _ _ a b (λ source is other_is. is ∙ sym other_is)
   one_answer (Stimuli bench drives draws horizon) a b = one_for_stimuli bench drives draws horizon a b

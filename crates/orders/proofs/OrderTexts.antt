@@ -6,10 +6,13 @@ use Rattle.drawn_stimuli.specs.declared.drive.Draws.{Draws}
 use Rattle.drawn_stimuli.specs.declared.drive.Driven.{Driven}
 use Rattle.drawn_stimuli.specs.Inputs.{seen_drive}
 use Rattle.runs.specs.declared.diagram_run.DiagramView.{DiagramView}
+use Rattle.runs.specs.declared.diff_run.DiffTicks.{DiffTicks}
 use Rattle.runs.specs.declared.fault.SimFault.{SimFault}
 use Rattle.runs.specs.declared.view.View.{View}
 use Rattle.runs.specs.Checked.{checked}
 use Rattle.runs.specs.ConeText.{IsConeAnswer}
+use Rattle.runs.specs.Diffs.{pair_of}
+use Rattle.runs.specs.InfoText.{IsInfoAnswer}
 use Rattle.runs.specs.Source.{SourceView}
 use Rattle.runs.specs.Twins.{twins_of}
 use Rattle.orders.specs.declared.order.Order.TheVariants as orders
@@ -20,9 +23,9 @@ use Rattle.program_io.specs.declared.program_fault.ProgramFault.{ProgramFault}
 use Rattle.orders.specs.declared.source_texts.SourceTexts.{SourceTexts}
 use Rattle.program_io.specs.AnswerText.{check_text}
 use Rattle.orders.specs.Options.{IsRead, IsSourceOf, KnownTexts, ReadsSource, picks_of_options, schedule_file, source_from, text_named}
-use Rattle.program_io.specs.Answers.{Answer, IsAnswerOfCone, IsAnswerOfTwin, IsTwinAnswer, answered, check_answer, diagram_answer, just, plain_answer, run_answer, stimuli_answer, trace_answer, why_answer, with_counts}
+use Rattle.program_io.specs.Answers.{Answer, IsAnswerOfCone, IsAnswerOfDiff, IsAnswerOfInfo, IsAnswerOfTwin, IsDiffAnswer, IsTwinAnswer, answered, check_answer, diagram_answer, just, plain_answer, run_answer, stimuli_answer, trace_answer, why_answer, with_counts}
 use Rattle.orders.specs.OrderAnswer.{ForSource, IsAnswer}
-use Rattle.program_io.proofs.CallerLemmas.{cut, cut_picks, cut_source, diagram_of_source-cut, dump_of_source-cut, netlist_of-cut, run_of_source-cut, simulated-cut, stimuli_of_drives-cut, trace_of_source-cut, twins_of-cut, why_of_source-cut}
+use Rattle.program_io.proofs.CallerLemmas.{cut, cut_picks, cut_source, diagram_of_source-cut, dump_of_source-cut, netlist_of-cut, pair_of-cut, run_of_source-cut, simulated-cut, stimuli_of_drives-cut, trace_of_source-cut, twins_of-cut, why_of_source-cut}
 
 pub unwrap_or-known : (known : Option (List ℕ)) (other : List ℕ) → IfSome known (λ all. unwrap_or known other ≡ all)
 unwrap_or-known None other = tt
@@ -126,6 +129,32 @@ module _ (known : KnownTexts) (first second : SourceOptions) (net : Bor (List �
       (ap (λ s. twins_of s other net.now horizon) is_cut ∙ ap (λ s. twins_of (cut_source source) s net.now horizon) other_is_cut
       ∙ twins_of-cut source other_source net.now horizon)
       holds))
+
+-- so are those of a comparison net by net
+module _ (known : KnownTexts) (first second : SourceOptions) (names : Vec (Bor (List ℕ)) Global) (asked : List (Bor (List ℕ))) (is_asked : asked ≡ names.items)
+    (ticks : DiffTicks) (texts : SourceTexts) (one : SourceView) (read : ReadsSource known first texts) (is : one ≡ source_from first texts)
+    (later : KnownTexts) (stays : later ≡ known) (other_texts : SourceTexts) (other : SourceView)
+    (other_read : ReadsSource later second other_texts) (other_is : other ≡ source_from second other_texts) where
+  pub IsAnswer-diff : (answer : Result Answer ProgramFault) → IsAnswerOfDiff one other (seen_names asked) ticks answer →
+      IsAnswer known (orders.Diff first second names ticks) answer
+  IsAnswer-diff answer holds =
+      let other_known : ReadsSource known second other_texts = subst (λ (k : KnownTexts). ReadsSource k second other_texts) stays other_read in
+      let of_names : IsAnswerOfDiff one other (seen_names names.items) ticks answer =
+      subst (λ (list : List (Bor (List ℕ))). IsAnswerOfDiff one other (seen_names list) ticks answer) is_asked holds in
+      ForSource-read known first texts one read is _ (λ source is_cut.
+      ForSource-read known second other_texts other other_known other_is _ (λ other_source other_is_cut.
+      subst (λ made. IsDiffAnswer made answer)
+      (ap (λ s. pair_of s other (seen_names names.items) ticks) is_cut ∙ ap (λ s. pair_of (cut_source source) s (seen_names names.items) ticks) other_is_cut
+      ∙ pair_of-cut source other_source (seen_names names.items) ticks)
+      of_names))
+
+-- what the netlist that was read is is the answer to the order
+pub IsAnswer-info : (known : KnownTexts) (bench : Bor (List ℕ)) (read bytes : List ℕ) → IsRead (known bench.now) read → bytes ≡ read →
+    (answer : Result Answer ProgramFault) → IsAnswerOfInfo bytes answer → IsAnswer known (orders.Info bench) answer
+IsAnswer-info known bench read bytes is_read is_bytes answer (found, is, same) =
+    let text = unwrap_or (known bench.now) read in
+    let of_cut : IsInfoAnswer (cut text) found = subst (λ (t : List ℕ). IsInfoAnswer t found) (is_bytes ∙ is_read) is in
+    (text, unwrap_or-known (known bench.now) read, (found, rw (← netlist_of-cut text) of_cut, same))
 
 -- the answer to the cut text is that to the whole
 IsConeAnswer-cut : (text : List ℕ) (names : List (List ℕ)) (answer : Result (List ℕ) SimFault) → IsConeAnswer (cut text) names answer →

@@ -32,5 +32,8 @@ names_of (order.Why options net tick) side = file_names options
 names_of (order.Check options horizon) side = file_names options
 names_of (order.Twin first second net horizon) First = file_names first
 names_of (order.Twin first second net horizon) Second = file_names second
+names_of (order.Diff first second names ticks) First = file_names first
+names_of (order.Diff first second names ticks) Second = file_names second
+names_of (order.Info bench) side = record section_names { bench = bench.now }
 names_of (order.Cone bench names) side = record section_names { bench = bench.now }
 names_of (order.Stimuli bench drives draws horizon) side = record section_names { bench = bench.now }

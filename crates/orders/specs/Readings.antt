@@ -4,7 +4,7 @@ use denote.Ref.{Bor}
 use Rattle.program_io.specs.declared.input.ReadFault.{ReadFault}
 use Rattle.program_io.specs.declared.input.ReadFault.TheVariants as read
 use Rattle.orders.specs.declared.order.Order.{Order}
-use Rattle.orders.specs.declared.order.Order.TheVariants.{Run, Plain, Draw, Trace, Why, Stimuli, Cone, Twin, Check}
+use Rattle.orders.specs.declared.order.Order.TheVariants.{Run, Plain, Draw, Trace, Why, Stimuli, Info, Cone, Diff, Twin, Check}
 use Rattle.orders.specs.declared.order.SourceOptions.{SourceOptions}
 use Rattle.program_io.specs.declared.program_fault.ProgramFault.{ProgramFault}
 use Rattle.program_io.specs.declared.program_fault.ProgramFault.TheVariants.{Read, Memory}
@@ -52,7 +52,9 @@ files_of (Draw options view) = files_of_options options
 files_of (Trace options horizon) = files_of_options options
 files_of (Why options net tick) = files_of_options options
 files_of (Stimuli bench drives draws horizon) = if_named (Some bench)
+files_of (Info bench) = if_named (Some bench)
 files_of (Cone bench names) = if_named (Some bench)
+files_of (Diff first second names ticks) = files_of_options first ++ files_of_options second
 files_of (Twin first second net horizon) = files_of_options first ++ files_of_options second
 files_of (Check options horizon) = files_of_options options
 

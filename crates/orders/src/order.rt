@@ -1,12 +1,12 @@
 //! What the words of the command line ask for.
 ghost use Rattle.std.specs.Prelude.{◌≡◌};
 ghost use Rattle.orders.specs.Options.{schedule_file};
-ghost use Rattle.program_io.specs.Place.{called};
+ghost use Rattle.program_io.specs.Place.{called, section_names};
 ghost use Rattle.orders.specs.FileNames.{file_names, names_of};
 
 use drawn_stimuli::{Draws, Driven};
-use program_io::TextNames;
-use runs::{DiagramView, Side, View};
+use program_io::{SECTIONS, TextNames};
+use runs::{DiagramView, DiffTicks, Side, View};
 
 /// The files of a run, by their names, and the numbers that go with them.
 #[derive(Clone, Copy, Debug)]
@@ -81,10 +81,22 @@ pub enum Order<'a> {
         /// The last tick of the text: at most 10,000,000.
         horizon: u64,
     },
+    /// Write what a circuit is, in numbers and names.
+    Info {
+        bench: &'a str,
+    },
     /// Write the nets in the fan-in cones of these names, in the .bench notation.
     Cone {
         bench: &'a str,
         names: Vec<&'a [u8]>,
+    },
+    /// Write for each of some nets whether it shows the same in two runs.
+    Diff {
+        first: SourceOptions<'a>,
+        second: SourceOptions<'a>,
+        /// The nets, by their names; where there are none the outputs of both runs.
+        names: Vec<&'a [u8]>,
+        ticks: DiffTicks,
     },
     /// Write whether two runs agree on the fan-in cone of a net, and what the net shows in both.
     Twin {
@@ -117,14 +129,20 @@ impl<'a> Order<'a> {
             (Order::Why { source, .. }, _) => source.text_names(),
             (Order::Twin { first, .. }, Side::First) => first.text_names(),
             (Order::Twin { second, .. }, Side::Second) => second.text_names(),
-            (Order::Cone { bench, .. } | Order::Stimuli { bench, .. }, _) => TextNames {
-                bench,
-                delays: "delays",
-                stimuli: "stimuli",
-                schedule: "schedule",
-            },
+            (Order::Diff { first, .. }, Side::First) => first.text_names(),
+            (Order::Diff { second, .. }, Side::Second) => second.text_names(),
+            (Order::Cone { bench, .. }, _) => netlist_alone(bench),
+            (Order::Info { bench }, _) => netlist_alone(bench),
+            (Order::Stimuli { bench, .. }, _) => netlist_alone(bench),
         }
     }
+}
+
+/// What a fault calls the texts where the netlist's file is the only one.
+fn netlist_alone<'a>(bench: &'a str) -> TextNames<'a>
+    ensures { called result ≡ record section_names { bench = bench.now } }
+{
+    TextNames { bench, ..SECTIONS }
 }
 
 impl<'a> SourceOptions<'a> {

@@ -7,19 +7,19 @@ ghost use Rattle.orders.specs.Readings.{ReadsAll, ReadsUntil, files_of};
 use crate::order::{Order, SourceOptions};
 use crate::source_texts::{SourceTexts, file_text};
 use crate::texts::Texts;
-use cmb_kernel::Counts;
 use drawn_stimuli::{Draws, Driven};
 use program_io::{
-    ProgramFault, write_check, write_cone, write_diagram, write_plain, write_run, write_stimuli,
-    write_trace, write_twin, write_why,
+    Outcome, ProgramFault, write_check, write_cone, write_diagram, write_diff, write_info,
+    write_plain, write_run, write_stimuli, write_trace, write_twin, write_why,
 };
-use runs::{DiagramView, View};
+use runs::{DiagramView, DiffTicks, View};
 use std::alloc::Global;
 use std::io::Write;
 
 impl<'a> Order<'a> {
-    /// Reads the order's files, writes its answer and flushes once. Answers the counts at the end of
-    /// the run, where they are asked for.
+    /// Reads the order's files, writes its answer and flushes once. What is to be told beside the
+    /// answer is its outcome: the counts at the end of a run, where they are asked for, or that what
+    /// was compared differs.
     ///
     /// # Errors
     /// All files are read, in the order netlist, delays, stimuli, schedule, those of a first run
@@ -31,7 +31,7 @@ impl<'a> Order<'a> {
         alloc: Global,
         texts: &mut T,
         out: &mut W,
-    ) -> Result<Option<Counts>, ProgramFault<'a>>
+    ) -> Result<Outcome, ProgramFault<'a>>
         ensures ok { IfOk result
             (Answered (T.known texts.old) self.now (W.contents out.old) (W.contents out.new)) }
         ensures err { IfErr result
@@ -61,7 +61,14 @@ impl<'a> Order<'a> {
                 draws,
                 horizon,
             } => carry_out_stimuli(alloc, bench, drives, *draws, *horizon, texts, out),
+            Order::Info { bench } => carry_out_info(alloc, bench, texts, out),
             Order::Cone { bench, names } => carry_out_cone(alloc, bench, names, texts, out),
+            Order::Diff {
+                first,
+                second,
+                names,
+                ticks,
+            } => carry_out_diff(alloc, first, second, names, *ticks, texts, out),
             Order::Twin {
                 first,
                 second,
@@ -82,7 +89,7 @@ fn carry_out_run<'a, T: Texts, W: Write>(
     counts: bool,
     texts: &mut T,
     out: &mut W,
-) -> Result<Option<Counts>, ProgramFault<'a>>
+) -> Result<Outcome, ProgramFault<'a>>
     ensures ok { IfOk result (Answered (T.known texts.old) (order.Run options.now view.now counts)
         (W.contents out.old) (W.contents out.new)) }
     ensures err { IfErr result (OrderEndsBy (T.known texts.old) (order.Run options.now view.now counts)
@@ -102,7 +109,7 @@ fn carry_out_plain<'a, T: Texts, W: Write>(
     view: &View,
     texts: &mut T,
     out: &mut W,
-) -> Result<Option<Counts>, ProgramFault<'a>>
+) -> Result<Outcome, ProgramFault<'a>>
     ensures ok { IfOk result (Answered (T.known texts.old) (order.Plain options.now view.now)
         (W.contents out.old) (W.contents out.new)) }
     ensures err { IfErr result (OrderEndsBy (T.known texts.old) (order.Plain options.now view.now)
@@ -122,7 +129,7 @@ fn carry_out_diagram<'a, T: Texts, W: Write>(
     view: &DiagramView,
     texts: &mut T,
     out: &mut W,
-) -> Result<Option<Counts>, ProgramFault<'a>>
+) -> Result<Outcome, ProgramFault<'a>>
     ensures ok { IfOk result (Answered (T.known texts.old) (order.Draw options.now view.now)
         (W.contents out.old) (W.contents out.new)) }
     ensures err { IfErr result (OrderEndsBy (T.known texts.old) (order.Draw options.now view.now)
@@ -142,7 +149,7 @@ fn carry_out_trace<'a, T: Texts, W: Write>(
     horizon: u64,
     texts: &mut T,
     out: &mut W,
-) -> Result<Option<Counts>, ProgramFault<'a>>
+) -> Result<Outcome, ProgramFault<'a>>
     ensures ok { IfOk result (Answered (T.known texts.old) (order.Trace options.now horizon)
         (W.contents out.old) (W.contents out.new)) }
     ensures err { IfErr result (OrderEndsBy (T.known texts.old) (order.Trace options.now horizon)
@@ -163,7 +170,7 @@ fn carry_out_why<'a, T: Texts, W: Write>(
     tick: u64,
     texts: &mut T,
     out: &mut W,
-) -> Result<Option<Counts>, ProgramFault<'a>>
+) -> Result<Outcome, ProgramFault<'a>>
     ensures ok { IfOk result (Answered (T.known texts.old) (order.Why options.now net.entry tick)
         (W.contents out.old) (W.contents out.new)) }
     ensures err { IfErr result (OrderEndsBy (T.known texts.old) (order.Why options.now net.entry tick)
@@ -185,7 +192,7 @@ fn carry_out_stimuli<'a, T: Texts, W: Write>(
     horizon: u64,
     texts: &mut T,
     out: &mut W,
-) -> Result<Option<Counts>, ProgramFault<'a>>
+) -> Result<Outcome, ProgramFault<'a>>
     ensures ok { IfOk result (Answered (T.known texts.old) (order.Stimuli bench.entry drives.now draws horizon)
         (W.contents out.old) (W.contents out.new)) }
     ensures err { IfErr result (OrderEndsBy (T.known texts.old) (order.Stimuli bench.entry drives.now draws horizon)
@@ -206,13 +213,32 @@ fn carry_out_stimuli<'a, T: Texts, W: Write>(
     )
 }
 
+fn carry_out_info<'a, T: Texts, W: Write>(
+    alloc: Global,
+    bench: &'a str,
+    texts: &mut T,
+    out: &mut W,
+) -> Result<Outcome, ProgramFault<'a>>
+    ensures ok { IfOk result (Answered (T.known texts.old) (order.Info bench.entry)
+        (W.contents out.old) (W.contents out.new)) }
+    ensures err { IfErr result (OrderEndsBy (T.known texts.old) (order.Info bench.entry)
+        (W.contents out.old) (W.contents out.new)) }
+    ensures read { OnOk result
+        (ReadsAll (files_of (order.Info bench.entry)) (T.readings texts.old) (T.readings texts.new)) }
+    ensures stopped { IfErr result
+        (ReadsUntil (files_of (order.Info bench.entry)) (T.readings texts.old) (T.readings texts.new)) }
+{
+    let read = file_text(alloc, texts, Some(bench))?;
+    write_info(alloc, read.as_slice(), out)
+}
+
 fn carry_out_cone<'a, T: Texts, W: Write>(
     alloc: Global,
     bench: &'a str,
     names: &Vec<&'a [u8]>,
     texts: &mut T,
     out: &mut W,
-) -> Result<Option<Counts>, ProgramFault<'a>>
+) -> Result<Outcome, ProgramFault<'a>>
     ensures ok { IfOk result (Answered (T.known texts.old) (order.Cone bench.entry names.now)
         (W.contents out.old) (W.contents out.new)) }
     ensures err { IfErr result (OrderEndsBy (T.known texts.old) (order.Cone bench.entry names.now)
@@ -226,6 +252,36 @@ fn carry_out_cone<'a, T: Texts, W: Write>(
     write_cone(alloc, read.as_slice(), names.as_slice(), out)
 }
 
+fn carry_out_diff<'a, T: Texts, W: Write>(
+    alloc: Global,
+    first: &SourceOptions<'a>,
+    second: &SourceOptions<'a>,
+    names: &Vec<&'a [u8]>,
+    ticks: DiffTicks,
+    texts: &mut T,
+    out: &mut W,
+) -> Result<Outcome, ProgramFault<'a>>
+    ensures ok { IfOk result (Answered (T.known texts.old) (order.Diff first.now second.now names.now ticks)
+        (W.contents out.old) (W.contents out.new)) }
+    ensures err { IfErr result (OrderEndsBy (T.known texts.old) (order.Diff first.now second.now names.now ticks)
+        (W.contents out.old) (W.contents out.new)) }
+    ensures read { OnOk result
+        (ReadsAll (files_of (order.Diff first.now second.now names.now ticks)) (T.readings texts.old) (T.readings texts.new)) }
+    ensures stopped { IfErr result
+        (ReadsUntil (files_of (order.Diff first.now second.now names.now ticks)) (T.readings texts.old) (T.readings texts.new)) }
+{
+    let former = SourceTexts::read(alloc, first, texts)?;
+    let latter = SourceTexts::read(alloc, second, texts)?;
+    write_diff(
+        alloc,
+        &former.source(first),
+        &latter.source(second),
+        names.as_slice(),
+        ticks,
+        out,
+    )
+}
+
 fn carry_out_twin<'a, T: Texts, W: Write>(
     alloc: Global,
     first: &SourceOptions<'a>,
@@ -234,7 +290,7 @@ fn carry_out_twin<'a, T: Texts, W: Write>(
     horizon: u64,
     texts: &mut T,
     out: &mut W,
-) -> Result<Option<Counts>, ProgramFault<'a>>
+) -> Result<Outcome, ProgramFault<'a>>
     ensures ok { IfOk result (Answered (T.known texts.old) (order.Twin first.now second.now net.entry horizon)
         (W.contents out.old) (W.contents out.new)) }
     ensures err { IfErr result (OrderEndsBy (T.known texts.old) (order.Twin first.now second.now net.entry horizon)
@@ -262,7 +318,7 @@ fn carry_out_check<'a, T: Texts, W: Write>(
     horizon: u64,
     texts: &mut T,
     out: &mut W,
-) -> Result<Option<Counts>, ProgramFault<'a>>
+) -> Result<Outcome, ProgramFault<'a>>
     ensures ok { IfOk result (Answered (T.known texts.old) (order.Check options.now horizon)
         (W.contents out.old) (W.contents out.new)) }
     ensures err { IfErr result (OrderEndsBy (T.known texts.old) (order.Check options.now horizon)

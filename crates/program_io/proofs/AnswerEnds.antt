@@ -1,16 +1,15 @@
 -- How the answer to texts ends, from how their runs do.
-use Rattle.std.proofs.Common.{◌≡◌, ◌≢◌, ℕ, Bool, List, Option, None, Result, Ok, Err, IsOkAnd, inl, inr, refl, ap, subst}
-use Rattle.std.specs.Bool.{then_some}
+use Rattle.std.proofs.Common.{◌≡◌, ◌≢◌, ℕ, Bool, List, Option, Result, Ok, Err, IsOkAnd, inl, inr, refl, ap, subst}
 use Rattle.std.specs.Io.KnownBytes.{Appends, Keeps}
 use Rattle.std.specs.Result.{result_map_both}
 use Rattle.std.proofs.KnownBytes.{Appends-kept, Keeps-refl}
-use Rattle.cmb_kernel.specs.declared.counts.Counts.{Counts}
 use Rattle.runs.specs.declared.fault.SimFault.{SimFault}
 use Rattle.runs.specs.declared.fault.SimFault.TheVariants.{Dump, Memory}
 use Rattle.runs.specs.declared.simulation.Report.{Report}
 use Rattle.runs.specs.declared.twin_run.Side.{Side}
 use Rattle.runs.specs.declared.twin_run.Side.TheVariants.{First}
 use Rattle.runs.specs.declared.twin_run.TwinFault.{TwinFault}
+use Rattle.runs.specs.Diffs.{IsDiff, Pair}
 use Rattle.runs.specs.Ends.{IsRefusal, RunEndsBy}
 use Rattle.runs.specs.declared.check_run.CheckAnswer.{CheckAnswer}
 use Rattle.runs.specs.declared.twin_run.TwinAnswer.{TwinAnswer}
@@ -19,11 +18,13 @@ use Rattle.runs.specs.Simulated.{RunView}
 use Rattle.runs.specs.Twins.{IsComparison, IsTwinRefusal, Twins, on}
 use Rattle.program_io.specs.AnswerText.{check_text, twin_text}
 use Rattle.vcd_dump.specs.declared.fault.DumpFault.{DumpFault}
+use Rattle.program_io.specs.declared.outcome.Outcome.{Outcome}
+use Rattle.program_io.specs.declared.outcome.Outcome.TheVariants.{Done}
 use Rattle.program_io.specs.declared.program_fault.ProgramFault.{ProgramFault}
 use Rattle.program_io.specs.declared.program_fault.ProgramFault.TheVariants.{Flush, Output, Read}
 use Rattle.program_io.specs.declared.program_fault.ProgramFault.TheVariants as program
 use Rattle.program_io.specs.Ends.{WriteEndsBy}
-use Rattle.program_io.specs.Answers.{Answer, AnswerEndsBy, GoesOut, IsNoRead, IsTwinAnswer, answered, just, with_counts}
+use Rattle.program_io.specs.Answers.{Answer, AnswerEndsBy, GoesOut, IsDiffAnswer, IsNoRead, IsTwinAnswer, answered, compared, counted, just, with_counts}
 use Rattle.program_io.specs.ProgramFaults.{fault_of_run, fault_of_twin}
 
 module _ (P : Result Answer ProgramFault → Type 0) where
@@ -36,19 +37,15 @@ module _ (P : Result Answer ProgramFault → Type 0) where
   AnswerEndsBy-unwritten held Memory unwritten refused = inl (Keeps-refl held)
   AnswerEndsBy-unwritten held _ unwritten refused = (refused (λ e. (cc)), Keeps-refl held)
 
-  -- a fault of one of two runs
-  pub AnswerEndsBy-twin : (held : Option (List ℕ)) (twins : Result Twins TwinFault) (name : List ℕ) (horizon : ℕ) (fault : TwinFault) →
-      ((answer : Result Answer ProgramFault) → IsTwinAnswer twins name horizon answer → P answer) → IsTwinRefusal twins fault →
-      AnswerEndsBy P held held (fault_of_twin fault)
-  AnswerEndsBy-twin held twins name horizon fault is refusal = go fault.side fault.fault refusal
+  -- a fault of one of two runs, which is the answer unless memory was wanting
+  pub AnswerEndsBy-twin : {A : Type 0} (held : Option (List ℕ)) (made : Result A TwinFault) (fault : TwinFault) →
+      ((other : TwinFault) → made ≡ Err other → P (Err (fault_of_twin other))) → IsTwinRefusal made fault → AnswerEndsBy P held held (fault_of_twin fault)
+  AnswerEndsBy-twin held made fault stands refusal = go fault.side fault.fault refusal
     where
-      stands : (other : TwinFault) → twins ≡ Err other → IsTwinAnswer twins name horizon (Err (fault_of_twin other))
-      stands other refused = rw refused refl
-
-      go : (at : Side) (fault : SimFault) → IsTwinRefusal twins (on at fault) → AnswerEndsBy P held held (fault_of_run at fault)
+      go : (at : Side) (fault : SimFault) → IsTwinRefusal made (on at fault) → AnswerEndsBy P held held (fault_of_run at fault)
       go at (Dump broken) refusal = absurd refusal
       go at Memory refusal = inl (Keeps-refl held)
-      go at fault refusal = (is _ (stands (on at fault) refusal), Keeps-refl held)
+      go at fault refusal = (stands (on at fault) refusal, Keeps-refl held)
 
   -- ---- the only run
 
@@ -89,29 +86,29 @@ module _ (P : Result Answer ProgramFault → Type 0) where
 
   -- the dump of a run went out, and its counts are those asked for
   pub GoesOut-run : (counts : Bool) (result : Result (List ℕ × Report) SimFault) → P (answered (with_counts counts) result) →
-      (old new : Option (List ℕ)) (total : Option Counts) →
-      IsOkAnd result (λ done. Appends old new done.0 × (total ≡ then_some counts (done.1).total)) → GoesOut P old new total
-  GoesOut-run counts (Ok done) is old new total went = (with_counts counts done, is, went)
-  GoesOut-run counts (Err fault) is old new total went = absurd went
+      (old new : Option (List ℕ)) (outcome : Outcome) →
+      IsOkAnd result (λ done. Appends old new done.0 × (outcome ≡ counted counts (done.1).total)) → GoesOut P old new outcome
+  GoesOut-run counts (Ok done) is old new outcome went = (with_counts counts done, is, went)
+  GoesOut-run counts (Err fault) is old new outcome went = absurd went
 
   -- the same where the run's answer is a text alone
   pub GoesOut-dump : (result : Result (List ℕ) SimFault) → P (answered just result) → (old new : Option (List ℕ)) →
-      IsOkAnd result (Appends old new) → GoesOut P old new None
+      IsOkAnd result (Appends old new) → GoesOut P old new Done
   GoesOut-dump (Ok text) is old new went = (just text, is, (went, refl))
   GoesOut-dump (Err fault) is old new went = absurd went
 
-  -- a text alone is the answer, and it is written
-  module _ (text written : List ℕ) (is : P (Ok (just text))) (same : written ≡ text) (old new : Option (List ℕ)) where
-    pub GoesOut-text : Appends old new written → GoesOut P old new None
-    GoesOut-text done = (just text, is, (rw (← same) done, refl))
+  -- the text of the answer is written
+  module _ (answer : Answer) (written : List ℕ) (is : P (Ok answer)) (same : written ≡ answer.text) (old new : Option (List ℕ)) where
+    pub GoesOut-text : Appends old new written → GoesOut P old new answer.outcome
+    GoesOut-text done = (answer, is, (rw (← same) done, refl))
 
     pub AnswerEndsBy-text : (fault : ProgramFault) → WriteEndsBy old new written fault → AnswerEndsBy P old new fault
-    AnswerEndsBy-text fault (inl (broken, is_output, failed, part)) = rw is_output (failed, (just text, is, rw (← same) part))
-    AnswerEndsBy-text fault (inr (is_flush, done)) = rw is_flush (just text, is, rw (← same) done)
+    AnswerEndsBy-text fault (inl (broken, is_output, failed, part)) = rw is_output (failed, (answer, is, rw (← same) part))
+    AnswerEndsBy-text fault (inr (is_flush, done)) = rw is_flush (answer, is, rw (← same) done)
 
   -- a flush keeps what was written
-  module _ (old new flushed : Option (List ℕ)) (counts : Option Counts) (done : GoesOut P old new counts) (kept : Keeps new flushed) where
-    pub GoesOut-flushed : GoesOut P old flushed counts
+  module _ (old new flushed : Option (List ℕ)) (outcome : Outcome) (done : GoesOut P old new outcome) (kept : Keeps new flushed) where
+    pub GoesOut-flushed : GoesOut P old flushed outcome
     GoesOut-flushed = (done.0, done.1, (Appends-kept old new flushed _ done.2.0 kept, done.2.1))
 
     pub AnswerEndsBy-flush : (fault : ProgramFault) → fault ≡ Flush → AnswerEndsBy P old flushed fault
@@ -131,8 +128,8 @@ WriteEndsBy-no_read old new text fault (inr (is, done)) = rw is tt
 -- ---- an answer of one kind is one of another
 
 module _ (P Q : Result Answer ProgramFault → Type 0) (turns : (answer : Result Answer ProgramFault) → P answer → Q answer) (old new : Option (List ℕ)) where
-  pub GoesOut-weaker : (counts : Option Counts) → GoesOut P old new counts → GoesOut Q old new counts
-  GoesOut-weaker counts (answer, is, went) = (answer, turns (Ok answer) is, went)
+  pub GoesOut-weaker : (outcome : Outcome) → GoesOut P old new outcome → GoesOut Q old new outcome
+  GoesOut-weaker outcome (answer, is, went) = (answer, turns (Ok answer) is, went)
 
   pub AnswerEndsBy-weaker : (fault : ProgramFault) → AnswerEndsBy P old new fault → AnswerEndsBy Q old new fault
   AnswerEndsBy-weaker (Read name) ends = ends
@@ -147,6 +144,20 @@ pub IsTwinAnswer-done : (twins : Result Twins TwinFault) (name : List ℕ) (hori
     IsOkAnd twins (λ both. IsComparison both name horizon comparison) → IsTwinAnswer twins name horizon (Ok (just (twin_text comparison)))
 IsTwinAnswer-done (Ok both) name horizon comparison is = (comparison, is, refl)
 IsTwinAnswer-done (Err fault) name horizon comparison is = absurd is
+
+-- what refuses two runs is the answer of the twin
+pub IsTwinAnswer-refused : (twins : Result Twins TwinFault) (name : List ℕ) (horizon : ℕ) (fault : TwinFault) → twins ≡ Err fault →
+    IsTwinAnswer twins name horizon (Err (fault_of_twin fault))
+IsTwinAnswer-refused twins name horizon fault refused = rw refused refl
+
+-- so it is with a comparison net by net
+pub IsDiffAnswer-done : (made : Result Pair TwinFault) (text : List ℕ) (same : Bool) → IsOkAnd made (λ pair. IsDiff pair text same) →
+    IsDiffAnswer made (Ok (compared text same))
+IsDiffAnswer-done (Ok pair) text same is = (text, (same, is, refl))
+IsDiffAnswer-done (Err fault) text same is = absurd is
+
+pub IsDiffAnswer-refused : (made : Result Pair TwinFault) (fault : TwinFault) → made ≡ Err fault → IsDiffAnswer made (Err (fault_of_twin fault))
+IsDiffAnswer-refused made fault refused = rw refused refl
 
 -- so are those of a check that of the check
 pub answered-checked : (result : Result RunView SimFault) (answer : CheckAnswer) → IsOkAnd result (λ run. answer ≡ checked run) →

@@ -27,18 +27,13 @@ use Rattle.runs.specs.declared.view.View.{View}
 use Rattle.runs.specs.declared.diagram_run.DiagramView.{DiagramView}
 use Rattle.drawn_stimuli.specs.declared.drive.Draws.{Draws}
 use Rattle.drawn_stimuli.specs.Inputs.{DriveView}
+use Rattle.runs.specs.declared.diff_run.DiffTicks.{DiffTicks}
+use Rattle.runs.specs.Diffs.{pair_of}
 use Rattle.runs.specs.Drawn.{diagram_of_source}
 use Rattle.runs.specs.Driven.{stimuli_of_drives}
 use Rattle.runs.specs.Explained.{why_of_source}
 use Rattle.runs.specs.Traced.{trace_of_source}
 use Rattle.runs.specs.Events.{PicksView, events_of_picks}
-use Rattle.runs.specs.declared.diagram_run.DiagramView.{DiagramView}
-use Rattle.drawn_stimuli.specs.declared.drive.Draws.{Draws}
-use Rattle.drawn_stimuli.specs.Inputs.{DriveView}
-use Rattle.runs.specs.Drawn.{diagram_of_source}
-use Rattle.runs.specs.Driven.{stimuli_of_drives}
-use Rattle.runs.specs.Explained.{why_of_source}
-use Rattle.runs.specs.Traced.{trace_of_source}
 use Rattle.runs.specs.Events as picks
 use Rattle.runs.specs.Faults.{sim_of_bench, sim_of_build, sim_of_schedule}
 use Rattle.runs.specs.Source.{SourceView, design_of_source, dump_of_source, or_fault}
@@ -162,3 +157,8 @@ pub twins_of-cut : (first second : SourceView) (name : List ℕ) (horizon : ℕ)
     twins_of (cut_source first) (cut_source second) name horizon ≡ twins_of first second name horizon
 unfolding twins_of
 twins_of-cut first second name horizon = rw (run_of_source-cut first horizon, run_of_source-cut second horizon) refl
+
+pub pair_of-cut : (first second : SourceView) (names : List (List ℕ)) (ticks : DiffTicks) →
+    pair_of (cut_source first) (cut_source second) names ticks ≡ pair_of first second names ticks
+unfolding pair_of
+pair_of-cut first second names ticks = rw (run_of_source-cut first ticks.horizon, run_of_source-cut second ticks.horizon) refl

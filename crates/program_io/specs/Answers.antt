@@ -1,6 +1,5 @@
 -- The answers to texts: what goes out of a run, a cone, a comparison or a check, and how that ends.
-use Rattle.std.specs.Prelude.{◌≡◌, ℕ, Bool, List, Option, None, Result, Ok, Err}
-use Rattle.std.specs.Bool.{then_some}
+use Rattle.std.specs.Prelude.{◌≡◌, ℕ, Bool, List, true, false, Option, Result, Ok, Err}
 use Rattle.std.specs.Result.{result_map_both}
 use Rattle.std.specs.Io.KnownBytes.{Appends}
 use Rattle.cmb_kernel.specs.declared.counts.Counts.{Counts}
@@ -17,29 +16,39 @@ use Rattle.drawn_stimuli.specs.declared.drive.Draws.{Draws}
 use Rattle.drawn_stimuli.specs.Inputs.{DriveView}
 use Rattle.runs.specs.Drawn.{diagram_of_source}
 use Rattle.runs.specs.Driven.{stimuli_of_drives}
+use Rattle.runs.specs.declared.diff_run.DiffTicks.{DiffTicks}
+use Rattle.runs.specs.Diffs.{IsDiff, Pair, pair_of}
 use Rattle.runs.specs.Explained.{why_of_source}
+use Rattle.runs.specs.InfoText.{IsInfoAnswer}
 use Rattle.runs.specs.Traced.{trace_of_source}
 use Rattle.runs.specs.Simulated.{run_of_source, simulated}
 use Rattle.runs.specs.Source.{SourceView, dump_of_source}
 use Rattle.runs.specs.Twins.{IsComparison, Twins, twins_of}
+use Rattle.program_io.specs.declared.outcome.Outcome.{Outcome}
+use Rattle.program_io.specs.declared.outcome.Outcome.TheVariants.{Done, Counted, Differing}
 use Rattle.program_io.specs.declared.program_fault.ProgramFault.{ProgramFault}
 use Rattle.program_io.specs.declared.program_fault.ProgramFault.TheVariants.{Read}
 use Rattle.program_io.specs.AnswerText.{check_text, twin_text}
 use Rattle.program_io.specs.Ends.{ForAnswer, ProgramEndsBy}
 use Rattle.program_io.specs.ProgramFaults.{fault_of_run, fault_of_twin}
 
--- what goes out, and the counts where they are asked for
+-- what goes out, and what is told beside it
 pub record Answer : Type 0 where
   pub text : List ℕ
-  pub counts : Option Counts
+  pub outcome : Outcome
 
 -- a text alone
 abbrev pub just : List ℕ → Answer
-just text = record { text = text; counts = None }
+just text = record { text = text; outcome = Done }
+
+-- counts, where they are asked for
+abbrev pub counted : Bool → Counts → Outcome
+counted true total = Counted total
+counted false total = Done
 
 -- the dump of a run, and its counts at the end where they are asked for
 abbrev pub with_counts : Bool → List ℕ × Report → Answer
-with_counts counts done = record { text = done.0; counts = then_some counts (done.1).total }
+with_counts counts done = record { text = done.0; outcome = counted counts (done.1).total }
 
 -- the answer of the only run
 abbrev pub answered : {A : Type 0} → (A → Answer) → Result A SimFault → Result Answer ProgramFault
@@ -79,6 +88,10 @@ check_answer source horizon = answered (λ run. just (check_text (checked run)))
 abbrev pub IsAnswerOfCone : List ℕ → List (List ℕ) → Result Answer ProgramFault → Type 0
 IsAnswerOfCone bench names answer = (found : Result (List ℕ) SimFault) × IsConeAnswer bench names found × (answer ≡ answered just found)
 
+-- what a circuit is
+abbrev pub IsAnswerOfInfo : List ℕ → Result Answer ProgramFault → Type 0
+IsAnswerOfInfo bench answer = (found : Result (List ℕ) SimFault) × IsInfoAnswer bench found × (answer ≡ answered just found)
+
 -- the lines of a comparison, or the fault of one side
 abbrev pub IsTwinAnswer : Result Twins TwinFault → List ℕ → ℕ → Result Answer ProgramFault → Type 0
 IsTwinAnswer (Ok twins) name horizon answer =
@@ -89,11 +102,29 @@ IsTwinAnswer (Err fault) name horizon answer = answer ≡ Err (fault_of_twin fau
 abbrev pub IsAnswerOfTwin : SourceView → SourceView → List ℕ → ℕ → Result Answer ProgramFault → Type 0
 IsAnswerOfTwin first second name horizon = IsTwinAnswer (twins_of first second name horizon) name horizon
 
+-- the same, and something else
+abbrev pub outcome_of : Bool → Outcome
+outcome_of true = Done
+outcome_of false = Differing
+
+-- the lines of a comparison net by net, and whether all are the same
+abbrev pub compared : List ℕ → Bool → Answer
+compared text same = record { text = text; outcome = outcome_of same }
+
+-- those of two runs that can be compared, or the fault of one side
+abbrev pub IsDiffAnswer : Result Pair TwinFault → Result Answer ProgramFault → Type 0
+IsDiffAnswer (Ok pair) answer = (text : List ℕ) × ((same : Bool) × IsDiff pair text same × (answer ≡ Ok (compared text same)))
+IsDiffAnswer (Err fault) answer = answer ≡ Err (fault_of_twin fault)
+
+-- those of two sources
+abbrev pub IsAnswerOfDiff : SourceView → SourceView → List (List ℕ) → DiffTicks → Result Answer ProgramFault → Type 0
+IsAnswerOfDiff first second names ticks = IsDiffAnswer (pair_of first second names ticks)
+
 -- ---- how it ends
 
--- just such an answer went out, and its counts are handed on
-abbrev pub GoesOut : (Result Answer ProgramFault → Type 0) → Option (List ℕ) → Option (List ℕ) → Option Counts → Type 0
-GoesOut IsAnswer old new counts = ForAnswer IsAnswer (λ answer. Appends old new answer.text × (counts ≡ answer.counts))
+-- just such an answer went out, and its outcome is handed on
+abbrev pub GoesOut : (Result Answer ProgramFault → Type 0) → Option (List ℕ) → Option (List ℕ) → Outcome → Type 0
+GoesOut IsAnswer old new outcome = ForAnswer IsAnswer (λ answer. Appends old new answer.text × (outcome ≡ answer.outcome))
 
 abbrev pub AnswerEndsBy : (Result Answer ProgramFault → Type 0) → Option (List ℕ) → Option (List ℕ) → ProgramFault → Type 0
 AnswerEndsBy IsAnswer = ProgramEndsBy (λ (answer : Answer). answer.text) IsAnswer

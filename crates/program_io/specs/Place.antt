@@ -2,7 +2,7 @@
 use Rattle.std.specs.Prelude.{ℕ, List, ◌++◌, codes, decimal}
 use Rattle.vcd_dump.specs.Dump.{line}
 use Rattle.runs.specs.declared.fault.SimFault.{SimFault}
-use Rattle.runs.specs.declared.fault.SimFault.TheVariants.{Setting, Bench, Timing, Stimulus, Schedule, Columns, Drives, UnknownNet, Dump}
+use Rattle.runs.specs.declared.fault.SimFault.TheVariants.{Setting, Bench, Timing, Stimulus, Schedule, Columns, Drives, Compared, UnknownNet, Dump}
 use Rattle.runs.specs.declared.fault.SimFault.TheVariants as sim
 use Rattle.program_io.specs.declared.place.TextNames.{TextNames}
 use Rattle.program_io.specs.declared.program_fault.ProgramFault.{ProgramFault}
@@ -37,6 +37,7 @@ run_place names (Stimulus fault) = names.stimuli
 run_place names (Schedule fault) = names.schedule
 run_place names (Columns fault) = codes "options"
 run_place names (Drives fault) = codes "options"
+run_place names (Compared fault) = codes "options"
 run_place names UnknownNet = names.bench
 run_place names (Dump fault) = codes "stdout"
 run_place names sim.Memory = codes "memory"

@@ -1,28 +1,27 @@
 //! Answers to texts, written out.
 ghost use Rattle.std.specs.Prelude.{◌≡◌, map, IfErr, IfOk, IsOkAnd};
-ghost use Rattle.std.specs.Bool.{then_some};
 ghost use Rattle.std.specs.Io.KnownBytes.{Appends};
 ghost use Rattle.netlist.specs.Names.{seen_names};
 ghost use Rattle.drawn_stimuli.specs.Inputs.{seen_drive};
 ghost use Rattle.runs.specs.Ends.{RunEndsBy};
 ghost use Rattle.runs.specs.Simulated.{dump_in, simulated};
 ghost use Rattle.runs.specs.Source.{seen_source};
-ghost use Rattle.program_io.specs.Answers.{AnswerEndsBy, GoesOut, IsAnswerOfCone, IsAnswerOfTwin, IsNoRead, check_answer, diagram_answer, plain_answer, run_answer, stimuli_answer, trace_answer, why_answer};
+ghost use Rattle.program_io.specs.Answers.{AnswerEndsBy, GoesOut, IsAnswerOfCone, IsAnswerOfDiff, IsAnswerOfInfo, IsAnswerOfTwin, IsNoRead, check_answer, counted, diagram_answer, outcome_of, plain_answer, run_answer, stimuli_answer, trace_answer, why_answer};
 
 use crate::answer_text::{check_text, twin_text};
+use crate::outcome::Outcome;
 use crate::output::{flush, write_text};
 use crate::program_fault::ProgramFault;
-use cmb_kernel::Counts;
 use drawn_stimuli::{Draws, Driven};
 use runs::{
-    DiagramView, SimFault, Source, View, check, cone_text, diagram, plain, simulate, stimuli,
-    sweep, trace, twin, why,
+    DiagramView, DiffTicks, SimFault, Source, View, check, cone_text, diagram, diff, info, plain,
+    simulate, stimuli, sweep, trace, twin, why,
 };
 use std::alloc::Global;
 use std::io::Write;
 
-/// Writes the dump of a run by the kernel and flushes once. Answers the counts at its end, where they
-/// are asked for: then the run goes by rounds, and else in sweeps.
+/// Writes the dump of a run by the kernel and flushes once. Its outcome has the counts at its end, where
+/// they are asked for: then the run goes by rounds, and else in sweeps.
 ///
 /// # Errors
 /// Where the source or the view is refused nothing is written. After a failed write or a want of
@@ -33,37 +32,37 @@ pub fn write_run<W: Write>(
     view: &View,
     counts: bool,
     out: &mut W,
-) -> Result<Option<Counts>, ProgramFault<'static>>
+) -> Result<Outcome, ProgramFault<'static>>
     ensures ok { IfOk result (GoesOut (λ answer. answer ≡ run_answer (seen_source source.now) view.now counts)
         (W.contents out.old) (W.contents out.new)) }
     ensures err { IfErr result (AnswerEndsBy (λ answer. answer ≡ run_answer (seen_source source.now) view.now counts)
         (W.contents out.old) (W.contents out.new)) }
     ensures no_read { IfErr result IsNoRead }
 {
-    let total = dump_and_count(alloc, source, view, counts, out)?;
+    let outcome = dump_and_count(alloc, source, view, counts, out)?;
     flush(out)?;
-    Ok(total)
+    Ok(outcome)
 }
 
-/// Writes the dump of a run by the kernel. Answers the counts at its end, where they are asked for.
+/// Writes the dump of a run by the kernel. Its outcome has the counts at its end, where they are asked for.
 fn dump_and_count<W: Write>(
     alloc: Global,
     source: &Source<'_>,
     view: &View,
     counts: bool,
     out: &mut W,
-) -> Result<Option<Counts>, SimFault>
-    ensures ok { IfOk result (λ total. IsOkAnd (simulated (seen_source source.now) view.now) (λ done.
-        Appends (W.contents out.old) (W.contents out.new) done.0 × (total ≡ then_some counts (done.1).total))) }
+) -> Result<Outcome, SimFault>
+    ensures ok { IfOk result (λ outcome. IsOkAnd (simulated (seen_source source.now) view.now) (λ done.
+        Appends (W.contents out.old) (W.contents out.new) done.0 × (outcome ≡ counted counts (done.1).total))) }
     ensures err { IfErr result (RunEndsBy (dump_in (simulated (seen_source source.now) view.now))
         (W.contents out.old) (W.contents out.new)) }
 {
     if !counts {
         sweep(alloc, source, view, out)?;
-        return Ok(None);
+        return Ok(Outcome::Done);
     }
     let report = simulate(alloc, source, view, out)?;
-    Ok(Some(report.total))
+    Ok(Outcome::Counted(report.total))
 }
 
 /// Writes the dump of a run by the plain engine and flushes once. Nothing is picked.
@@ -75,7 +74,7 @@ pub fn write_plain<W: Write>(
     source: &Source<'_>,
     view: &View,
     out: &mut W,
-) -> Result<Option<Counts>, ProgramFault<'static>>
+) -> Result<Outcome, ProgramFault<'static>>
     ensures ok { IfOk result (GoesOut (λ answer. answer ≡ plain_answer (seen_source source.now) view.now)
         (W.contents out.old) (W.contents out.new)) }
     ensures err { IfErr result (AnswerEndsBy (λ answer. answer ≡ plain_answer (seen_source source.now) view.now)
@@ -84,7 +83,7 @@ pub fn write_plain<W: Write>(
 {
     plain(alloc, source, view, out)?;
     flush(out)?;
-    Ok(None)
+    Ok(Outcome::Done)
 }
 
 /// Writes the timing diagram of a run and flushes once. Nothing is picked.
@@ -96,7 +95,7 @@ pub fn write_diagram<W: Write>(
     source: &Source<'_>,
     view: &DiagramView,
     out: &mut W,
-) -> Result<Option<Counts>, ProgramFault<'static>>
+) -> Result<Outcome, ProgramFault<'static>>
     ensures ok { IfOk result (GoesOut (λ answer. answer ≡ diagram_answer (seen_source source.now) view.now)
         (W.contents out.old) (W.contents out.new)) }
     ensures err { IfErr result (AnswerEndsBy (λ answer. answer ≡ diagram_answer (seen_source source.now) view.now)
@@ -105,7 +104,7 @@ pub fn write_diagram<W: Write>(
 {
     diagram(alloc, source, view, out)?;
     flush(out)?;
-    Ok(None)
+    Ok(Outcome::Done)
 }
 
 /// Writes the trace of a run, a line for each event that its kernel applies, and flushes once.
@@ -117,7 +116,7 @@ pub fn write_trace<W: Write>(
     source: &Source<'_>,
     horizon: u64,
     out: &mut W,
-) -> Result<Option<Counts>, ProgramFault<'static>>
+) -> Result<Outcome, ProgramFault<'static>>
     ensures ok { IfOk result (GoesOut (λ answer. answer ≡ trace_answer (seen_source source.now) horizon)
         (W.contents out.old) (W.contents out.new)) }
     ensures err { IfErr result (AnswerEndsBy (λ answer. answer ≡ trace_answer (seen_source source.now) horizon)
@@ -126,7 +125,7 @@ pub fn write_trace<W: Write>(
 {
     trace(alloc, source, horizon, out)?;
     flush(out)?;
-    Ok(None)
+    Ok(Outcome::Done)
 }
 
 /// Writes the nets in the fan-in cones of these names as .bench text and flushes once.
@@ -139,7 +138,7 @@ pub fn write_cone<W: Write>(
     bench: &[u8],
     names: &[&[u8]],
     out: &mut W,
-) -> Result<Option<Counts>, ProgramFault<'static>>
+) -> Result<Outcome, ProgramFault<'static>>
     ensures ok { IfOk result (GoesOut (IsAnswerOfCone bench.now (seen_names names.now))
         (W.contents out.old) (W.contents out.new)) }
     ensures err { IfErr result (AnswerEndsBy (IsAnswerOfCone bench.now (seen_names names.now))
@@ -148,7 +147,61 @@ pub fn write_cone<W: Write>(
 {
     let text = cone_text(alloc, bench, names)?;
     write_text(out, text.as_slice())?;
-    Ok(None)
+    Ok(Outcome::Done)
+}
+
+/// Writes what a circuit is, in numbers and names, and flushes once.
+///
+/// # Errors
+/// Where the netlist is refused nothing is written. After a failed write a first part of the text went
+/// out, and after a failed flush all of it.
+pub fn write_info<W: Write>(
+    alloc: Global,
+    bench: &[u8],
+    out: &mut W,
+) -> Result<Outcome, ProgramFault<'static>>
+    ensures ok { IfOk result (GoesOut (IsAnswerOfInfo bench.now) (W.contents out.old) (W.contents out.new)) }
+    ensures err { IfErr result (AnswerEndsBy (IsAnswerOfInfo bench.now) (W.contents out.old) (W.contents out.new)) }
+    ensures no_read { IfErr result IsNoRead }
+{
+    let text = info(alloc, bench)?;
+    write_text(out, text.as_slice())?;
+    Ok(Outcome::Done)
+}
+
+/// Writes a line for each net that is compared in two runs, and flushes once. The outcome says whether
+/// all of them are the same.
+///
+/// # Errors
+/// As [`write_twin`].
+pub fn write_diff<W: Write>(
+    alloc: Global,
+    first: &Source<'_>,
+    second: &Source<'_>,
+    names: &[&[u8]],
+    ticks: DiffTicks,
+    out: &mut W,
+) -> Result<Outcome, ProgramFault<'static>>
+    ensures ok { IfOk result (GoesOut (IsAnswerOfDiff (seen_source first.now) (seen_source second.now) (seen_names names.now) ticks)
+        (W.contents out.old) (W.contents out.new)) }
+    ensures err { IfErr result (AnswerEndsBy (IsAnswerOfDiff (seen_source first.now) (seen_source second.now) (seen_names names.now) ticks)
+        (W.contents out.old) (W.contents out.new)) }
+    ensures no_read { IfErr result IsNoRead }
+{
+    let answer = diff(alloc, first, second, names, ticks)?;
+    write_text(out, answer.text.as_slice())?;
+    Ok(outcome_of(answer.same))
+}
+
+/// The outcome of a comparison.
+fn outcome_of(same: bool) -> Outcome
+    ensures { result ≡ outcome_of same }
+{
+    if same {
+        Outcome::Done
+    } else {
+        Outcome::Differing
+    }
 }
 
 /// Writes whether two runs agree on the fan-in cone of a net, and what the net shows in both, and
@@ -164,7 +217,7 @@ pub fn write_twin<W: Write>(
     net: &[u8],
     horizon: u64,
     out: &mut W,
-) -> Result<Option<Counts>, ProgramFault<'static>>
+) -> Result<Outcome, ProgramFault<'static>>
     ensures ok { IfOk result (GoesOut (IsAnswerOfTwin (seen_source first.now) (seen_source second.now) net.now horizon)
         (W.contents out.old) (W.contents out.new)) }
     ensures err { IfErr result (AnswerEndsBy (IsAnswerOfTwin (seen_source first.now) (seen_source second.now) net.now horizon)
@@ -174,7 +227,7 @@ pub fn write_twin<W: Write>(
     let answer = twin(alloc, first, second, net, horizon)?;
     let text = twin_text(alloc, &answer)?;
     write_text(out, text.as_str().as_bytes())?;
-    Ok(None)
+    Ok(Outcome::Done)
 }
 
 /// Writes for how many nets the kernel and the plain engine give the same waveform, and flushes once.
@@ -186,7 +239,7 @@ pub fn write_check<W: Write>(
     source: &Source<'_>,
     horizon: u64,
     out: &mut W,
-) -> Result<Option<Counts>, ProgramFault<'static>>
+) -> Result<Outcome, ProgramFault<'static>>
     ensures ok { IfOk result (GoesOut (λ answer. answer ≡ check_answer (seen_source source.now) horizon)
         (W.contents out.old) (W.contents out.new)) }
     ensures err { IfErr result (AnswerEndsBy (λ answer. answer ≡ check_answer (seen_source source.now) horizon)
@@ -196,7 +249,7 @@ pub fn write_check<W: Write>(
     let answer = check(alloc, source, horizon)?;
     let text = check_text(alloc, &answer)?;
     write_text(out, text.as_str().as_bytes())?;
-    Ok(None)
+    Ok(Outcome::Done)
 }
 
 /// Writes the lines that say why the net of a name has its value at a tick, and flushes once.
@@ -209,7 +262,7 @@ pub fn write_why<W: Write>(
     name: &[u8],
     tick: u64,
     out: &mut W,
-) -> Result<Option<Counts>, ProgramFault<'static>>
+) -> Result<Outcome, ProgramFault<'static>>
     ensures ok { IfOk result (GoesOut (λ answer. answer ≡ why_answer (seen_source source.now) name.now tick)
         (W.contents out.old) (W.contents out.new)) }
     ensures err { IfErr result (AnswerEndsBy (λ answer. answer ≡ why_answer (seen_source source.now) name.now tick)
@@ -218,7 +271,7 @@ pub fn write_why<W: Write>(
 {
     let text = why(alloc, source, name, tick)?;
     write_text(out, text.as_slice())?;
-    Ok(None)
+    Ok(Outcome::Done)
 }
 
 /// Writes the stimulus text of a netlist's inputs, and flushes once.
@@ -233,7 +286,7 @@ pub fn write_stimuli<W: Write>(
     draws: Draws,
     horizon: u64,
     out: &mut W,
-) -> Result<Option<Counts>, ProgramFault<'static>>
+) -> Result<Outcome, ProgramFault<'static>>
     ensures ok { IfOk result (GoesOut (λ answer. answer ≡ stimuli_answer bench.now (map seen_drive drives.now) draws horizon)
         (W.contents out.old) (W.contents out.new)) }
     ensures err { IfErr result (AnswerEndsBy (λ answer. answer ≡ stimuli_answer bench.now (map seen_drive drives.now) draws horizon)
@@ -242,5 +295,5 @@ pub fn write_stimuli<W: Write>(
 {
     let text = stimuli(alloc, bench, drives, draws, horizon)?;
     write_text(out, text.as_slice())?;
-    Ok(None)
+    Ok(Outcome::Done)
 }

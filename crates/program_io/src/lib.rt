@@ -6,17 +6,19 @@ mod answer_text;
 mod answers;
 mod fault_line;
 mod input;
+mod outcome;
 mod output;
 mod place;
 mod program_fault;
 pub mod status;
 
 pub use answers::{
-    write_check, write_cone, write_diagram, write_plain, write_run, write_stimuli, write_trace,
-    write_twin, write_why,
+    write_check, write_cone, write_diagram, write_diff, write_info, write_plain, write_run,
+    write_stimuli, write_trace, write_twin, write_why,
 };
 pub use fault_line::{report, write_fault_line};
 pub use input::{ReadFault, read_text};
+pub use outcome::Outcome;
 pub use output::{flush, write_pieces, write_text};
 pub use place::{SECTIONS, TextNames};
 pub use program_fault::ProgramFault;

@@ -40,7 +40,8 @@ fn run_place<'a>(fault: SimFault, names: TextNames<'a>) -> &'a str
     ensures { result.now ≡ run_place (called names.entry) fault }
 {
     match fault {
-        SimFault::Setting(_) | SimFault::Columns(_) | SimFault::Drives(_) => "options",
+        SimFault::Setting(_) | SimFault::Columns(_) | SimFault::Drives(_) | SimFault::Compared(_) =>
+            "options",
         SimFault::Bench(_) | SimFault::UnknownNet => names.bench,
         SimFault::Timing(_) => names.delays,
         SimFault::Stimulus(_) => names.stimuli,

@@ -19,6 +19,9 @@ pub const FAILED: u8 = 3;
 /// Memory was wanting.
 pub const NO_MEMORY: u8 = 4;
 
+/// What was compared differs.
+pub const DIFFERENT: u8 = 5;
+
 /// The exit status of a fault.
 pub(crate) fn status(fault: ProgramFault<'_>) -> u8
     ensures { result ≡ status_of fault.entry }

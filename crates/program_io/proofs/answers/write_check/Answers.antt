@@ -22,7 +22,7 @@ returns-in_err-answer-clause-no_read g c =
 pub returns-in_err-write_text-clause-err : goal.returns-in_err-write_text-clause-err
 returns-in_err-write_text-clause-err g c =
     let p = err_from_is_err_and c.from_residual-in_err-write_text.result c.from_residual-in_err-write_text.ensures.1 in
-    rw (p.1, p.2) (AnswerEndsBy-text (λ answer. answer ≡ check_answer (seen_source c.args.source.now) c.args.horizon) (check_text c.in_ok-answer.answer) _
+    rw (p.1, p.2) (AnswerEndsBy-text (λ answer. answer ≡ check_answer (seen_source c.args.source.now) c.args.horizon) (just (check_text c.in_ok-answer.answer)) _
     (answered-checked (run_of_source (seen_source c.args.source.now) c.args.horizon) c.in_ok-answer.answer c.in_ok-answer.ensures.ok)
     (c.as_bytes.ensures.value ∙ c.as_str.ensures.value ∙ c.in_ok-text.ensures) _ _ _ c.in_err-write_text.ensures.err)
 
@@ -33,6 +33,6 @@ returns-in_err-write_text-clause-no_read g c =
 
 pub returns-clause-ok : goal.returns-clause-ok
 returns-clause-ok g c =
-    GoesOut-text (λ answer. answer ≡ check_answer (seen_source c.args.source.now) c.args.horizon) (check_text c.in_ok-answer.answer) _
+    GoesOut-text (λ answer. answer ≡ check_answer (seen_source c.args.source.now) c.args.horizon) (just (check_text c.in_ok-answer.answer)) _
     (answered-checked (run_of_source (seen_source c.args.source.now) c.args.horizon) c.in_ok-answer.answer c.in_ok-answer.ensures.ok)
     (c.as_bytes.ensures.value ∙ c.as_str.ensures.value ∙ c.in_ok-text.ensures) _ _ c.in_ok-write_text.ensures.ok

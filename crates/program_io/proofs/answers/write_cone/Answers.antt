@@ -2,7 +2,7 @@ use Rattle.std.proofs.lemmas.Result.{err_from_is_err_and}
 use Rattle.std.proofs.Common.{Ok, Err, refl}
 use Rattle.netlist.specs.Names.{seen_names}
 use Rattle.runs.proofs.CallerLemmas.{IsConeAnswer-unwritten}
-use Rattle.program_io.specs.Answers.{IsAnswerOfCone}
+use Rattle.program_io.specs.Answers.{IsAnswerOfCone, just}
 use Rattle.program_io.proofs.AnswerEnds.{AnswerEndsBy-text, AnswerEndsBy-unwritten, GoesOut-text, WriteEndsBy-no_read, fault_of_run-no_read}
 use Rattle.program_io.proofs.answers.write_cone.Goals as goal
 
@@ -22,7 +22,7 @@ returns-in_err-text-clause-no_read g c =
 pub returns-in_err-write_text-clause-err : goal.returns-in_err-write_text-clause-err
 returns-in_err-write_text-clause-err g c =
     let p = err_from_is_err_and c.from_residual-in_err-write_text.result c.from_residual-in_err-write_text.ensures.1 in
-    rw (p.1, p.2) (AnswerEndsBy-text (IsAnswerOfCone c.args.bench.now (seen_names c.args.names.now)) c.in_ok-text.text.items _
+    rw (p.1, p.2) (AnswerEndsBy-text (IsAnswerOfCone c.args.bench.now (seen_names c.args.names.now)) (just c.in_ok-text.text.items) _
     (Ok c.in_ok-text.text.items, c.in_ok-text.ensures.cone (λ same. (cc)), refl) c.as_slice.ensures.value _ _ _ c.in_err-write_text.ensures.err)
 
 pub returns-in_err-write_text-clause-no_read : goal.returns-in_err-write_text-clause-no_read
@@ -32,5 +32,5 @@ returns-in_err-write_text-clause-no_read g c =
 
 pub returns-clause-ok : goal.returns-clause-ok
 returns-clause-ok g c =
-    GoesOut-text (IsAnswerOfCone c.args.bench.now (seen_names c.args.names.now)) c.in_ok-text.text.items _
+    GoesOut-text (IsAnswerOfCone c.args.bench.now (seen_names c.args.names.now)) (just c.in_ok-text.text.items) _
     (Ok c.in_ok-text.text.items, c.in_ok-text.ensures.cone (λ same. (cc)), refl) c.as_slice.ensures.value _ _ c.in_ok-write_text.ensures.ok

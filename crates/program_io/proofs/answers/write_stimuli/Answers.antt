@@ -19,7 +19,7 @@ returns-in_err-text-clause-no_read g c =
 pub returns-in_err-write_text-clause-err : goal.returns-in_err-write_text-clause-err
 returns-in_err-write_text-clause-err g c =
     let p = err_from_is_err_and c.from_residual-in_err-write_text.result c.from_residual-in_err-write_text.ensures.1 in
-    rw (p.1, p.2) (AnswerEndsBy-text (λ answer. answer ≡ stimuli_answer c.args.bench.now (map seen_drive c.args.drives.now) c.args.draws c.args.horizon) c.in_ok-text.text.items _
+    rw (p.1, p.2) (AnswerEndsBy-text (λ answer. answer ≡ stimuli_answer c.args.bench.now (map seen_drive c.args.drives.now) c.args.draws c.args.horizon) (just c.in_ok-text.text.items) _
     (ap (answered just) (sym c.in_ok-text.ensures.ok)) c.as_slice.ensures.value _ _ _ c.in_err-write_text.ensures.err)
 
 pub returns-in_err-write_text-clause-no_read : goal.returns-in_err-write_text-clause-no_read
@@ -29,5 +29,5 @@ returns-in_err-write_text-clause-no_read g c =
 
 pub returns-clause-ok : goal.returns-clause-ok
 returns-clause-ok g c =
-    GoesOut-text (λ answer. answer ≡ stimuli_answer c.args.bench.now (map seen_drive c.args.drives.now) c.args.draws c.args.horizon) c.in_ok-text.text.items _
+    GoesOut-text (λ answer. answer ≡ stimuli_answer c.args.bench.now (map seen_drive c.args.drives.now) c.args.draws c.args.horizon) (just c.in_ok-text.text.items) _
     (ap (answered just) (sym c.in_ok-text.ensures.ok)) c.as_slice.ensures.value _ _ c.in_ok-write_text.ensures.ok

@@ -1,0 +1,64 @@
+//! The subcommand `diff`: what it takes, and the order that it is.
+use crate::described::{Absent, Described, Takes};
+use crate::help::subcommand_named;
+use crate::options::{
+    FIRST, FIRST_SIDE, LENGTH, SECOND, SECOND_SIDE, names_given, number_given, side_picks,
+    source_given,
+};
+use clap::{ArgMatches, Command};
+use orders::Order;
+use runs::DiffTicks;
+use std::alloc::{AllocError, Global};
+
+const ABOUT: &str =
+    "Compares what nets show in two runs, and writes a line for each: y same, y differs 7 0 1 with\n\
+     the first tick at which they differ, or y only in first. The exit status is 5 where one isn't\n\
+     the same";
+
+const USAGE: &str = "nullsim diff --first <FILE> --second <FILE> --horizon <N> [OPTIONS]";
+
+const NET: &str = "The nets, by their names in both circuits, such as y,q; without it the\n\
+     outputs of both";
+
+const FROM: &str = "The first tick that counts";
+
+const EVERY: &str = "Only multiples of so many ticks count: at least 1";
+
+static OPTIONS: [Described; 3] = [
+    Described("net", Takes::NetList, Absent::Nothing, NET),
+    Described("from", Takes::Number, Absent::Default("0"), FROM),
+    Described("every", Takes::Number, Absent::Default("1"), EVERY),
+];
+
+/// The subcommand with its options.
+pub(super) fn subcommand<'a>(alloc: Global) -> Result<Command<'a>, AllocError> {
+    subcommand_named(
+        alloc,
+        "diff",
+        ABOUT,
+        USAGE,
+        &[
+            LENGTH.as_slice(),
+            OPTIONS.as_slice(),
+            FIRST_SIDE.as_slice(),
+            SECOND_SIDE.as_slice(),
+        ],
+    )
+}
+
+/// The order of its options.
+pub(super) fn order_given<'a>(
+    alloc: Global,
+    options: &ArgMatches<'a>,
+) -> Result<Order<'a>, AllocError> {
+    Ok(Order::Diff {
+        first: source_given(options, &FIRST, side_picks(options, FIRST.schedule)),
+        second: source_given(options, &SECOND, side_picks(options, SECOND.schedule)),
+        names: names_given(alloc, options, "net")?,
+        ticks: DiffTicks {
+            horizon: number_given(options, "horizon"),
+            from: number_given(options, "from"),
+            every: number_given(options, "every"),
+        },
+    })
+}

@@ -1,0 +1,51 @@
+use Rattle.netlist.specs.Names.{seen_names}
+use Rattle.runs.specs.Source.{seen_source}
+use Rattle.program_io.specs.Answers.{IsAnswerOfDiff}
+use Rattle.orders.specs.Readings.{files_of_options}
+use Rattle.std.proofs.lemmas.Result.{err_from_is_err_and, IfErr-weaker, IfOk-weaker}
+use Rattle.orders.specs.declared.order.Order.TheVariants as order
+use Rattle.orders.specs.OrderAnswer.{IsAnswer}
+use Rattle.program_io.proofs.CallerLemmas.{AnswerEndsBy-weaker, GoesOut-weaker}
+use Rattle.orders.proofs.OrderTexts.{IsAnswer-diff}
+use Rattle.orders.proofs.ReadingsLemmas.{ReadsAll-append, ReadsUntil-behind, ReadsUntil-stopped, StopsBy-after, StopsBy-longer}
+use Rattle.orders.proofs.order_run.carry_out_diff.Goals as goal
+
+pub returns-clause-ok : goal.returns-clause-ok
+returns-clause-ok g c =
+    let known = g.T.Texts.known c.args.texts.now in
+    IfOk-weaker c.write_diff.result _ _
+    (GoesOut-weaker (IsAnswerOfDiff (seen_source c.source.result) (seen_source c.source-2.result) (seen_names c.as_slice.result.now) c.args.ticks) (IsAnswer known (order.Diff c.args.first.now c.args.second.now c.args.names.now c.args.ticks))
+    (IsAnswer-diff known c.args.first.now c.args.second.now c.args.names.now _ c.as_slice.ensures.value c.args.ticks
+    c.in_ok-former.former _ c.in_ok-former.ensures.ok c.source.ensures _ c.read.ensures.stays c.in_ok-latter.latter _ c.in_ok-latter.ensures.ok c.source-2.ensures) _ _)
+    c.write_diff.ensures.ok
+
+pub returns-clause-err : goal.returns-clause-err
+returns-clause-err g c =
+    let known = g.T.Texts.known c.args.texts.now in
+    IfErr-weaker c.write_diff.result _ _
+    (AnswerEndsBy-weaker (IsAnswerOfDiff (seen_source c.source.result) (seen_source c.source-2.result) (seen_names c.as_slice.result.now) c.args.ticks) (IsAnswer known (order.Diff c.args.first.now c.args.second.now c.args.names.now c.args.ticks))
+    (IsAnswer-diff known c.args.first.now c.args.second.now c.args.names.now _ c.as_slice.ensures.value c.args.ticks
+    c.in_ok-former.former _ c.in_ok-former.ensures.ok c.source.ensures _ c.read.ensures.stays c.in_ok-latter.latter _ c.in_ok-latter.ensures.ok c.source-2.ensures) _ _)
+    c.write_diff.ensures.err
+
+pub returns-clause-stopped : goal.returns-clause-stopped
+returns-clause-stopped g c =
+    IfErr-weaker c.write_diff.result _ _ (ReadsUntil-behind _ _ _ (ReadsAll-append (files_of_options c.args.first.now) (files_of_options c.args.second.now) _ _ _ c.in_ok-former.ensures.read c.in_ok-latter.ensures.read)) c.write_diff.ensures.no_read
+
+pub returns-in_err-former-clause-stopped : goal.returns-in_err-former-clause-stopped
+returns-in_err-former-clause-stopped g c =
+    let p = err_from_is_err_and c.from_residual.result c.from_residual.ensures.1 in
+    rw (p.1, p.2) (ReadsUntil-stopped _ _ _ _
+    (StopsBy-longer (files_of_options c.args.first.now) (files_of_options c.args.second.now) _ _ _ c.in_err-former.ensures.err))
+
+pub returns-in_err-latter-clause-stopped : goal.returns-in_err-latter-clause-stopped
+returns-in_err-latter-clause-stopped g c =
+    let p = err_from_is_err_and c.from_residual-in_err-latter.result c.from_residual-in_err-latter.ensures.1 in
+    rw (p.1, p.2) (ReadsUntil-stopped _ _ _ _
+    (StopsBy-after (files_of_options c.args.first.now) (files_of_options c.args.second.now) _ _ _ _ c.in_ok-former.ensures.read c.in_err-latter.ensures.err))
+
+pub returns-clause-read : goal.returns-clause-read
+returns-clause-read g c =
+    IfOk-weaker c.write_diff.result _ _
+    (λ counts went. ReadsAll-append (files_of_options c.args.first.now) (files_of_options c.args.second.now) _ _ _ c.in_ok-former.ensures.read c.in_ok-latter.ensures.read)
+    c.write_diff.ensures.ok
