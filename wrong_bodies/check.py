@@ -1,5 +1,5 @@
 #!/usr/bin/env python3
-"""Wrong bodies that the contracts have to rule out: each stands in a file crates/NAME/wrong-bodies/BUG.edit.
+"""Wrong bodies that the contracts have to rule out: each stands in a file crates/NAME/must-fail/BUG.edit.
 
 Those of a crate that stand in different functions are planted in one copy of it, which is then checked once: each
 function is proved by itself, over the contracts of those that it calls, so each of them has to be refused, and for
@@ -46,7 +46,7 @@ def tried(words: list[str], crate: Path, batch: Batch, kept: str) -> list[tuple[
 
 def tried_in(crate: Path, words: list[str], bugs: str) -> list[tuple[str, str | None]]:
     """Each wrong body of a crate that has such a name, with what is wrong."""
-    bodies = [read(file) for file in sorted((crate / "wrong-bodies").glob(f"{bugs}.edit"))]
+    bodies = [read(file) for file in sorted((crate / "must-fail").glob(f"{bugs}.edit"))]
     with tempfile.TemporaryDirectory(prefix="wrong-bodies-kept-") as kept:
         return [one for batch in batches_of(crate, bodies) for one in tried(words, crate, batch, kept)]
 
@@ -60,7 +60,7 @@ def lines_of(crate: Path) -> int:
 def main() -> int:
     used = libraries()
     asked = [it.partition("/") for it in sys.argv[1:]]
-    asked = asked or [(name, "", "") for name in used if (CRATES / name / "wrong-bodies").is_dir()]
+    asked = asked or [(name, "", "") for name in used if (CRATES / name / "must-fail").is_dir()]
     asked.sort(key=lambda it: lines_of(CRATES / it[0]), reverse=True)
     crates = [CRATES / name for name, _, _ in asked]
     words = [words_of_check(crate.name, used) for crate in crates]
