@@ -10,4 +10,4 @@ mod writer;
 
 pub use fault::BenchFault;
 pub use reader::read;
-pub use writer::write;
+pub use writer::{push_statement, write};

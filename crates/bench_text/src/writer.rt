@@ -38,7 +38,7 @@ fn push_nets(text: &mut Vec<u8>, netlist: &Netlist) -> Result<(), BenchFault>
     ensures well_formed { IsNetlist netlist.now }
 {
     for net in 0..netlist.nets() {
-        push_net(text, netlist, net)?;
+        push_statement(text, netlist, net)?;
         end_line(text)?;
     }
     Ok(())
@@ -70,8 +70,10 @@ fn end_line(text: &mut Vec<u8>) -> Result<(), BenchFault>
     Ok(())
 }
 
-/// Adds the line that defines a net, but for its end.
-fn push_net(text: &mut Vec<u8>, netlist: &Netlist, net: u32) -> Result<(), AllocError>
+/// Adds the line that defines a net, as in the canonical text, but for its end.
+///
+/// An `AllocError` leaves the text with a first part of the line.
+pub fn push_statement(text: &mut Vec<u8>, netlist: &Netlist, net: u32) -> Result<(), AllocError>
     requires within { net < length netlist.now.nets }
     requires well_formed { IsNetlist netlist.now }
     ensures { OnOk result (text.new.items

@@ -3,7 +3,7 @@ use Rattle.std.specs.Prelude.{ℕ, List, [], ◌++◌, flat_map, codes, decimal,
 use Rattle.std.specs.List.{zip}
 use Rattle.std.specs.Option.{option_map_or}
 use Rattle.logic3.specs.declared.value.Value.{Value}
-use Rattle.logic3.specs.declared.value.Value.TheVariants.{Zero, One, Unknown}
+use Rattle.logic3.specs.Value.{value_text}
 use Rattle.netlist.specs.Netlist.{net_at, name_at}
 use Rattle.bench_text.specs.Canonical.{canonical_line, net_statement}
 use Rattle.design.specs.Circuit.{Net}
@@ -14,11 +14,6 @@ use Rattle.causes.specs.declared.cause.Cause.{Cause}
 use Rattle.causes.specs.declared.cause.Reason.{Reason}
 use Rattle.causes.specs.declared.cause.Reason.TheVariants.{Pin, Stimulus, NoStimulus, BeforeDelay, BeforeFirstSample, BeforeWire, Loop}
 use Rattle.causes.specs.Causes.{causes_of}
-
-abbrev pub value_text : Value → List ℕ
-value_text Zero = codes "0"
-value_text One = codes "1"
-value_text Unknown = codes "x"
 
 -- a name at a tick, as `y@7`
 abbrev pub moment_text : List ℕ → ℕ → List ℕ

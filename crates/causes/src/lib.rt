@@ -6,7 +6,6 @@ mod deciding;
 pub mod laws;
 mod pins;
 mod reasons;
-mod statement;
 mod text;
 mod walk;
 

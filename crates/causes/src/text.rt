@@ -1,14 +1,14 @@
 //! Causes as text, a line each.
-ghost use Rattle.std.specs.Prelude.{◌≡◌, ◌<◌, [], ◌∷◌, ◌++◌, length, decimal, slice_get, All, IfOk, OnOk};
+ghost use Rattle.std.specs.Prelude.{◌≡◌, ◌<◌, ◌++◌, length, decimal, slice_get, All, IfOk, OnOk};
 ghost use Rattle.netlist.specs.Netlist.{name_at};
 ghost use Rattle.design.specs.Design.{IsDesign};
 ghost use Rattle.causes.specs.Causes.{ShowUpTo};
-ghost use Rattle.causes.specs.Text.{cause_line, looks_text, loop_text, moment_text, pin_text, pins_text, reason_text, shown_text, stimulus_text, value_text, why_text};
+ghost use Rattle.causes.specs.Text.{cause_line, looks_text, loop_text, moment_text, pin_text, pins_text, reason_text, shown_text, stimulus_text, why_text};
 
 use crate::cause::{Cause, Reason};
 use crate::pins::shown;
-use crate::statement::push_statement;
 use crate::walk::why;
+use bench_text::push_statement;
 use design::{Design, asked_tick};
 use itoa::Buffer;
 use logic3::{Value, Waveform};
@@ -103,7 +103,7 @@ fn push_stimulus(text: &mut Vec<u8>, name: &[u8], value: Value, tick: u64) -> Re
     text.push(b' ')?;
     text.extend_from_slice(name)?;
     text.push(b' ')?;
-    text.push(value_byte(value))?;
+    text.extend_from_slice(value.text().as_bytes())?;
     Ok(())
 }
 
@@ -196,7 +196,7 @@ fn push_shown(text: &mut Vec<u8>, name: &[u8], tick: u64, value: Value) -> Resul
 {
     push_moment(text, name, tick)?;
     text.extend_from_slice(b" = ")?;
-    text.push(value_byte(value))?;
+    text.extend_from_slice(value.text().as_bytes())?;
     Ok(())
 }
 
@@ -214,14 +214,4 @@ fn push_number(text: &mut Vec<u8>, number: u64) -> Result<(), AllocError>
 {
     let mut buffer = Buffer::new();
     text.extend_from_slice(buffer.format(number).as_bytes())
-}
-
-fn value_byte(value: Value) -> u8
-    ensures { result ∷ [] ≡ value_text value }
-{
-    match value {
-        Value::Zero => b'0',
-        Value::One => b'1',
-        Value::Unknown => b'x',
-    }
 }

@@ -21,7 +21,8 @@ use Rattle.timing_text.specs.declared.fault.StimulusFault.TheVariants.{BadLine}
 use Rattle.timing_text.specs.Ranges.{most_ticks}
 use Rattle.timing_text.specs.Stimuli.{NamedChange, StimulusLine, stimulus_at, stimulus_in, stimulus_of_words, stimulus_or_fault}
 use Rattle.timing_text.specs.Words.{find_net, is_input, value_of_word}
-use Rattle.drawn_stimuli.specs.StimulusText.{change_line, value_word}
+use Rattle.logic3.specs.Value.{value_text}
+use Rattle.drawn_stimuli.specs.StimulusText.{change_line}
 
 -- ---- bytes
 
@@ -76,7 +77,7 @@ IsWord-digits (c ∷ word) h =
     let range = digit_from_value c h.0 in
     All-cons (λ byte. is_word_byte byte ≡ true) c word (grind (arith, nat_tests, range)) (IsWord-digits word h.1)
 
-IsWord-value : (value : Value) → IsWord (value_word value)
+IsWord-value : (value : Value) → IsWord (value_text value)
 IsWord-value Zero = AllPass-from_list_all is_word_byte (codes "0") refl
 IsWord-value One = AllPass-from_list_all is_word_byte (codes "1") refl
 IsWord-value Unknown = AllPass-from_list_all is_word_byte (codes "x") refl
@@ -96,7 +97,7 @@ number_of-decimal n small =
     let numeral = decimal_is_IsNumeral n small in
     number_of-digits (decimal n) numeral.0.0 numeral.0.1 ∙ ap Some numeral.1
 
-value_of_word-value : (value : Value) → value_of_word (value_word value) ≡ Some value
+value_of_word-value : (value : Value) → value_of_word (value_text value) ≡ Some value
 value_of_word-value Zero = refl
 value_of_word-value One = refl
 value_of_word-value Unknown = refl
@@ -106,7 +107,7 @@ is_empty-some : (word : List ℕ) → 0 < length word → is_empty word ≡ fals
 is_empty-some [] some = absurd (omega arith)
 is_empty-some (byte ∷ word) some = refl
 
-some_value : (value : Value) → 0 < length (value_word value)
+some_value : (value : Value) → 0 < length (value_text value)
 some_value Zero = omega arith
 some_value One = omega arith
 some_value Unknown = omega arith
@@ -156,7 +157,7 @@ module _ (first second third : List ℕ) (a : IsWord first) (b : IsWord second) 
 -- ---- the line of a change
 
 abbrev code_of_change : NamedChange → List ℕ
-code_of_change s = decimal s.change.tick ++ codes " " ++ s.name ++ codes " " ++ value_word s.change.value
+code_of_change s = decimal s.change.tick ++ codes " " ++ s.name ++ codes " " ++ value_text s.change.value
 
 -- a change that can stand in a text: of an input, and in time
 pub record IsDrawnChange (netlist : NetlistView) (s : NamedChange) : Type 0 where
@@ -174,11 +175,11 @@ module _ (netlist : NetlistView) (s : NamedChange) (can : IsDrawnChange netlist 
   some_digit = let in_time = can.in_time in (decimal_is_IsNumeral s.change.tick (omega (arith, in_time))).0.0
 
   bytes : IsLine (code_of_change s)
-  bytes = IsLine-line (decimal s.change.tick) s.name (value_word s.change.value) (IsWord-digits (decimal s.change.tick) numeral) (IsWord-name s.name can.named) (IsWord-value s.change.value)
+  bytes = IsLine-line (decimal s.change.tick) s.name (value_text s.change.value) (IsWord-digits (decimal s.change.tick) numeral) (IsWord-name s.name can.named) (IsWord-value s.change.value)
 
-  words : words_of (code_of_change s) ≡ decimal s.change.tick ∷ s.name ∷ value_word s.change.value ∷ []
+  words : words_of (code_of_change s) ≡ decimal s.change.tick ∷ s.name ∷ value_text s.change.value ∷ []
   words =
-      words_of-line (decimal s.change.tick) s.name (value_word s.change.value) (IsWord-digits (decimal s.change.tick) numeral) (IsWord-name s.name can.named) (IsWord-value s.change.value)
+      words_of-line (decimal s.change.tick) s.name (value_text s.change.value) (IsWord-digits (decimal s.change.tick) numeral) (IsWord-name s.name can.named) (IsWord-value s.change.value)
       some_digit can.named.some (some_value s.change.value)
 
   -- it is the first line of the code
@@ -195,18 +196,18 @@ module _ (netlist : NetlistView) (s : NamedChange) (can : IsDrawnChange netlist 
       ∙ ap (λ first. filter has_words ((number, first) ∷ enumerate_from (number + 1) (map code_of (lines_of rest)))) (code_of-line (code_of_change s) bytes)
       ∙ ap (λ words. cond (not (is_empty words)) ((number, code_of_change s) ∷ code_lines_from (number + 1) rest) (code_lines_from (number + 1) rest)) words
 
-  stimulus_in-change : stimulus_in (code_of_change s) ≡ Some (record { tick = s.change.tick; name = s.name; value = value_word s.change.value })
+  stimulus_in-change : stimulus_in (code_of_change s) ≡ Some (record { tick = s.change.tick; name = s.name; value = value_text s.change.value })
   stimulus_in-change =
       let in_time = can.in_time in
       ap (λ plain. cond plain (stimulus_of_words (words_of (code_of_change s))) None)
       (list_all-from_AllPass (λ byte. is_white byte || is_ascii_graphic byte) (code_of_change s)
       (All-weaker (λ byte. is_line_byte byte ≡ true) (λ byte. (is_white byte || is_ascii_graphic byte) ≡ true) plain_byte (code_of_change s) bytes))
       ∙ ap stimulus_of_words words
-      ∙ ap (λ number. option_map (λ number. record { tick = number; name = s.name; value = value_word s.change.value }) number) (number_of-decimal s.change.tick (omega (arith, in_time)))
+      ∙ ap (λ number. option_map (λ number. record { tick = number; name = s.name; value = value_text s.change.value }) number) (number_of-decimal s.change.tick (omega (arith, in_time)))
 
   -- and it gives the change
   pub stimulus_or_fault-change : (number : ℕ) → stimulus_or_fault netlist (number, code_of_change s) ≡ Ok s
   stimulus_or_fault-change number =
       ap (λ read. option_map_or (λ (s : StimulusLine). stimulus_at number s (find_net netlist s.name)) read (Err (BadLine number))) stimulus_in-change
-      ∙ ap (stimulus_at number (record { tick = s.change.tick; name = s.name; value = value_word s.change.value })) can.found
+      ∙ ap (stimulus_at number (record { tick = s.change.tick; name = s.name; value = value_text s.change.value })) can.found
       ∙ rw (can.driven, le-ltb most_ticks s.change.tick can.in_time, value_of_word-value s.change.value) refl

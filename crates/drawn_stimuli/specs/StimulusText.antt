@@ -3,7 +3,7 @@ use Rattle.std.specs.Prelude.{ℕ, ◌+◌, ◌==◌, if◌then◌else◌, List,
 use Rattle.std.specs.List.{range_with_len}
 use Rattle.std.specs.Option.{option_map_or}
 use Rattle.logic3.specs.declared.value.Value.{Value}
-use Rattle.logic3.specs.declared.value.Value.TheVariants.{Zero, One, Unknown}
+use Rattle.logic3.specs.Value.{value_text}
 use Rattle.logic3.specs.Wave.{change_at}
 use Rattle.text_lines.specs.Text.{unless_too_long}
 use Rattle.netlist.specs.Netlist.{NetlistView}
@@ -14,11 +14,6 @@ use Rattle.drawn_stimuli.specs.declared.fault.DriveFault.{DriveFault}
 use Rattle.drawn_stimuli.specs.declared.fault.DriveFault.TheVariants.{BadEvery, TooLong}
 use Rattle.drawn_stimuli.specs.Signals.{signal_of}
 use Rattle.drawn_stimuli.specs.Inputs.{DriveView, InputView, drawn_count, first_fault, inputs_of}
-
-abbrev pub value_word : Value → List ℕ
-value_word Zero = codes "0"
-value_word One = codes "1"
-value_word Unknown = codes "x"
 
 -- ---- the changes
 
@@ -39,7 +34,7 @@ drawn_changes rounds inputs horizon = flat_map (tick_changes rounds inputs) (ran
 
 -- `TICK NAME VALUE`
 abbrev pub change_line : NamedChange → List ℕ
-change_line s = decimal s.change.tick ++ codes " " ++ s.name ++ codes " " ++ value_word s.change.value ++ codes "\n"
+change_line s = decimal s.change.tick ++ codes " " ++ s.name ++ codes " " ++ value_text s.change.value ++ codes "\n"
 
 abbrev pub input_text : Rounds → ℕ → InputView → List ℕ
 input_text rounds tick input = flat_map change_line (input_changes rounds tick input)

@@ -3,7 +3,7 @@ ghost use Rattle.std.specs.Prelude.{◌≡◌, ◌≤◌, ◌++◌, All, map, On
 ghost use Rattle.timing_text.specs.Ranges.{most_ticks};
 ghost use Rattle.drawn_stimuli.specs.Signals.{AreRounds};
 ghost use Rattle.drawn_stimuli.specs.Inputs.{IsInputNet, seen_input};
-ghost use Rattle.drawn_stimuli.specs.StimulusText.{change_line, input_text, tick_text, value_word};
+ghost use Rattle.drawn_stimuli.specs.StimulusText.{change_line, input_text, tick_text};
 
 use crate::drive::Rounds;
 use crate::input::InputNet;
@@ -12,16 +12,6 @@ use itoa::Buffer;
 use logic3::Value;
 use netlist::Netlist;
 use std::alloc::AllocError;
-
-fn value_word(value: Value) -> &'static [u8]
-    ensures { result.now ≡ value_word value }
-{
-    match value {
-        Value::Zero => b"0",
-        Value::One => b"1",
-        Value::Unknown => b"x",
-    }
-}
 
 /// Adds the line of a change.
 fn push_change(text: &mut Vec<u8>, tick: u64, name: &[u8], value: Value) -> Result<(), AllocError>
@@ -33,7 +23,7 @@ fn push_change(text: &mut Vec<u8>, tick: u64, name: &[u8], value: Value) -> Resu
     text.extend_from_slice(b" ")?;
     text.extend_from_slice(name)?;
     text.extend_from_slice(b" ")?;
-    text.extend_from_slice(value_word(value))?;
+    text.extend_from_slice(value.text().as_bytes())?;
     text.extend_from_slice(b"\n")?;
     Ok(())
 }

@@ -1,9 +1,10 @@
 -- The lines of a trace, and their text.
 use Rattle.std.specs.Prelude.{ℕ, List, [], ◌∷◌, ◌++◌, flat_map, codes, decimal}
+use Rattle.logic3.specs.Value.{value_text}
 use Rattle.cmb_channels.specs.declared.message.Message.{Message}
 use Rattle.cmb_channels.specs.declared.message.Message.TheVariants.{Change as Changes, Null}
 use Rattle.design.specs.Circuit.{Circuit}
-use Rattle.vcd_dump.specs.Dump.{line, value_text}
+use Rattle.vcd_dump.specs.Dump.{line}
 use Rattle.vcd_dump.specs.Traces.{name_of}
 use Rattle.cmb_kernel.specs.declared.counts.Counts.{Counts}
 

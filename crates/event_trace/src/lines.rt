@@ -9,7 +9,6 @@ use cmb_kernel::Counts;
 use itoa::Buffer;
 use logic3::Change;
 use std::alloc::AllocError;
-use vcd_dump::value_text;
 
 fn push_numbered(text: &mut Vec<u8>, before: &[u8], number: u64) -> Result<(), AllocError>
     ensures { OnOk result (text.new.items ≡ text.old.items ++ (before.now ++ decimal number)) }
@@ -24,7 +23,7 @@ fn push_change(text: &mut Vec<u8>, change: Change) -> Result<(), AllocError>
     ensures { OnOk result (text.new.items ≡ text.old.items ++ spaced_text (Changes change)) }
 {
     text.push(b' ')?;
-    text.extend_from_slice(value_text(change.value).as_bytes())?;
+    text.extend_from_slice(change.value.text().as_bytes())?;
     push_numbered(text, b"@", u64::from(change.tick))
 }
 

@@ -1,5 +1,5 @@
 -- The three values.
-use Rattle.std.specs.Prelude.{◌≡◌, Bool, true, false, refl}
+use Rattle.std.specs.Prelude.{◌≡◌, ℕ, Bool, true, false, List, codes, refl}
 use Rattle.std.specs.Cmp.{IsEquivalence}
 use Rattle.std.proofs.Common.{sym, true≢false}
 use Rattle.logic3.specs.declared.value.Value.{Value}
@@ -16,6 +16,12 @@ abbrev pub opposite : Value → Value
 opposite Zero = One
 opposite One = Zero
 opposite Unknown = Unknown
+
+-- how a value is written: in a dump, in stimuli and in all else that is told
+abbrev pub value_text : Value → List ℕ
+value_text Zero = codes "0"
+value_text One = codes "1"
+value_text Unknown = codes "x"
 
 -- being the same is an equivalence
 pub is_same_equiv : IsEquivalence is_same

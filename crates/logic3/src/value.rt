@@ -10,7 +10,18 @@ pub enum Value {
 
 impl Value {
     ghost use Rattle.std.specs.Prelude.{◌≡◌};
-    ghost use Rattle.logic3.specs.Value.{opposite};
+    ghost use Rattle.logic3.specs.Value.{opposite, value_text};
+
+    /// How a value is written, in a dump as in stimuli: `0`, `1`, and `x` for one that isn't known.
+    pub fn text(self) -> &'static str
+        ensures { result.now ≡ value_text self }
+    {
+        match self {
+            Value::Zero => "0",
+            Value::One => "1",
+            Value::Unknown => "x",
+        }
+    }
 
     /// 0 and 1 exchanged, X kept.
     pub(crate) fn opposite(self) -> Value

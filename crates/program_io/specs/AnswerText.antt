@@ -1,7 +1,8 @@
 -- The lines of an answer that is no dump.
 use Rattle.std.specs.Prelude.{ℕ, true, false, Bool, List, ◌++◌, flat_map, codes, decimal}
 use Rattle.logic3.specs.declared.change.Change.{Change}
-use Rattle.vcd_dump.specs.Dump.{line, value_text}
+use Rattle.logic3.specs.Value.{value_text}
+use Rattle.vcd_dump.specs.Dump.{line}
 use Rattle.runs.specs.declared.check_run.CheckAnswer.{CheckAnswer}
 use Rattle.runs.specs.declared.twin_run.TwinAnswer.{TwinAnswer}
 

@@ -6,7 +6,6 @@ use logic3::Waveform;
 use runs::{CheckAnswer, TwinAnswer};
 use std::alloc::{AllocError, Global};
 use std::fmt::Write;
-use vcd_dump::value_text;
 
 /// The lines `nets N`, `pins N` and `same N`.
 pub(crate) fn check_text(alloc: Global, answer: &CheckAnswer) -> Result<String, AllocError>
@@ -34,7 +33,7 @@ fn push_changes(text: &mut String, side: &str, wave: &Waveform) -> Result<(), Al
         string_bytes text.old ++ flat_map (side_line side.now) wave.now.changes) }
 {
     for change in wave.changes() {
-        let (tick, value) = (change.tick, value_text(change.value));
+        let (tick, value) = (change.tick, change.value.text());
         write!(text, "{side} {tick} {value}\n")?;
     }
     Ok(())

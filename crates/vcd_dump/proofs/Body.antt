@@ -8,10 +8,10 @@ use Rattle.std.proofs.lemmas.List.Elements.{filter_map-append}
 use Rattle.std.proofs.lemmas.Grind.{flat_map-append}
 use Rattle.logic3.specs.declared.value.Value.{Value}
 use Rattle.logic3.specs.declared.value.Value.TheVariants.{Zero, One, Unknown}
-use Rattle.logic3.specs.Value.{is_same}
+use Rattle.logic3.specs.Value.{is_same, value_text}
 use Rattle.logic3.proofs.CallerLemmas.{is_same-true}
 use Rattle.text_lines.specs.Text.{is_empty}
-use Rattle.vcd_dump.specs.Dump.{Variable, value_text, changes_at}
+use Rattle.vcd_dump.specs.Dump.{Variable, changes_at}
 use Rattle.vcd_dump.specs.Shown.{is_time_above, change_of, value_of_byte, is_time, value_in_body}
 use Rattle.vcd_dump.proofs.Lists.{bytes_eq-same, before_first-append, before_first-cut, after_first-cut, last_or-append}
 use Rattle.vcd_dump.proofs.Times.{time_token, is_time-time_token, is_time_above-time_token}

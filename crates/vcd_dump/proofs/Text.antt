@@ -3,10 +3,10 @@ use Rattle.std.proofs.Common.{◌≡◌, ℕ, zero, suc, ◌+◌, ◌-◌, ◌<�
 use Rattle.std.specs.List.{flat_map, range_with_len, AllByRecursion}
 use Rattle.logic3.specs.declared.value.Value.{Value}
 use Rattle.logic3.specs.declared.value.Value.TheVariants.{Zero, One, Unknown}
-use Rattle.logic3.specs.Value.{is_same}
+use Rattle.logic3.specs.Value.{is_same, value_text}
 use Rattle.text_lines.specs.Text.{is_empty}
 use Rattle.vcd_dump.specs.declared.unit.TimeUnit.{TimeUnit}
-use Rattle.vcd_dump.specs.Dump.{Variable, unit_text, value_text, declaration, declarations, change_line, time_line, first_values, changes_at, lines_at, dump_of}
+use Rattle.vcd_dump.specs.Dump.{Variable, unit_text, declaration, declarations, change_line, time_line, first_values, changes_at, lines_at, dump_of}
 use Rattle.vcd_dump.specs.Shown.{dump_tokens}
 use Rattle.vcd_dump.proofs.Lists.{AllByRecursion-weaker}
 use Rattle.vcd_dump.proofs.Tokens.{IsWordByte, IsToken, IsToken-from_bytes, word_then, Gives, Gives-none, Gives-line, ◌&◌, Gives-flat_map, Gives-whole}

@@ -2,8 +2,7 @@
 use Rattle.std.specs.Prelude.{ℕ, ◌-◌, ◌==◌, ◌&&◌, not, nat_lt, if◌then◌else◌, List, [], ◌∷◌, ◌++◌, map, flat_map, codes, decimal}
 use Rattle.std.specs.List.{enumerate_from, range_with_len}
 use Rattle.logic3.specs.declared.value.Value.{Value}
-use Rattle.logic3.specs.declared.value.Value.TheVariants.{Zero, One, Unknown}
-use Rattle.logic3.specs.Value.{is_same}
+use Rattle.logic3.specs.Value.{is_same, value_text}
 use Rattle.text_lines.specs.Text.{is_empty}
 use Rattle.vcd_dump.specs.declared.unit.TimeUnit.{TimeUnit}
 use Rattle.vcd_dump.specs.declared.unit.TimeUnit.TheVariants.{S, Ms, Us, Ns, Ps, Fs}
@@ -43,11 +42,6 @@ unit_text Us = codes "us"
 unit_text Ns = codes "ns"
 unit_text Ps = codes "ps"
 unit_text Fs = codes "fs"
-
-abbrev pub value_text : Value → List ℕ
-value_text Zero = codes "0"
-value_text One = codes "1"
-value_text Unknown = codes "x"
 
 -- the declaration of a code with its name
 abbrev pub declaration_text : List ℕ → List ℕ → List ℕ

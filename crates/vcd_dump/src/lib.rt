@@ -16,6 +16,5 @@ mod writer;
 pub use bytes::write_all_bytes;
 pub use dumper::dump;
 pub use fault::DumpFault;
-pub use lines::value_text;
 pub use stream::Stream;
 pub use unit::TimeUnit;

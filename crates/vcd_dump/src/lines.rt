@@ -1,6 +1,6 @@
 ghost use Rattle.std.specs.Prelude.{◌≡◌, ◌++◌, OnOk};
 ghost use Rattle.vcd_dump.specs.Codes.{code_at};
-ghost use Rattle.vcd_dump.specs.Dump.{unit_text, value_text, heading, time_line, time_line_after, change_text, declaration_text};
+ghost use Rattle.vcd_dump.specs.Dump.{unit_text, heading, time_line, time_line_after, change_text, declaration_text};
 
 use crate::codes::push_code;
 use crate::unit::TimeUnit;
@@ -22,17 +22,6 @@ pub fn unit_text(unit: TimeUnit) -> &'static [u8]
     }
 }
 
-/// How a dump writes a value: `0`, `1`, and `x` for one that isn't known.
-pub fn value_text(value: Value) -> &'static str
-    ensures { result.now ≡ value_text value }
-{
-    match value {
-        Value::Zero => "0",
-        Value::One => "1",
-        Value::Unknown => "x",
-    }
-}
-
 /// Adds the line of a time.
 pub fn push_time(line: &mut Vec<u8>, tick: u64) -> Result<(), AllocError>
     ensures { OnOk result (line.new.items ≡ line.old.items ++ time_line tick) }
@@ -48,7 +37,7 @@ pub fn push_time(line: &mut Vec<u8>, tick: u64) -> Result<(), AllocError>
 pub fn push_change(line: &mut Vec<u8>, value: Value, place: usize) -> Result<(), AllocError>
     ensures { OnOk result (line.new.items ≡ line.old.items ++ change_text value (code_at place)) }
 {
-    line.extend_from_slice(value_text(value).as_bytes())?;
+    line.extend_from_slice(value.text().as_bytes())?;
     push_code(line, place)?;
     line.push(b'\n')?;
     Ok(())

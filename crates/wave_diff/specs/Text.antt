@@ -1,16 +1,10 @@
 -- The lines of a comparison.
 use Rattle.std.specs.Prelude.{ℕ, List, ◌++◌, codes, decimal, true, false}
-use Rattle.logic3.specs.declared.value.Value.{Value}
-use Rattle.logic3.specs.declared.value.Value.TheVariants.{Zero, One, Unknown}
+use Rattle.logic3.specs.Value.{value_text}
 use Rattle.wave_diff.specs.declared.difference.Difference.{Difference}
 use Rattle.wave_diff.specs.declared.comparison.Side.TheVariants.{First, Second}
 use Rattle.wave_diff.specs.declared.comparison.Comparison.{Comparison}
 use Rattle.wave_diff.specs.declared.comparison.Comparison.TheVariants.{Same, Differs, OnlyIn}
-
-abbrev pub value_text : Value → List ℕ
-value_text Zero = codes "0"
-value_text One = codes "1"
-value_text Unknown = codes "x"
 
 -- the tick, and what the first and the second run show there
 abbrev pub difference_text : Difference → List ℕ

@@ -1,11 +1,10 @@
 //! What a comparison tells, a line for each name.
-ghost use Rattle.std.specs.Prelude.{◌≡◌, [], ◌∷◌, ◌++◌, OnOk};
-ghost use Rattle.wave_diff.specs.Text.{comparison_line, comparison_text, difference_text, value_text};
+ghost use Rattle.std.specs.Prelude.{◌≡◌, ◌++◌, OnOk};
+ghost use Rattle.wave_diff.specs.Text.{comparison_line, comparison_text, difference_text};
 
 use crate::comparison::{Comparison, Side};
 use crate::difference::Difference;
 use itoa::Buffer;
-use logic3::Value;
 use std::alloc::AllocError;
 
 /// Adds the line that tells of a name: `y same`; `y same, cones differ`; `y differs 7 0 x`, with the
@@ -41,18 +40,8 @@ fn push_difference(text: &mut Vec<u8>, found: Difference) -> Result<(), AllocErr
     text.extend_from_slice(b" differs ")?;
     text.extend_from_slice(buffer.format(found.tick).as_bytes())?;
     text.push(b' ')?;
-    text.push(value_byte(found.first))?;
+    text.extend_from_slice(found.first.text().as_bytes())?;
     text.push(b' ')?;
-    text.push(value_byte(found.second))?;
+    text.extend_from_slice(found.second.text().as_bytes())?;
     Ok(())
-}
-
-fn value_byte(value: Value) -> u8
-    ensures { result ∷ [] ≡ value_text value }
-{
-    match value {
-        Value::Zero => b'0',
-        Value::One => b'1',
-        Value::Unknown => b'x',
-    }
 }
