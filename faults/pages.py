@@ -1,5 +1,5 @@
 """The pages hold what the program prints: the commands that stand in them, the pictures beside them, and a trace
-that was reckoned from the definitions by another program."""
+that was reckoned from the definitions by another program. What they show of a source stands in it."""
 import re
 import shutil
 import subprocess
@@ -18,6 +18,10 @@ STORED = {
 
 # Commands in a page, and the text right behind them, if there is one.
 EXAMPLE = re.compile(r"^```sh\n(.*?)^```$(?:\n\n^```text\n(.*?)^```$)?", re.MULTILINE | re.DOTALL)
+
+# A part of a source in a page: its first line names the file, and a line of two dots stands for what is left out.
+SHOWN_SOURCE = re.compile(r"^```rust\n// (\S+)\n(.*?)^```$", re.MULTILINE | re.DOTALL)
+LEFT_OUT = re.compile(r"^ *\.\.\n", re.MULTILINE)
 
 
 def stored_fault(program: Path, stored: Path, words: str) -> str | None:
@@ -53,13 +57,28 @@ def example_fault(program: Path, commands: str, shown: str | None, folder: str) 
     return None
 
 
+def source_fault(source: Path, shown: str) -> str | None:
+    """What is wrong with a part of a source that a page shows: its lines stand in the file, in this order."""
+    text, place = "\n" + source.read_text(encoding="utf-8"), 0
+    for part in LEFT_OUT.split(shown):
+        begins = text.find("\n" + part, place)
+        if begins < 0:
+            return f"{part.splitlines()[0]!r} and the lines behind it don't stand there so"
+        place = begins + len(part)
+    return None
+
+
 def cases(program: Path, folder: str) -> list[tuple[str, Callable[[], str | None]]]:
-    """Each stored answer and each example of a page with its check."""
+    """Each stored answer, each example of a page and each part of a source in one, with its check."""
     found = [(name, lambda it=(program, ROOT / name, words): stored_fault(*it)) for name, words in STORED.items()]
     there = Path(folder, "pages")
     shutil.copytree(EXAMPLES, there / "examples")
     for page in [ROOT / "README.md", *sorted((ROOT / "docs").glob("*.md"))]:
-        for commands, shown in examples_of(page.read_text(encoding="utf-8")):
+        text = page.read_text(encoding="utf-8")
+        for commands, shown in examples_of(text):
             name = f"{page.relative_to(ROOT)}, {commands.splitlines()[0]}"
             found.append((name, lambda it=(program, commands, shown, str(there)): example_fault(*it)))
+        for source, shown in SHOWN_SOURCE.findall(text):
+            name = f"{page.relative_to(ROOT)}, {source}: {shown.splitlines()[0]}"
+            found.append((name, lambda it=(ROOT / source, shown): source_fault(*it)))
     return found

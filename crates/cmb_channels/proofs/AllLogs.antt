@@ -1,16 +1,15 @@
 -- The logs of all nets, and what waits at each pin.
-use Rattle.std.proofs.Common.{◌≡◌, ℕ, zero, suc, ◌+◌, ◌-◌, ◌<◌, ◌≤◌, ◌==◌, Bool, true, false, cond, nat_le, max, List, [], ◌∷◌, ◌++◌, map, length, drop, count_by, replicate, All, Option, None, Some, IfSome, option_map, slice_get, slice_index_or, slice_set, refl, ap, sym, subst, ◌∙◌, arith, append-nil, zero-add, add-zero, inl, inr}
+use Rattle.std.proofs.Common.{◌≡◌, ℕ, zero, suc, ◌+◌, ◌-◌, ◌<◌, ◌≤◌, ◌==◌, Bool, true, false, cond, nat_le, max, List, [], ◌∷◌, ◌++◌, map, length, drop, count_by, replicate, All, Option, None, Some, IfSome, option_map, slice_get, slice_index_or, slice_set, refl, ap, sym, subst, ◌∙◌, arith, append-nil, zero-add, inl, inr}
 use Rattle.std.proofs.lemmas.Bool.{eqb-true, eqb-false, leb-true}
-use Rattle.std.proofs.lemmas.List.{length-set, length-map, length-drop, length-replicate, get_or-set_same, get_or-set_other}
-use Rattle.std.proofs.lemmas.List.FromFn.{length-map-range_with_len, get_or-map-range_with_len, fill_by_all}
-use Rattle.std.proofs.lemmas.List.Sums.{count_by-le-length, sum_by_push}
+use Rattle.std.proofs.lemmas.List.{length-set, length-map, length-drop, length-replicate}
+use Rattle.std.proofs.lemmas.List.FromFn.{length-map-range_with_len, get_or-map-range_with_len, map-range_with_len_more}
 use Rattle.std.proofs.lemmas.List.Elements.{All-nil, All-cons, All-head, All-tail}
 use Rattle.std.proofs.lemmas.Option.{slice_get_read, slice_get_within, get_or_from_slice_get}
 use Rattle.std.specs.List.{range_with_len}
 use Rattle.std.specs.Option.{option_map_or}
 use Rattle.cmb_channels.specs.declared.message.Message.{Message}
 use Rattle.cmb_channels.specs.declared.logs.log.Entry.{Entry}
-use Rattle.cmb_channels.specs.Channels.{pins_fed}
+use Rattle.design.specs.Pins.{pins_fed}
 use Rattle.cmb_channels.specs.Lists.{sent, taken, most_waiting}
 use Rattle.cmb_channels.specs.Logs.{two_to_64, next_count, past, LogView, empty_log, logs_read_by, written, read_at, unread, IsLog, unread_of, unread_lists, counts_of, AreLogs}
 use Rattle.cmb_channels.proofs.Counts.{IsReplaced, replaced-held, replaced-here, replaced-later, count_cons}
@@ -404,52 +403,11 @@ logs_first nets sources below = record {
       (log_empty counts (counts_none net sources));
 }
 
-read_by_nobody : (from nets : ℕ) → map (λ net. empty_log (count_by (λ source. source == net) [])) (range_with_len from nets) ≡ replicate nets (empty_log 0)
-read_by_nobody from zero = refl
-read_by_nobody from (suc nets) = ap (λ rest. empty_log 0 ∷ rest) (read_by_nobody (from + 1) nets)
-
-pub read_by_none : (nets : ℕ) → logs_read_by nets [] ≡ replicate nets (empty_log 0)
-read_by_none nets = read_by_nobody 0 nets
-
--- a log has no more readers than there are pins
-pub readers_few : (nets : ℕ) (sources : List ℕ) (net : ℕ) (log : LogView) → net < nets →
-    log ≡ slice_index_or (logs_read_by nets sources) net log → log.readers ≤ length sources
-readers_few nets sources net log below reads =
-    omega (
-      arith,
-      ap (λ (l : LogView). l.readers) (reads ∙ read_by_at nets sources net log below),
-      count_by-le-length (λ source. source == net) sources,
-    )
-
-count_push : (P : ℕ → Bool) (xs : List ℕ) (x : ℕ) → count_by P (xs ++ x ∷ []) ≡ count_by P xs + cond (P x) 1 0
-count_push P xs x = sum_by_push (λ y. cond (P y) 1 0) xs x
-
--- a pin more, of this source
-pub read_by_one_more : (nets : ℕ) (sources : List ℕ) (source : ℕ) (log : LogView) → source < nets →
-    log ≡ slice_index_or (logs_read_by nets sources) source log →
-    slice_set (logs_read_by nets sources) source (record log { readers = log.readers + 1 }) ≡ logs_read_by nets (sources ++ source ∷ [])
-read_by_one_more nets sources source log below reads =
-    fill_by_all (λ net. empty_log (count_by (λ s. s == net) (sources ++ source ∷ []))) _ nets (empty_log 0)
-    (length-set _ _ _ ∙ length-read_by nets sources) at
-  where
-    new : List LogView
-    new = slice_set (logs_read_by nets sources) source (record log { readers = log.readers + 1 })
-
-    own : record log { readers = log.readers + 1 } ≡ empty_log (count_by (λ s. s == source) sources + 1)
-    own = ap (λ (l : LogView). record l { readers = l.readers + 1 }) (reads ∙ read_by_at nets sources source log below)
-
-    go : (net : ℕ) → net < nets → (same : Bool) → (source == net) ≡ same →
-        slice_index_or new net (empty_log 0) ≡ empty_log (count_by (λ s. s == net) sources + cond same 1 0)
-    go net h true e =
-        let is : source ≡ net = eqb-true source net e in
-        ap (λ n. slice_index_or new n (empty_log 0)) (sym is)
-        ∙ get_or-set_same (logs_read_by nets sources) source _ (empty_log 0) (omega (arith, below, length-read_by nets sources))
-        ∙ own
-        ∙ ap (λ n. empty_log (count_by (λ s. s == n) sources + 1)) is
-    go net h false e =
-        get_or-set_other (logs_read_by nets sources) source net _ (empty_log 0) (λ is. eqb-false source net e (sym is))
-        ∙ read_by_at nets sources net (empty_log 0) h
-        ∙ ap empty_log (sym (add-zero _))
-
-    at : (net : ℕ) → net < nets → slice_index_or new net (empty_log 0) ≡ empty_log (count_by (λ s. s == net) (sources ++ source ∷ []))
-    at net h = go net h (source == net) refl ∙ ap empty_log (sym (count_push (λ s. s == net) sources source))
+-- the log of one more net, which as many pins read as the net feeds
+pub read_by_more : (net : ℕ) (sources : List ℕ) →
+    logs_read_by (net + 1) sources ≡ logs_read_by net sources ++ empty_log (length (pins_fed net sources)) ∷ []
+read_by_more net sources =
+    let many : length (pins_fed net sources) ≡ count_by (λ source. source == net) sources =
+    sym (length-counts net sources (replicate (length sources) 0) (length-replicate (length sources) 0)) ∙ counts_many net sources in
+    map-range_with_len_more (λ n. empty_log (count_by (λ source. source == n) sources)) 0 net net (zero-add net)
+    ∙ ap (λ readers. logs_read_by net sources ++ empty_log readers ∷ []) (sym many)

@@ -5,7 +5,8 @@ use Rattle.std.proofs.Math.Dec.{eqb-suc-zero}
 use Rattle.std.proofs.lemmas.Bool.{eqb-true, eqb-false}
 use Rattle.std.proofs.lemmas.List.FromFn.{fill_by_all}
 use Rattle.std.proofs.lemmas.Option.{slice_get-get_or}
-use Rattle.cmb_channels.specs.Channels.{pins_fed, all_fed, is_among, source_in, sources_in}
+use Rattle.design.specs.Pins.{pins_fed, all_fed}
+use Rattle.cmb_channels.specs.Channels.{is_among, source_in, sources_in}
 
 same_after : (p pin : ℕ) → (suc p == suc pin) ≡ (p == pin)
 same_after p pin = go (suc p == suc pin) (p == pin) refl refl

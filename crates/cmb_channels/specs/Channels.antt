@@ -1,6 +1,7 @@
 -- Channels from nets to pins.
 use Rattle.std.specs.Prelude.{◌≡◌, ℕ, suc, Bool, true, false, ◌==◌, if◌then◌else◌, List, [], ◌∷◌, length, map, Vec}
 use Rattle.std.specs.List.{range_with_len}
+use Rattle.design.specs.Pins.{all_fed}
 use Rattle.cmb_channels.specs.declared.message.Message.{Message}
 
 -- the messages that wait at each pin, the net that feeds each pin, and how many nets there are
@@ -8,16 +9,6 @@ pub record Channels : Type 0 where
   pub lists : List (List Message)
   pub sources : List ℕ
   pub nets : ℕ
-
--- the pins that a net feeds, given the net that feeds each pin
-abbrev pub pins_fed : ℕ → List ℕ → List ℕ
-pins_fed net [] = []
-pins_fed net (source ∷ sources) =
-    let later = map suc (pins_fed net sources) in if source == net then 0 ∷ later else later
-
--- the pins that each net feeds
-abbrev pub all_fed : ℕ → List ℕ → List (List ℕ)
-all_fed nets sources = map (λ net. pins_fed net sources) (range_with_len 0 nets)
 
 -- a pin is one of these
 abbrev pub is_among : ℕ → List ℕ → Bool

@@ -12,8 +12,12 @@ use std::alloc::{AllocError, Global};
 /// First-in first-out channels from nets to the pins that they feed: a list of waiting messages for
 /// each pin.
 ///
-/// Nets and pins are numbered as in the [`Design`] that the channels were made for. A method that
-/// takes the number of a net or a pin asks for one of that design.
+/// Nets and pins are numbered as in the [`Design`] that the channels were made for, which tells who feeds
+/// a pin ([`Design::pin_source`]) and which pins a net feeds ([`Design::pins_fed`]). A method that takes
+/// the number of a net or a pin asks for one of that design.
+///
+/// Channels lose nothing, make up nothing, and keep the order of each pin's messages; how soon a message is
+/// taken plays no part (Chandy and Misra, 1979).
 pub trait Fabric: Drop {
     /// The messages that wait at each pin, the oldest first.
     ghost lists: { Self → List (List Message) };
@@ -24,16 +28,18 @@ pub trait Fabric: Drop {
     /// How many nets there are.
     ghost nets: { Self → ℕ };
 
-    /// Channels of a design, with nothing in them.
+    /// Channels of a design, with nothing in them. The design is asked now, and not kept.
+    ///
+    /// An `AllocError` leaves nothing behind.
     fn empty_for(alloc: Global, design: &Design) -> Result<Self, AllocError>
         ensures lists { IfOk result (λ fabric. lists fabric ≡ replicate (pin_count design.now.circuit) []) }
         ensures sources { IfOk result (λ fabric. sources fabric ≡ sources_of design.now.circuit) }
         ensures nets { IfOk result (λ fabric. nets fabric ≡ length design.now.circuit) };
 
-    /// Puts a message at the end of the list of each pin that the net feeds; one at two pins of a gate
-    /// sends to both. The tick of a message is below 2^30.
+    /// Puts a message at the end of the list of each pin that the net feeds, and of no other; a net at two
+    /// pins of a gate sends to both. The tick of a message is below 2^30; a run has none above 10,000,001.
     ///
-    /// An `AllocError` leaves all lists as they were.
+    /// An `AllocError` leaves all lists as they were: the message went to no pin.
     fn send(&mut self, net: u32, message: Message) -> Result<(), AllocError>
         requires net { net < nets self.old }
         requires fits { Fits message }
@@ -43,7 +49,8 @@ pub trait Fabric: Drop {
         ensures sources { sources self.new ≡ sources self.old }
         ensures nets { nets self.new ≡ nets self.old };
 
-    /// Takes the oldest message that waits at the pin, if one does. Takes no memory.
+    /// Takes the oldest message that waits at the pin, or answers `None` where none does, and then changes
+    /// nothing. What waits at other pins stays, also what the same net sent there. Takes no memory.
     fn take(&mut self, pin: u32) -> Option<Message>
         requires { pin < length (lists self.old) }
         ensures front { slice_index_or (lists self.old) pin [] ≡ option_to_list result ++ slice_index_or (lists self.new) pin [] }

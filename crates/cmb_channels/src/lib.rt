@@ -5,7 +5,17 @@
 //! net to each pin that it feeds, and keeps the order of what is sent: so there is one list of
 //! waiting messages for each pin. [`Fabric`] says what the channels of a design have to do.
 //! [`Logs`] does it by a log for each net, of which each pin has read a part, and [`Queues`] by a
-//! queue for each pin.
+//! queue for each pin. A fabric of your own is a type that meets the contracts of [`Fabric`], and
+//! everything above goes over it as it goes over these.
+//!
+//! Times are in ticks, from tick 0 on. This crate is the lowest of three: `gate_process` has the process of
+//! a net, which hears messages and tells its own, and `cmb_kernel` applies events to the processes of all
+//! nets over these channels.
+//!
+//! Processes that share nothing and know of each other by messages in order are from R. E. Bryant,
+//! "Simulation of packet communication architecture computer systems" (1977), and K. M. Chandy and
+//! J. Misra, "Distributed simulation: a case study in design and verification of distributed programs"
+//! (1979), which has the null messages; J. Misra, "Distributed discrete-event simulation" (1986), is a survey.
 #![tactic(auto)]
 
 mod fabric;

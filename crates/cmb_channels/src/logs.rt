@@ -1,5 +1,5 @@
 ghost use Rattle.std.specs.Prelude.{◌≡◌, ◌<◌, [], ◌∷◌, length, OnOk, OnErr};
-ghost use Rattle.cmb_channels.specs.Channels.{pins_fed};
+ghost use Rattle.design.specs.Pins.{pins_fed};
 ghost use Rattle.cmb_channels.specs.Lists.{sent, most_waiting};
 ghost use Rattle.cmb_channels.specs.Packing.{Fits};
 
@@ -69,7 +69,7 @@ impl Fabric for Logs {
         let pins = design.pins();
         let counts = no_counts(alloc, pins)?;
         let sources = pin_sources(alloc, design)?;
-        let logs = read_logs(alloc, design.nets(), sources.as_slice())?;
+        let logs = read_logs(alloc, design)?;
         Ok(Logs {
             sources,
             counts,

@@ -14,7 +14,7 @@ use std::marker::Model;
 /// Channels as a queue of waiting messages for each pin.
 ///
 /// Sending takes time in proportion to the pins that the net feeds, taking and counting constant
-/// time.
+/// time. A message takes four bytes at each pin where it waits.
 #[derive(Debug, Drop)]
 pub struct Queues {
     // The pins that each net feeds, in order.

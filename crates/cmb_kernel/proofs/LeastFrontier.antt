@@ -50,7 +50,7 @@ deliver_there state pin h = go (at_pin state pin) refl
     go [] e = e ∙ sym (ap (λ ms. drop 1 ms) e)
     go (message ∷ messages) e = taken_at pin state.lists h
 
-deliver_elsewhere : (state : State) (pin other : ℕ) → (other ≡ pin → ⊥) → at_pin (step state (Deliver pin)) other ≡ at_pin state other
+pub deliver_elsewhere : (state : State) (pin other : ℕ) → (other ≡ pin → ⊥) → at_pin (step state (Deliver pin)) other ≡ at_pin state other
 deliver_elsewhere state pin other h = go (at_pin state pin)
   where
     go : (waiting : List Message) → at_pin (after_deliver state pin waiting) other ≡ at_pin state other

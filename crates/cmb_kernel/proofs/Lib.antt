@@ -9,6 +9,7 @@ mod Enough
 mod EventsLead
 mod Fresh
 mod LeastFrontier
+mod Left
 mod LeftAlone
 mod Measure
 mod Mixed
@@ -18,6 +19,7 @@ mod Refused
 mod Rises
 mod RoundExamples
 mod Running
+mod Single
 mod Soundness
 mod SweepLoops
 mod Sweeping

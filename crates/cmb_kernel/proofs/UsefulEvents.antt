@@ -123,13 +123,17 @@ deliver_useless state pin empty =
     subst (λ ms. nat_lt (progress state) (progress (after_deliver state pin ms)) ≡ false) (sym empty)
     (le-ltb (progress state) (progress state) (omega arith))
 
--- nor is an Advance that leaves the frontier
-pub advance_useless : (state : State) (net : ℕ) (process : ProcessState) → slice_get state.processes net ≡ Some process →
-    next_frontier process ≡ process.known.frontier → is_useful state (Advance net) ≡ false
-advance_useless state net process e h =
+-- nor is an Advance that doesn't raise the frontier
+pub advance_not_farther : (state : State) (net : ℕ) (process : ProcessState) → slice_get state.processes net ≡ Some process →
+    next_frontier process ≤ process.known.frontier → is_useful state (Advance net) ≡ false
+advance_not_farther state net process e h =
     let all = sum_by-update progress_of advanced net state.processes process e in
     let one = progress-advanced process in
     le-ltb (progress state) (progress (step state (Advance net))) (omega arith)
+
+pub advance_useless : (state : State) (net : ℕ) (process : ProcessState) → slice_get state.processes net ≡ Some process →
+    next_frontier process ≡ process.known.frontier → is_useful state (Advance net) ≡ false
+advance_useless state net process e h = advance_not_farther state net process e (omega (arith, h))
 
 -- a message waits at some pin, or at none
 some_waits : (lists : List (List Message)) →

@@ -1,5 +1,7 @@
 -- Events that are useful, and how many are.
-use Rattle.std.specs.Prelude.{ℕ, ◌+◌, ◌<◌, ◌≤◌, ◌⊎◌, nat_lt, if◌then◌else◌, Bool, true, false, List, [], ◌∷◌, sum_by}
+use Rattle.std.specs.Prelude.{◌≢◌, ℕ, ◌+◌, ◌-◌, ◌*◌, ◌<◌, ◌≤◌, ◌⊎◌, nat_lt, if◌then◌else◌, Bool, true, false, List, [], ◌∷◌, length, sum_by}
+use Rattle.design.specs.Circuit.{Circuit, pin_count}
+use Rattle.design.specs.Pins.{net_of_pin}
 use Rattle.gate_process.specs.Knowledge.{Knowledge}
 use Rattle.gate_process.specs.Step.{ProcessState}
 use Rattle.cmb_events.specs.declared.event.Event.{Event}
@@ -14,6 +16,10 @@ progress_of process = process.known.frontier + sum_by (λ (known : Knowledge). k
 -- the sum of all frontiers, of the nets and of what the pins received
 abbrev pub progress : State → ℕ
 progress state = sum_by progress_of state.processes
+
+-- what is left of it in a run of a circuit up to an end: no net and no pin comes to know more ticks than those before the end
+abbrev pub remaining : Circuit → ℕ → State → ℕ
+remaining circuit last state = last * (length circuit + pin_count circuit) - progress state
 
 -- the event is useful: it raises a frontier
 abbrev pub is_useful : State → Event → Bool
@@ -32,6 +38,11 @@ SomeRises old new = ((net : ℕ) × (frontier_at old net < frontier_at new net))
 abbrev pub useful_count : State → List Event → ℕ
 useful_count state [] = 0
 useful_count state (event ∷ events) = (if is_useful state event then 1 else 0) + useful_count (step state event) events
+
+-- no pin of a net hears anything by the event
+abbrev pub IsUnheard : Circuit → ℕ → Event → Type 0
+IsUnheard circuit net (Deliver pin) = net_of_pin circuit pin ≢ net
+IsUnheard circuit net (Advance other) = Unit {0}
 
 abbrev pub is_advance : Event → Bool
 is_advance (Deliver pin) = false

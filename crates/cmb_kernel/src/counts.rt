@@ -3,7 +3,7 @@ ghost use Rattle.cmb_kernel.specs.Step.{counted};
 
 use cmb_channels::Message;
 
-/// How much has happened.
+/// How much has happened in a kernel since it was made.
 #[derive(Clone, Copy, Debug, PartialEq, Eq)]
 pub struct Counts {
     /// The events applied, useful or not, those of rounds too. It stays at the greatest number.

@@ -1,6 +1,7 @@
-ghost use Rattle.std.specs.Prelude.{◌≡◌, ◌≢◌, ◌+◌, ◌<◌, ◌≤◌, false, length, slice_index_or, []};
+ghost use Rattle.std.specs.Prelude.{◌≡◌, ◌≢◌, ◌+◌, ◌<◌, ◌≤◌, false, length, replicate, slice_index_or, []};
 ghost use Rattle.design.specs.Circuit.{IsCircuit, pin_count};
 ghost use Rattle.design.specs.Equations.{value_of};
+ghost use Rattle.design.specs.Pins.{sources_of};
 ghost use Rattle.logic3.specs.Wave.{wave_of};
 ghost use Rattle.cmb_kernel.specs.State.{fresh, frontier_at, floor_at, received_at};
 ghost use Rattle.cmb_kernel.specs.Sound.{IsSound};
@@ -8,6 +9,7 @@ ghost use Rattle.cmb_kernel.specs.Sound.{IsSound};
 mod drains;
 mod events;
 mod frontiers;
+mod parts;
 mod rounds;
 mod sweeps;
 mod useful;
@@ -26,8 +28,13 @@ use timing_text::Horizon;
 ///
 /// Whatever events are applied in whatever order, each net knows its waveform as the equations of the
 /// circuit give it, up to the net's frontier, and from its floor on: what is before the floor was taken
-/// out. Where memory was refused in the middle of an event the
-/// kernel has failed, and answers [`KernelFault::Failed`] from then on.
+/// out. A frontier is how many ticks are known, from tick 0 on. Where memory was refused in the middle of
+/// an event the kernel has failed: each call that may change it answers [`KernelFault::Failed`] from then
+/// on, and readers ask for one that hasn't failed, but for [`is_failed`](Self::is_failed) and those that
+/// tell what it is made of.
+///
+/// Nets and pins are numbered as in the design, and a reader that takes such a number asks for one that is
+/// there.
 #[derive(Drop)]
 pub struct Kernel<'d, F: Fabric> {
     design: &'d Design,
@@ -61,10 +68,11 @@ impl<'d, F: Fabric> Model for Kernel<'d, F> {
 }
 
 impl<'d, F: Fabric> Kernel<'d, F> {
-    /// A kernel to which nothing happened yet, that runs up to the horizon.
+    /// A kernel to which nothing happened yet, that runs up to the horizon, over new channels: each frontier
+    /// is 0, no message waits, and all counts are 0.
     ///
     /// # Errors
-    /// [`KernelFault::Memory`].
+    /// [`KernelFault::Memory`]; nothing is left behind.
     pub fn new(
         alloc: Global,
         design: &'d Design,
@@ -72,8 +80,28 @@ impl<'d, F: Fabric> Kernel<'d, F> {
     ) -> Result<Kernel<'d, F>, KernelFault>
         ensures { result ≢ Err KernelFault.Memory → result ≡ Ok (fresh design.now.circuit (horizon + 1)) }
     {
-        let processes = Processes::new(alloc, design, horizon)?;
         let fabric = F::empty_for(alloc, design)?;
+        Kernel::over(alloc, design, horizon, fabric)
+    }
+
+    /// A kernel as [`new`](Self::new) makes one, but over these channels: those of the design, with nothing
+    /// in them. So channels with settings or statistics of their own can be prepared, and read by
+    /// [`fabric`](Self::fabric).
+    ///
+    /// # Errors
+    /// [`KernelFault::Memory`]; the channels are given up.
+    pub fn over(
+        alloc: Global,
+        design: &'d Design,
+        horizon: Horizon,
+        fabric: F,
+    ) -> Result<Kernel<'d, F>, KernelFault>
+        requires lists { F.lists fabric ≡ replicate (pin_count design.now.circuit) [] }
+        requires sources { F.sources fabric ≡ sources_of design.now.circuit }
+        requires nets { F.nets fabric ≡ length design.now.circuit }
+        ensures { result ≢ Err KernelFault.Memory → result ≡ Ok (fresh design.now.circuit (horizon + 1)) }
+    {
+        let processes = Processes::new(alloc, design, horizon)?;
         Ok(Kernel {
             design,
             end: horizon.ticks() + 1,
@@ -90,7 +118,7 @@ impl<'d, F: Fabric> Kernel<'d, F> {
         })
     }
 
-    /// Whether a call was broken off by want of memory.
+    /// Whether a call was broken off by want of memory. Where none was, all that the kernel knows is true.
     pub fn is_failed(&self) -> bool
         ensures failed { result ≡ self.now.failed }
         ensures circuit { self.now.failed ≡ false → IsCircuit self.now.circuit }
@@ -99,7 +127,7 @@ impl<'d, F: Fabric> Kernel<'d, F> {
         self.failed
     }
 
-    /// How much has happened.
+    /// How much has happened since the kernel was made: events, changes, null messages and rounds.
     pub fn counts(&self) -> Counts
         requires { self.now.failed ≡ false }
         ensures { result ≡ self.now.state.counts }
@@ -129,7 +157,8 @@ impl<'d, F: Fabric> Kernel<'d, F> {
         self.processes.of_net(net).waveform()
     }
 
-    /// How many ticks of its source a pin knows: at most the horizon and one more.
+    /// How many ticks of its source a pin knows, in the source's own ticks, whatever the delay of its wire:
+    /// at most the horizon and one more.
     pub fn received(&self, pin: u32) -> u64
         requires running { self.now.failed ≡ false }
         requires pin { pin < pin_count self.now.circuit }
@@ -141,7 +170,7 @@ impl<'d, F: Fabric> Kernel<'d, F> {
         self.processes.of_net(net).received(place)
     }
 
-    /// How many messages wait at a pin.
+    /// How many messages wait at a pin: just where there are some, to deliver one is useful.
     pub fn waiting(&self, pin: u32) -> u64
         requires running { self.now.failed ≡ false }
         requires pin { pin < pin_count self.now.circuit }

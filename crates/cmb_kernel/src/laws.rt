@@ -1,19 +1,22 @@
 //! Facts about the steps of a run alone.
-ghost use Rattle.std.specs.Prelude.{◌≡◌, ℕ, ◌+◌, ◌*◌, ◌<◌, ◌≤◌, ◌↔◌, min, List, ◌++◌, length, All, true};
+ghost use Rattle.std.specs.Prelude.{◌≡◌, ◌≢◌, ℕ, ◌+◌, ◌*◌, ◌<◌, ◌≤◌, ◌↔◌, min, List, [], ◌++◌, length, drop, All, Some, slice_get, slice_index_or, true, false};
 ghost use Rattle.logic3.specs.Wave.{changes_between, wave_of};
 ghost use Rattle.design.specs.Circuit.{Circuit, IsCircuit, pin_count};
 ghost use Rattle.design.specs.Equations.{value_of};
-ghost use Rattle.gate_process.specs.Step.{kept_from};
+ghost use Rattle.design.specs.Pins.{sources_of, net_of_pin};
+ghost use Rattle.gate_process.specs.Step.{kept_from, next_frontier};
 ghost use Rattle.cmb_events.specs.declared.event.Event.{Event};
+ghost use Rattle.cmb_events.specs.declared.event.Event.TheVariants.{Deliver, Advance};
 ghost use Rattle.cmb_kernel.specs.State.{State, started, frontier_at, received_at, floor_at, least_frontier, least_delay, IsComplete};
-ghost use Rattle.cmb_kernel.specs.Step.{step, steps, after_drain, round_of, rounds};
+ghost use Rattle.cmb_kernel.specs.Step.{counted, news_at, step, steps, after_drain, round_of, rounds};
 ghost use Rattle.cmb_kernel.specs.Sweeps.{swept, HoldsAll, EventsLead};
-ghost use Rattle.cmb_kernel.specs.Useful.{NoneFalls, SomeRises, is_useful, progress, useful_count, useful_advances};
+ghost use Rattle.cmb_kernel.specs.Useful.{NoneFalls, SomeRises, is_useful, IsUnheard, progress, remaining, useful_count, useful_advances};
 ghost use Rattle.cmb_events.specs.Schedule.{Exists};
 ghost use Rattle.cmb_kernel.specs.Sound.{EachNet, EachPin, coming_to, CanDrain, IsSound, ForSound, KnowsNet, HearsSource};
 ghost use Rattle.cmb_kernel.specs.Drains.{Action, all_acted, events_among, CanAct, handed_out, apart_from_waves};
 
-/// Whatever happens in whatever order, nets and pins know the truth.
+/// Whatever happens in whatever order, nets and pins know the truth: Chandy and Misra's safety, by the
+/// defining equations of the circuit.
 pub fn truth()
     ensures started { (circuit : Circuit) (last : ℕ) → IsSound circuit last (started circuit last) }
     ensures steps { ForSound (λ circuit last state. (events : List Event) →
@@ -28,7 +31,8 @@ pub fn truth()
         (coming_to circuit state number place))) }
 {}
 
-/// A run that isn't complete can go on, and enough rounds complete it.
+/// A run that isn't complete can go on, and enough rounds complete it: Chandy and Misra's absence of deadlock
+/// by null messages, which asks that each loop of nets takes time. Here each gate and flip-flop takes a tick.
 pub fn no_deadlock()
     ensures useful { ForSound (λ circuit last state.
         ¬ IsComplete state → (event : Event) × Exists circuit event × (is_useful state event ≡ true)) }
@@ -47,6 +51,63 @@ pub fn no_deadlock()
         (steps state events).counts.nulls ≤ state.counts.nulls + useful_advances state events) }
     ensures ahead { ForSound (λ circuit last state. (count number : ℕ) →
         frontier_at (rounds count (started circuit last)) number ≤ frontier_at (rounds count state) number) }
+{}
+
+/// What is left of a run's progress is a measure: each useful event lowers it, and none raises it. So a
+/// driver that applies useful events alone comes to an end.
+pub fn progress_left()
+    ensures useful { ForSound (λ circuit last state. (event : Event) → Exists circuit event →
+        is_useful state event ≡ true → remaining circuit last (step state event) < remaining circuit last state) }
+    ensures any { ForSound (λ circuit last state. (event : Event) → Exists circuit event →
+        remaining circuit last (step state event) ≤ remaining circuit last state) }
+    ensures raises { (state : State) (event : Event) →
+        is_useful state event ≡ true → progress state + 1 ≤ progress (step state event) }
+{}
+
+/// An event that isn't useful is counted, and changes nothing else.
+pub fn useless_events()
+    ensures { ForSound (λ circuit last state. (event : Event) → Exists circuit event →
+        is_useful state event ≡ false → step state event ≡ record state { counts = counted state.counts [] }) }
+{}
+
+/// What a delivery does, and what it leaves as it is.
+pub fn deliveries()
+    // It is useful just where a message waits at the pin.
+    ensures useful { ForSound (λ circuit last state. (pin : ℕ) → pin < pin_count circuit →
+        (is_useful state (Deliver pin) ≡ true) ↔ (0 < length (slice_index_or state.lists pin []))) }
+    // It takes the oldest message out of the list of the pin, and changes no other list.
+    ensures taken { ForSound (λ circuit last state. (pin : ℕ) → pin < pin_count circuit →
+        slice_index_or (step state (Deliver pin)).lists pin [] ≡ drop 1 (slice_index_or state.lists pin [])) }
+    ensures lists { (state : State) (pin other : ℕ) → other ≢ pin →
+        slice_index_or (step state (Deliver pin)).lists other [] ≡ slice_index_or state.lists other [] }
+    // It changes no process but that of the pin's net.
+    ensures processes { ForSound (λ circuit last state. (pin net : ℕ) → net ≢ net_of_pin circuit pin →
+        slice_get (step state (Deliver pin)).processes net ≡ slice_get state.processes net) }
+    // So to advance another net is as useful as before.
+    ensures others { ForSound (λ circuit last state. (pin net : ℕ) → net < length circuit → net ≢ net_of_pin circuit pin →
+        is_useful (step state (Deliver pin)) (Advance net) ≡ is_useful state (Advance net)) }
+{}
+
+/// What an advance does, and what it leaves as it is.
+pub fn advances()
+    // It is useful just where the next frontier of the net's process is past its frontier.
+    ensures useful { ForSound (λ circuit last state. EachNet state (λ net process.
+        (is_useful state (Advance net) ≡ true) ↔ (process.known.frontier < next_frontier process))) }
+    // It puts what it tells at the end of the list of each pin that the net feeds, and changes no other list.
+    ensures sent { ForSound (λ circuit last state. (net pin : ℕ) → slice_get (sources_of circuit) pin ≡ Some net →
+        slice_index_or (step state (Advance net)).lists pin [] ≡ slice_index_or state.lists pin [] ++ news_at state net) }
+    ensures lists { ForSound (λ circuit last state. (net pin : ℕ) → slice_get (sources_of circuit) pin ≢ Some net →
+        slice_index_or (step state (Advance net)).lists pin [] ≡ slice_index_or state.lists pin []) }
+    // It changes no process but that of the net.
+    ensures processes { (state : State) (net other : ℕ) → other ≢ net →
+        slice_get (step state (Advance net)).processes other ≡ slice_get state.processes other }
+    // So to advance another net is as useful as before.
+    ensures others { ForSound (λ circuit last state. (net other : ℕ) → other < length circuit → other ≢ net →
+        is_useful (step state (Advance net)) (Advance other) ≡ is_useful state (Advance other)) }
+    // The net has nothing more to tell until one of its pins hears something.
+    ensures quiet { ForSound (λ circuit last state. (net : ℕ) → net < length circuit →
+        (events : List Event) → All (Exists circuit) events → All (IsUnheard circuit net) events →
+        is_useful (steps (step state (Advance net)) events) (Advance net) ≡ false) }
 {}
 
 /// A sweep is events and nothing else, so that what holds of any events holds of sweeps; and a run that

@@ -20,7 +20,8 @@ use Rattle.design.specs.declared.fault.BuildFault.TheVariants as build
 use Rattle.design.specs.Circuit.{Net, Circuit, IsTimed}
 use Rattle.timing_text.specs.Ranges.{most_delay, most_ticks}
 use Rattle.design.specs.Design.{DesignView, IsDesign, untimed}
-use Rattle.design.specs.Joined.{timed_nets, design_view, first_pins_of, IsJoined}
+use Rattle.design.specs.Joined.{timed_nets, design_view, first_pins_of, joined_pins, IsJoined}
+use Rattle.design.specs.Pins.{all_fed}
 use Rattle.timing_text.specs.Options.{is_in_limits, option_fault, options_of}
 use Rattle.timing_text.specs.declared.timing.Timing.{Timing}
 use Rattle.timing_text.specs.TimingLines.{NetProperty}
@@ -132,9 +133,13 @@ module _ {netlist : NetlistView} {delay_text stimulus_text : List ℕ} {default 
       (λ k d below. record { timing = timed (get_or netlist.nets k d); wires = wired (get_or netlist.nets k d); stimuli = stimulated k d below })
 
   -- and its parts fit together
-  pub IsJoined-given : (first_pins : List ℕ) → IsNetlist netlist → first_pins ≡ first_pins_of netlist → IsJoined netlist first_pins timings stimuli
-  IsJoined-given first_pins ok starts = record {
+  pub IsJoined-given : (first_pins sources : List ℕ) (fed : List (List ℕ)) → IsNetlist netlist → first_pins ≡ first_pins_of netlist →
+      sources ≡ joined_pins netlist.nets → fed ≡ all_fed (length netlist.nets) sources →
+      IsJoined netlist first_pins sources fed timings stimuli
+  IsJoined-given first_pins sources fed ok starts feeds fed_are = record {
     starts = starts;
+    feeds = feeds;
+    fan_out = fed_are;
     some_timing = ap length given.timings_are ∙ length-map netlist.nets _;
     some_stimuli = ap length given.stimuli_are ∙ length-map netlist.nets _;
     well_formed = record {

@@ -1,5 +1,7 @@
 -- What crates above may cite of the lemmas of this one.
 pub use Rattle.design.proofs.Built.{IsDesign-design_of}
+pub use Rattle.design.proofs.FedPins.{length-all_fed, length-pins_fed, pins_fed-rising, pins_fed-within, stored_pins, take-source}
+pub use Rattle.design.proofs.Feeding.{sources_below}
 pub use Rattle.design.proofs.Joined.{net_named-circuit}
 pub use Rattle.design.proofs.Numbers.{PinIs, length-sources, net_of_pin_below, pin_below, pin_count-cons, pin_is, same_pin, source_at, wire_of_pin}
 pub use Rattle.design.proofs.AskedTicks.{asked-before, asked-early, asked-from, asked-mono, asker-late, asker-mono, asker-none, unasked}

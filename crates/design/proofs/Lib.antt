@@ -3,11 +3,14 @@ mod Behind
 mod Built
 pub mod CallerLemmas
 mod Cutting
+mod FedPins
+mod Feeding
 mod Joined
 mod Numbers
 mod OnePeriod
 mod Ordered
 mod Parts
+mod Picked
 mod Ranks
 mod SampleTicks
 mod Solution

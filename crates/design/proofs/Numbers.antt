@@ -146,31 +146,6 @@ net_of_pin_below circuit pin h = let there = pin_is circuit pin h in slice_get_w
 pub first_pin_le : (circuit : Circuit) (pin : ℕ) → pin < pin_count circuit → first_pin circuit (net_of_pin circuit pin) ≤ pin
 first_pin_le circuit pin h = let there = pin_is circuit pin h in let n = there.number_is in omega arith
 
--- where a pin stands, and what feeds it, by the first pin and the pins of its net
-pub record StandsAt (circuit : Circuit) (pin first : ℕ) (pins : List ℕ) : Type 0 where
-  pub first_is : first ≤ pin
-  pub within : pin - first < length pins
-  pub source : slice_get (sources_of circuit) pin ≡ Some (get_or pins (pin - first) 0)
-
-pub stands_at : (circuit : Circuit) (pin number first : ℕ) (pins : List ℕ) → pin < pin_count circuit → number ≡ net_of_pin circuit pin →
-    first ≡ first_pin circuit number → option_map (λ (net : Net). net.pins) (slice_get circuit number) ≡ Some pins →
-    StandsAt circuit pin first pins
-stands_at circuit pin number first pins h number_is starts pins_are =
-    let there = pin_is circuit pin h in
-    let own : option_map (λ (net : Net). net.pins) (Some there.net) ≡ Some pins = rw (number_is, there.at) at pins_are in
-    let same : there.net.pins ≡ pins = same_Some _ _ own in
-    let first_there : first ≡ first_pin circuit (net_of_pin circuit pin) = starts ∙ ap (first_pin circuit) number_is in
-    let place : pin - first ≡ place_of_pin circuit pin = (let n = there.number_is in omega arith) in
-    let long = ap length same in
-    let inside : place_of_pin circuit pin < length there.net.pins = there.within in
-    record {
-      first_is = let n = there.number_is in omega arith;
-      within = omega arith;
-      source = ap (slice_get (sources_of circuit)) (sym there.number_is)
-          ∙ source_at circuit (net_of_pin circuit pin) (place_of_pin circuit pin) _ there.net there.at (slice_get-get_or there.net.pins (place_of_pin circuit pin) 0 inside)
-          ∙ (λ i. Some (get_or (same i) (sym place i) 0));
-    }
-
 -- the wire of a pin, by the first pin and the wires of its net
 pub wire_there : (circuit : Circuit) → IsCircuit circuit → (pin number first : ℕ) (wires : List ℕ) → pin < pin_count circuit →
     number ≡ net_of_pin circuit pin → first ≡ first_pin circuit number →

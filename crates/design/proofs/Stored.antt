@@ -1,5 +1,5 @@
 -- What a design's stored parts say of it.
-use Rattle.std.proofs.Common.{◌≡◌, ℕ, ◌+◌, ◌<◌, ◌≤◌, List, [], ◌∷◌, length, map, get_or, option_map, Some, slice_get, refl, ap, sym, ◌∙◌, subst, arith}
+use Rattle.std.proofs.Common.{◌≡◌, ℕ, ◌+◌, ◌<◌, ◌≤◌, List, [], ◌∷◌, ◌++◌, length, map, get_or, option_map, Some, slice_get, refl, ap, sym, ◌∙◌, subst, arith}
 use Rattle.std.specs.List.{sum_by}
 use Rattle.std.proofs.lemmas.List.{length-map}
 use Rattle.std.proofs.lemmas.List.Sums.{sum_by-cons}
@@ -9,8 +9,9 @@ use Rattle.netlist.specs.Netlist.{NetView, NetlistView}
 use Rattle.timing_text.specs.declared.timing.Timing.{Timing}
 use Rattle.design.specs.Circuit.{Net, Circuit, pin_count}
 use Rattle.design.specs.Design.{DesignView, IsDesign, untimed}
-use Rattle.design.specs.Joined.{design_view, starts_from, IsJoined}
-use Rattle.design.specs.Pins.{first_pin}
+use Rattle.design.specs.Joined.{design_view, starts_from, joined_pins, IsJoined}
+use Rattle.design.specs.Pins.{sources_of, all_fed, first_pin}
+use Rattle.design.proofs.FedPins.{length-all_fed}
 use Rattle.design.proofs.Joined.{get_part, first_part, second_part, timings-timed_nets, stimuli-timed_nets}
 use Rattle.design.proofs.Starts.{length-starts_from, get_or-starts_from}
 
@@ -40,10 +41,14 @@ pins_by_net : (design : DesignView) → IsDesign design →
 pins_by_net design ok =
     ap (map (λ (net : NetView). net.pins)) (sym ok.same_nets) ∙ map-map (λ (net : NetView). net.pins) untimed design.circuit
 
+joined_pins-untimed : (circuit : Circuit) → joined_pins (map untimed circuit) ≡ sources_of circuit
+joined_pins-untimed [] = refl
+joined_pins-untimed (net ∷ circuit) = ap (λ pins. net.pins ++ pins) (joined_pins-untimed circuit)
+
 -- ---- of the design that parts make
 
-module _ {netlist : NetlistView} {first_pins : List ℕ} {timings : List (Timing × List ℕ)} {stimuli : List (List Change)} {design : DesignView}
-    (joined : IsJoined netlist first_pins timings stimuli) (view : design_view netlist timings stimuli ≡ design) where
+module _ {netlist : NetlistView} {first_pins sources : List ℕ} {fed : List (List ℕ)} {timings : List (Timing × List ℕ)} {stimuli : List (List Change)}
+    {design : DesignView} (joined : IsJoined netlist first_pins sources fed timings stimuli) (view : design_view netlist timings stimuli ≡ design) where
   pub well_formed : IsDesign design
   well_formed = subst IsDesign view joined.well_formed
 
@@ -59,6 +64,19 @@ module _ {netlist : NetlistView} {first_pins : List ℕ} {timings : List (Timing
 
   pub first_pin_at : (net d : ℕ) → net ≤ length design.circuit → get_or first_pins net d ≡ first_pin design.circuit net
   first_pin_at net d within = ap (λ pins. get_or pins net d) starts_are ∙ get_or-starts_from design.circuit 0 net d within ∙ omega arith
+
+  pub sources_are : sources ≡ sources_of design.circuit
+  sources_are =
+      joined.feeds ∙ ap (λ (d : DesignView). joined_pins d.netlist.nets) view
+      ∙ ap joined_pins (sym well_formed.same_nets) ∙ joined_pins-untimed design.circuit
+
+  pub fed_are : fed ≡ all_fed (length design.circuit) (sources_of design.circuit)
+  fed_are =
+      joined.fan_out ∙ ap (λ (d : DesignView). all_fed (length d.netlist.nets) sources) view
+      ∙ ap (λ nets. all_fed nets sources) (sym (length-circuit design well_formed)) ∙ ap (all_fed (length design.circuit)) sources_are
+
+  pub length-fed : length fed ≡ length design.circuit
+  length-fed = ap length fed_are ∙ length-all_fed (length design.circuit) (sources_of design.circuit)
 
   pub length-stimuli : length stimuli ≡ length design.circuit
   length-stimuli =

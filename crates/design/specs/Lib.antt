@@ -16,4 +16,5 @@ pub mod Flow
 pub mod Walk
 pub mod Segments
 pub mod Build
+pub mod PickedDesign
 pub mod Faults

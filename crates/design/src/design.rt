@@ -1,10 +1,13 @@
-ghost use Rattle.std.specs.Prelude.{◌≡◌, ℕ, ◌+◌, ◌<◌, length, option_map, position, bytes_eq, slice_get, Some};
+ghost use Rattle.std.specs.Prelude.{◌≡◌, ℕ, ◌+◌, ◌<◌, ◌≤◌, All, length, option_map, position, bytes_eq, slice_get, Some};
 ghost use Rattle.std.specs.Option.{ForSome};
-ghost use Rattle.netlist.specs.Netlist.{net_named};
-ghost use Rattle.design.specs.Circuit.{Net, pin_count};
-ghost use Rattle.design.specs.Pins.{sources_of, wires_of, first_pin, net_of_pin};
+ghost use Rattle.netlist.specs.Netlist.{most_nets, most_pins, net_named};
+ghost use Rattle.design.specs.Circuit.{Net, IsCircuit, pin_count};
+ghost use Rattle.design.specs.Pins.{sources_of, pins_fed, wires_of, first_pin, net_of_pin};
+ghost use Rattle.logic3.specs.Rising.{Rises};
 
 mod build;
+mod feeding;
+mod pick;
 
 use logic3::{Change, Value};
 use netlist::{Netlist, Part};
@@ -21,6 +24,10 @@ pub struct Design {
     netlist: Netlist,
     // The first pin of each net, and at the end how many pins there are.
     first_pins: Vec<u32>,
+    // The net that feeds each pin.
+    sources: Vec<u32>,
+    // The pins that each net feeds, in rising order.
+    fed: Vec<Vec<u32>>,
     // The timing of each net, and the delays of the wires to its pins.
     timings: Vec<NetTiming>,
     // The stimuli of each net.
@@ -39,8 +46,8 @@ impl Model for Design {
     ghost view = { λ d.
         design_view d.netlist (map seen_timing d.timings.items) (map (λ v. v.items) d.stimuli.items) };
 
-    ghost invariant = { λ d. IsJoined d.netlist d.first_pins.items (map seen_timing d.timings.items)
-        (map (λ v. v.items) d.stimuli.items) };
+    ghost invariant = { λ d. IsJoined d.netlist d.first_pins.items d.sources.items (map (λ v. v.items) d.fed.items)
+        (map seen_timing d.timings.items) (map (λ v. v.items) d.stimuli.items) };
 }
 
 impl Design {
@@ -49,14 +56,18 @@ impl Design {
     /// How many nets there are: 1 to 100,000.
     pub fn nets(&self) -> u32
         ensures count { result ≡ length self.now.circuit }
+        ensures some { 1 ≤ result }
+        ensures most { result ≤ most_nets }
         ensures well_formed { IsDesign self.now }
+        ensures circuit { IsCircuit self.now.circuit }
     {
         self.netlist.nets()
     }
 
     /// How many pins all nets have: at most 1,000,000.
     pub fn pins(&self) -> u32
-        ensures { result ≡ pin_count self.now.circuit }
+        ensures count { result ≡ pin_count self.now.circuit }
+        ensures most { result ≤ most_pins }
     {
         self.first_pins[self.netlist.nets() as usize]
     }
@@ -121,15 +132,25 @@ impl Design {
         (after - 1) as u32
     }
 
-    /// The number of the net that feeds a pin. Takes logarithmic time.
+    /// The number of the net that feeds a pin.
     pub fn pin_source(&self, pin: u32) -> u32
         requires { pin < pin_count self.now.circuit }
         ensures source { slice_get (sources_of self.now.circuit) pin ≡ Some result }
         ensures within { result < length self.now.circuit }
     {
-        let net = self.pin_net(pin);
-        let place = pin - self.first_pins[net as usize];
-        self.pins_of(net)[place as usize]
+        self.sources[pin as usize]
+    }
+
+    /// The numbers of the pins that a net feeds, in rising order: none where it feeds none, and two where
+    /// it is at two pins of a gate.
+    pub fn pins_fed(&self, net: u32) -> &[u32]
+        requires { net < length self.now.circuit }
+        ensures fed { result.now ≡ pins_fed net (sources_of self.now.circuit) }
+        ensures rising { Rises result.now }
+        ensures within { All (λ pin. pin < pin_count self.now.circuit) result.now }
+        ensures few { length result.now ≤ most_pins }
+    {
+        self.fed[net as usize].as_slice()
     }
 
     /// When a net looks at its pins, and what it shows before.

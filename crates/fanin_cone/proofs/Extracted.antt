@@ -23,7 +23,7 @@ use Rattle.fanin_cone.proofs.NetOf.{net_of-own, net_of-none, net_of-some, own_nu
 use Rattle.fanin_cone.proofs.Agreed.{value_agrees}
 
 -- the place of a number that is kept holds it
-place_in-kept : (keep : List ℕ) (number d : ℕ) → Contains keep number → (place_in keep number < length keep) × (get_or keep (place_in keep number) d ≡ number)
+pub place_in-kept : (keep : List ℕ) (number d : ℕ) → Contains keep number → (place_in keep number < length keep) × (get_or keep (place_in keep number) d ≡ number)
 place_in-kept keep number d at =
     let is : ℕ → Bool = λ kept. kept == number in
     let here : is (get_or keep at.0 number) ≡ true = eq-eqb (get_or keep at.0 number) number at.2 in
@@ -47,10 +47,10 @@ module _ (whole : NetlistView) (keep outputs : List ℕ) where
   net_at-picked : (m d : ℕ) → m < length keep → net_at part m ≡ kept_net (get_or keep m d)
   net_at-picked m d below = get_or-map kept_net keep m d no_net below
 
-  name_at-picked : (m d : ℕ) → m < length keep → name_at part m ≡ name_at whole (get_or keep m d)
+  pub name_at-picked : (m d : ℕ) → m < length keep → name_at part m ≡ name_at whole (get_or keep m d)
   name_at-picked m d below = ap (λ (net : NetView). net.name) (net_at-picked m d below)
 
-  pin_names-picked : (pins : List ℕ) → All (Contains keep) pins → pin_names part (map (place_in keep) pins) ≡ pin_names whole pins
+  pub pin_names-picked : (pins : List ℕ) → All (Contains keep) pins → pin_names part (map (place_in keep) pins) ≡ pin_names whole pins
   pin_names-picked [] all = refl
   pin_names-picked (p ∷ pins) all =
       let place = place_in-kept keep p 0 (All-head (Contains keep) p pins all) in

@@ -1,6 +1,8 @@
 mod Agreed
 mod Agreeing
+mod AllMarked
 pub mod CallerLemmas
+mod ConesAlone
 mod DesignNets
 mod Extracted
 mod Extracting

@@ -1,11 +1,12 @@
--- The nets of some cones as a netlist of their own.
-use Rattle.std.specs.Prelude.{◌≡◌, ℕ, List, filter_map, position, Option, Some}
+-- The nets of some cones as a netlist of their own, and as a design of their own.
+use Rattle.std.specs.Prelude.{◌≡◌, ℕ, List, filter_map, map, position, Option, Some}
 use Rattle.std.specs.Option.{is_none}
-use Rattle.netlist.specs.Netlist.{NetlistView, net_named}
+use Rattle.netlist.specs.Netlist.{NetlistView, name_at, net_named}
 use Rattle.netlist.specs.Repeats.{distinct}
 use Rattle.netlist.specs.Pick.{picked}
 use Rattle.design.specs.Circuit.{Net}
 use Rattle.design.specs.Design.{DesignView, IsDesign}
+use Rattle.design.specs.PickedDesign.{picked_design}
 use Rattle.fanin_cone.specs.Cone.{IsConeOf}
 use Rattle.fanin_cone.specs.Agreement.{net_of, HasSameTiming}
 
@@ -30,3 +31,12 @@ pub record IsDesignOfExtract (whole extract : DesignView) (names : List (List �
   pub second : IsDesign extract
   pub nets : IsExtract whole.netlist names extract.netlist
   pub timing : KeepsTiming whole extract horizon
+
+-- the nets in the cones of these nets with all that they have in the whole, in their old order, and these nets as the outputs,
+-- in this order
+pub record IsDesignOfCones (whole : DesignView) (nets : List ℕ) (part : DesignView) : Type 0 where
+  pub first : IsDesign whole
+  pub second : IsDesign part
+  pub keep : List ℕ
+  pub cone : IsConeOf whole.netlist (map (name_at whole.netlist) nets) keep
+  pub picked_so : part ≡ picked_design whole keep nets

@@ -9,6 +9,7 @@ pub use Rattle.netlist.specs.Names
 pub use Rattle.design.specs.Circuit
 pub use Rattle.design.specs.Design
 pub use Rattle.design.specs.Equations
+pub use Rattle.design.specs.PickedDesign
 pub mod Cone
 pub mod Walk
 pub mod Agreement

@@ -64,7 +64,11 @@ fn flip(marks: &mut [bool])
 }
 
 /// Which nets are in the cone of these nets.
-fn marked_cone(alloc: Global, netlist: &Netlist, starts: &[u32]) -> Result<Vec<bool>, AllocError>
+pub(crate) fn marked_cone(
+    alloc: Global,
+    netlist: &Netlist,
+    starts: &[u32],
+) -> Result<Vec<bool>, AllocError>
     requires { All (λ start. start < length netlist.now.nets) starts.now }
     ensures few { IfOk result (λ marks. length marks.items ≤ 100_000) }
     ensures size { IfOk result (λ marks. length marks.items ≡ length netlist.now.nets) }
@@ -95,7 +99,7 @@ pub(crate) fn mark(nets: &[u32], marks: &mut [bool], list: &mut Vec<u32>) -> Res
 }
 
 /// The numbers of the marked nets, rising.
-fn marked_nets(alloc: Global, marks: &[bool]) -> Result<Vec<u32>, AllocError>
+pub(crate) fn marked_nets(alloc: Global, marks: &[bool]) -> Result<Vec<u32>, AllocError>
     requires { length marks.now ≤ 2 ^ 32 }
     ensures { IfOk result (λ nets. NumbersMarked marks.now nets.items) }
 {

@@ -23,15 +23,18 @@ pub fn extract(alloc: Global, netlist: &Netlist, names: &[&[u8]]) -> Result<Netl
         (result ≡ Err (ConeFault.UnknownNet at)) ↔ (first_unknown netlist.now (seen_names names.now) ≡ Some at) }
     ensures extracted { IfOk result (IsExtract netlist.now (seen_names names.now)) }
 {
-    let numbers = numbers(alloc, netlist, names)?;
+    let numbers = net_numbers(alloc, netlist, names)?;
     let keep = cone_of(alloc, netlist, numbers.as_slice())?;
     let outputs = without_repeats(alloc, numbers.as_slice(), netlist.nets() as usize)?;
     let extract = netlist.pick(alloc, keep.as_slice(), outputs.as_slice())?;
     Ok(extract)
 }
 
-/// The numbers of the nets of these names, unless no net has one of them.
-fn numbers(alloc: Global, netlist: &Netlist, names: &[&[u8]]) -> Result<Vec<u32>, ConeFault>
+/// The numbers of the nets of these names, in their order and with repeats.
+///
+/// # Errors
+/// As [`extract`].
+pub fn net_numbers(alloc: Global, netlist: &Netlist, names: &[&[u8]]) -> Result<Vec<u32>, ConeFault>
     ensures unknown { (at : ℕ) →
         result ≡ Err (ConeFault.UnknownNet at) → first_unknown netlist.now (seen_names names.now) ≡ Some at }
     ensures known { IfOk result

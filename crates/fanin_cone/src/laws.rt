@@ -1,10 +1,11 @@
 //! Facts about cones and agreement alone. A set of names is a test here.
-ghost use Rattle.std.specs.Prelude.{ℕ, ◌↔◌, ◌∷◌, [], Bool, List, All, Contains};
-ghost use Rattle.netlist.specs.Netlist.{NetlistView};
+ghost use Rattle.std.specs.Prelude.{◌≡◌, ℕ, ◌<◌, ◌↔◌, ◌∷◌, [], Bool, List, length, map, All, Contains};
+ghost use Rattle.netlist.specs.Netlist.{NetlistView, name_at};
 ghost use Rattle.design.specs.Design.{DesignView};
+ghost use Rattle.design.specs.Equations.{value_of};
 ghost use Rattle.fanin_cone.specs.Cone.{Passes, IsClosed, InCone};
 ghost use Rattle.fanin_cone.specs.Agreement.{HasNet, AgreesOn, DesignsAgree, ShowTheSame};
-ghost use Rattle.fanin_cone.specs.Extract.{IsDesignOfExtract};
+ghost use Rattle.fanin_cone.specs.Extract.{IsDesignOfCones, IsDesignOfExtract};
 
 /// The cone of some names is the least closed set that holds them, and it is the cones of each of
 /// them, together.
@@ -45,4 +46,19 @@ pub fn extracted_nets_show_the_same()
         IsDesignOfExtract whole extract names horizon → AgreesOn extract whole (HasNet extract) horizon }
     ensures show { (whole extract : DesignView) (names : List (List ℕ)) (horizon : ℕ) →
         IsDesignOfExtract whole extract names horizon → (name : List ℕ) → ShowTheSame extract whole horizon name }
+{}
+
+/// Where the nets in the cones of some nets stand alone, they are an extract with the timing and the
+/// stimuli of the whole. The outputs there are these nets, in order: they have their names, and show
+/// at every tick what these show in the whole.
+pub fn cones_alone_show_the_same()
+    ensures extract { (whole part : DesignView) (nets : List ℕ) (horizon : ℕ) →
+        All (λ net. net < length whole.netlist.nets) nets → IsDesignOfCones whole nets part →
+        IsDesignOfExtract whole part (map (name_at whole.netlist) nets) horizon }
+    ensures names { (whole part : DesignView) (nets : List ℕ) →
+        All (λ net. net < length whole.netlist.nets) nets → IsDesignOfCones whole nets part →
+        map (name_at part.netlist) part.netlist.outputs ≡ map (name_at whole.netlist) nets }
+    ensures values { (whole part : DesignView) (nets : List ℕ) →
+        All (λ net. net < length whole.netlist.nets) nets → IsDesignOfCones whole nets part →
+        map (value_of part.circuit) part.netlist.outputs ≡ map (value_of whole.circuit) nets }
 {}

@@ -1,14 +1,16 @@
 //! Fan-in cones: the nets that a net's value can come from, whether two designs agree on them, and
-//! a netlist of them alone.
+//! a netlist and a design of them alone.
 #![tactic(auto)]
 
 mod agreement;
+mod alone;
 mod cones;
 mod extraction;
 mod fault;
 pub mod laws;
 
 pub use agreement::agree;
+pub use alone::cones_alone;
 pub use cones::{cone, outside};
-pub use extraction::extract;
+pub use extraction::{extract, net_numbers};
 pub use fault::ConeFault;

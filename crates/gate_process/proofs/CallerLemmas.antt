@@ -9,4 +9,5 @@ pub use Rattle.gate_process.proofs.Quiet.{no_news}
 pub use Rattle.gate_process.proofs.Reach.{next-end, next-farther}
 pub use Rattle.gate_process.proofs.Reckoned.{news_true}
 pub use Rattle.gate_process.proofs.SeenPins.{safe_greatest}
+pub use Rattle.gate_process.proofs.Stays.{advanced_stays_true, quiet_true}
 pub use Rattle.gate_process.proofs.Told.{HeardTruth, Tells-append, Tells-le, heard_truth, told_all_truth}

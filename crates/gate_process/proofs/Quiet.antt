@@ -38,7 +38,7 @@ quiet_of process ok stays =
 
 -- as it is once it has advanced
 pub quiet_advanced : (process : ProcessState) → IsProcess process → IsQuiet (advanced process)
-quiet_advanced process ok = quiet_of (advanced process) (advanced_is_process process ok) (advanced_stays process ok)
+quiet_advanced process ok = quiet_of (advanced process) (advanced_is_process process ok) (advanced_stays process ok.timed.timing.clock ok.ahead ok.heard)
 
 -- what is taken out of it plays no part
 pub quiet_drained : (process : ProcessState) (bound : ℕ) → IsProcess (drained bound process) → IsQuiet process → IsQuiet (drained bound process)

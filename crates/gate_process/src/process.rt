@@ -65,7 +65,9 @@ impl<'d> Model for Process<'d> {
 }
 
 impl<'d> Process<'d> {
-    /// The process of a net, which knows nothing yet: all frontiers are 0.
+    /// The process of a net, which knows nothing yet: all frontiers are 0. It reckons up to the horizon.
+    ///
+    /// An `AllocError` leaves nothing behind.
     pub fn new(
         alloc: Global,
         design: &'d Design,
@@ -89,7 +91,8 @@ impl<'d> Process<'d> {
         })
     }
 
-    /// Hears a message at the pin at this place.
+    /// Hears a message at the pin at this place among the pins of the net, from 0 on. The net isn't reckoned
+    /// by that: its frontier and its waveform stay until it advances.
     ///
     /// The message tells of the pin's source, at the source's ticks. It raises what is known of it, but
     /// not past the horizon, and a change goes on with the waveform that the pin was told. A null message
@@ -178,7 +181,8 @@ impl<'d> Process<'d> {
         least_frontier(self.end, self.received.as_slice(), self.net.wires())
     }
 
-    /// The tick from which on the net's waveform is kept: the latest before which changes were taken out.
+    /// The tick from which on the net's waveform is kept: the latest before which changes were taken out, 0
+    /// until then.
     pub fn floor(&self) -> u64
         requires running { self.now.failed ≡ false }
         ensures { result ≡ self.now.state.floor }
@@ -186,7 +190,7 @@ impl<'d> Process<'d> {
         self.floor
     }
 
-    /// How many ticks of the net are known.
+    /// How many ticks of the net are known, from tick 0 on: at most the horizon and one more.
     pub fn frontier(&self) -> u64
         requires running { self.now.failed ≡ false }
         ensures { result ≡ self.now.state.known.frontier }
@@ -222,7 +226,7 @@ impl<'d> Process<'d> {
         &self.wave
     }
 
-    /// Whether an advance ran out of memory.
+    /// Whether an advance ran out of memory. Then what the process knows is of no use any more.
     pub fn is_failed(&self) -> bool
         ensures failed { result ≡ self.now.failed }
         ensures well_formed { self.now.failed ≡ false → IsProcess self.now.state }

@@ -38,7 +38,8 @@ impl<'d> Model for Processes<'d> {
 }
 
 impl<'d> Processes<'d> {
-    /// A process for each net of a design, in order, which knows nothing yet.
+    /// A process for each net of a design, in order, which knows nothing yet. An `AllocError` leaves
+    /// nothing behind.
     pub fn new(
         alloc: Global,
         design: &'d Design,
@@ -80,8 +81,9 @@ impl<'d> Processes<'d> {
         Ok(())
     }
 
-    /// Advances the process of a net, as [`Process::advance`] does. A quiet one isn't touched, and takes no
-    /// memory. After an `AllocError` the process has failed.
+    /// Advances the process of a net, as [`Process::advance`] does. A quiet one isn't touched, has nothing
+    /// to tell, and takes no memory. After an `AllocError` the process has failed, and the others are as they
+    /// were.
     pub fn advance(&mut self, net: u32, messages: &mut Vec<Message>) -> Result<(), AllocError>
         requires net { net < length self.old }
         requires running { ForSome (slice_get self.old net) (λ (process : ProcessView). process.failed ≡ false) }

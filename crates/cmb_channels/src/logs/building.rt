@@ -1,8 +1,7 @@
 //! What empty logs are made of.
-ghost use Rattle.std.specs.Prelude.{◌≡◌, ◌==◌, ◌<◌, ℕ, All, count_by, length, map, replicate, vec_len, IfOk};
-ghost use Rattle.std.specs.List.{range_with_len};
+ghost use Rattle.std.specs.Prelude.{◌≡◌, ◌<◌, All, length, replicate, IfOk};
 ghost use Rattle.design.specs.Pins.{sources_of};
-ghost use Rattle.cmb_channels.specs.Logs.{empty_log, logs_read_by};
+ghost use Rattle.cmb_channels.specs.Logs.{logs_read_by};
 
 use crate::logs::log::Log;
 use design::Design;
@@ -32,26 +31,14 @@ pub(super) fn no_counts(alloc: Global, pins: u32) -> Result<Vec<u64>, AllocError
     Ok(counts)
 }
 
-/// An empty log for each of so many nets, read by the pins of these sources.
-pub(super) fn read_logs(alloc: Global, nets: u32, sources: &[u32]) -> Result<Vec<Log>, AllocError>
-    requires exist { All (λ source. source < nets) sources.now }
-    requires few { length sources.now < 4_294_967_296 }
-    ensures { IfOk result (λ logs. logs.items ≡ logs_read_by nets sources.now) }
+/// An empty log for each net, read by the pins that the net feeds.
+pub(super) fn read_logs(alloc: Global, design: &Design) -> Result<Vec<Log>, AllocError>
+    ensures { IfOk result (λ logs. logs.items ≡ logs_read_by (length design.now.circuit) (sources_of design.now.circuit)) }
 {
-    let mut logs = unread_logs(alloc, nets)?;
-    for source in sources {
-        logs[*source as usize].add_reader();
-    }
-    Ok(logs)
-}
-
-/// An empty log for each of so many nets, which no pin reads.
-fn unread_logs(alloc: Global, nets: u32) -> Result<Vec<Log>, AllocError>
-    ensures { IfOk result (λ logs. logs.items ≡ replicate nets (empty_log 0)) }
-{
+    let nets = design.nets();
     let mut logs = Vec::with_capacity(alloc, nets as usize)?;
-    for _net in 0..nets {
-        logs.push(Log::new(alloc))?;
+    for net in 0..nets {
+        logs.push(Log::new(alloc, design.pins_fed(net).len() as u32))?;
     }
     Ok(logs)
 }

@@ -38,23 +38,15 @@ impl Model for Log {
 }
 
 impl Log {
-    /// A log that no pin reads yet.
-    pub fn new(alloc: Global) -> Log
-        ensures { result ≡ empty_log 0 }
+    /// An empty log that so many pins read.
+    pub fn new(alloc: Global, readers: u32) -> Log
+        ensures { result ≡ empty_log readers }
     {
         Log {
-            readers: 0,
+            readers,
             cut: 0,
             entries: VecDeque::new(alloc),
         }
-    }
-
-    /// One pin more reads it.
-    pub fn add_reader(&mut self)
-        requires { self.old.readers < 4_294_967_295 }
-        ensures { self.new ≡ record self.old { readers = self.old.readers + 1 } }
-    {
-        self.readers += 1;
     }
 
     /// How many messages it holds.

@@ -11,7 +11,8 @@ use cmb_channels::Fabric;
 use logic3::Change;
 
 impl<'d, F: Fabric> Kernel<'d, F> {
-    /// The tick from which on a net's waveform is kept: 0, until changes of the net are taken out.
+    /// The tick from which on a net's waveform is kept: 0, until changes of the net are taken out. It is
+    /// never past the net's frontier.
     pub fn floor(&self, net: u32) -> u64
         requires running { self.now.failed ≡ false }
         requires net { net < length self.now.circuit }

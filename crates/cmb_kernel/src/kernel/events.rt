@@ -20,8 +20,8 @@ use design::Design;
 use std::alloc::AllocError;
 
 impl<'d, F: Fabric> Kernel<'d, F> {
-    /// Applies an event, and answers whether it raised a frontier, of a net or of a pin. One that
-    /// raises none takes no memory.
+    /// Applies an event, and answers whether it was useful: whether it raised a frontier, of a net or of a
+    /// pin. One that raises none is counted, changes nothing else, and takes no memory.
     ///
     /// # Errors
     /// [`KernelFault::Failed`], and [`KernelFault::NoSuchPin`] or [`KernelFault::NoSuchNet`] at
@@ -29,6 +29,11 @@ impl<'d, F: Fabric> Kernel<'d, F> {
     pub fn apply(&mut self, event: Event) -> Result<bool, KernelFault>
         ensures outcome { IsOutcome self.old self.new (event_fault self.old.circuit 0 event)
             (step self.old.state event) (is_useful self.old.state event) result }
+        ensures useful { IfOk result (λ useful. useful ≡ is_useful self.old.state event) }
+        ensures ok { OnOk result (self.new ≡ record self.old { state = step self.old.state event }) }
+        // It answers `Ok` to a running kernel and an event that is there alone.
+        ensures running { OnOk result (self.old.failed ≡ false) }
+        ensures exists { OnOk result (Exists self.old.circuit event) }
         ensures memory { result ≡ Err Memory → is_useful self.old.state event ≡ true }
     {
         self.check_running()?;

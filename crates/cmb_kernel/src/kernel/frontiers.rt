@@ -8,7 +8,8 @@ use crate::kernel::Kernel;
 use cmb_channels::Fabric;
 
 impl<'d, F: Fabric> Kernel<'d, F> {
-    /// The least frontier of all nets.
+    /// The least frontier of all nets: up to there every net is known, and can be drained. It looks at each
+    /// net once.
     pub fn least_frontier(&self) -> u64
         requires { self.now.failed ≡ false }
         ensures { result ≡ least_frontier self.now.end self.now.state }
@@ -16,7 +17,8 @@ impl<'d, F: Fabric> Kernel<'d, F> {
         self.frontier(self.slowest())
     }
 
-    /// Whether each net is known up to the horizon. Messages may still wait then.
+    /// Whether each net is known up to the horizon. Then each waveform is whole, from the net's
+    /// [`floor`](Self::floor) on; messages may still wait. It looks at each net once.
     pub fn is_complete(&self) -> bool
         requires { self.now.failed ≡ false }
         ensures complete { result ≡ is_complete self.now.state }

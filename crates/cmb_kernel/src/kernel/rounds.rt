@@ -17,7 +17,8 @@ use std::alloc::AllocError;
 
 impl<'d, F: Fabric> Kernel<'d, F> {
     /// Lets each pin in order of number take all messages that wait there, and then advances each net
-    /// in order of number.
+    /// in order of number. It brings every net at least the least delay farther than the slowest was, or to
+    /// the end.
     ///
     /// # Errors
     /// [`KernelFault::Failed`]; nothing changed. [`KernelFault::Memory`]; the kernel has failed from

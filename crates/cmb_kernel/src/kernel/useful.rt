@@ -1,6 +1,8 @@
 ghost use Rattle.std.specs.Prelude.{◌≡◌, ℕ, ◌<◌, ◌↔◌, true, false, length, slice_index_or, [], IsNone, IfSome, IfNone};
 ghost use Rattle.design.specs.Circuit.{pin_count};
-ghost use Rattle.cmb_kernel.specs.State.{IsComplete};
+ghost use Rattle.design.specs.Equations.{waves_of};
+ghost use Rattle.cmb_kernel.specs.State.{frontier_at, IsComplete, IsUndrained, waves_in};
+ghost use Rattle.cmb_kernel.specs.Sound.{waves_kept};
 ghost use Rattle.cmb_kernel.specs.Useful.{is_useful};
 ghost use Rattle.cmb_events.specs.Schedule.{Exists};
 
@@ -9,14 +11,22 @@ use cmb_channels::Fabric;
 use cmb_events::Event;
 
 impl<'d, F: Fabric> Kernel<'d, F> {
-    /// Some event that raises a frontier, or `None` where each net is known up to the horizon.
+    /// Some event that raises a frontier, or `None` where each net is known up to the horizon. Then each
+    /// waveform is whole, from the net's [`floor`](Self::floor) on; messages may still wait.
     ///
-    /// It looks at each net and each pin once, at most.
+    /// It looks at each net and each pin once, at most. That there is such an event is the absence of
+    /// deadlock (Chandy and Misra, 1979).
     pub fn useful(&self) -> Option<Event>
         requires { self.now.failed ≡ false }
         ensures none { IsNone result ↔ IsComplete self.now.state }
         ensures some { IfSome result (λ event.
             Exists self.now.circuit event × (is_useful self.now.state event ≡ true)) }
+        ensures frontiers { IfNone result ((net : ℕ) → net < length self.now.circuit →
+            frontier_at self.now.state net ≡ self.now.end) }
+        ensures waves { IfNone result (waves_in self.now.state ≡
+            waves_kept self.now.circuit self.now.end self.now.state) }
+        ensures undrained { IsUndrained self.now.state →
+            IfNone result (waves_in self.now.state ≡ waves_of self.now.circuit self.now.end) }
     {
         let net = self.slowest();
         if self.frontier(net) == self.end {

@@ -6,6 +6,7 @@ ghost use Rattle.timing_text.specs.Options.{options_of};
 ghost use Rattle.design.specs.Joined.{first_pins_of};
 
 use crate::design::Design;
+use crate::design::feeding::{fed_pins, pin_sources};
 use crate::fault::BuildFault;
 use netlist::Netlist;
 use std::alloc::{AllocError, Global};
@@ -40,9 +41,13 @@ impl Design {
         let timings = read_timings(alloc, &netlist, delays, default_delay, period)?;
         let stimuli = read_stimuli(alloc, &netlist, stimuli)?;
         let first_pins = first_pins(alloc, &netlist)?;
+        let sources = pin_sources(alloc, &netlist)?;
+        let fed = fed_pins(alloc, netlist.nets(), sources.as_slice())?;
         Ok(Design {
             netlist,
             first_pins,
+            sources,
+            fed,
             timings,
             stimuli,
         })
@@ -50,7 +55,7 @@ impl Design {
 }
 
 /// The first pin of each net, and at the end how many pins there are.
-fn first_pins(alloc: Global, netlist: &Netlist) -> Result<Vec<u32>, AllocError>
+pub(super) fn first_pins(alloc: Global, netlist: &Netlist) -> Result<Vec<u32>, AllocError>
     ensures starts { IfOk result (λ starts. starts.items ≡ first_pins_of netlist.now) }
     ensures well_formed { IsNetlist netlist.now }
 {

@@ -1,6 +1,7 @@
 use Rattle.std.proofs.Common.{◌≡◌, ◌<◌, [], ◌∷◌, length, Some, slice_get, slice_set, ap, sym, subst, refl, ◌∙◌, arith}
 use Rattle.std.proofs.lemmas.Option.{slice_get_read}
-use Rattle.cmb_channels.specs.Channels.{Channels, pins_fed}
+use Rattle.design.specs.Pins.{pins_fed}
+use Rattle.cmb_channels.specs.Channels.{Channels}
 use Rattle.cmb_channels.specs.Lists.{sent}
 use Rattle.cmb_channels.specs.Logs.{AreLogs, unread_lists}
 use Rattle.cmb_channels.proofs.AllLogs.{length-counts, logs_written, lists_written}

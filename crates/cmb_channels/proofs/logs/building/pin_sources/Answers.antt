@@ -2,8 +2,7 @@ use Rattle.std.proofs.Common.{◌++◌, ◌<◌, All, [], ◌∷◌, length, ap,
 use Rattle.std.proofs.lemmas.List.{take_all}
 use Rattle.std.proofs.lemmas.List.Elements.{All-push}
 use Rattle.design.specs.Pins.{sources_of}
-use Rattle.design.proofs.CallerLemmas.{length-sources}
-use Rattle.cmb_channels.proofs.FedPins.{take-source}
+use Rattle.design.proofs.CallerLemmas.{length-sources, take-source}
 use Rattle.cmb_channels.proofs.logs.building.pin_sources.Goals as goal
 
 pub loop-pin-preserved : goal.loop-pin-preserved
@@ -21,4 +20,4 @@ pub returns-clause-sources : goal.returns-clause-sources
 returns-clause-sources c =
     c.loop-pin.invariant.sources
     ∙ take_all c.loop-pin.pin (sources_of c.args.design.now.circuit)
-    (omega (arith, c.pins-pins.ensures, length-sources c.args.design.now.circuit))
+    (omega (arith, c.pins-pins.ensures.count, length-sources c.args.design.now.circuit))

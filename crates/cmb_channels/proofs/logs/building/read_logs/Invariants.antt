@@ -1,6 +1,7 @@
-use Rattle.std.proofs.Common.{◌≡◌, take}
+use Rattle.std.proofs.Common.{◌≡◌}
+use Rattle.design.specs.Pins.{sources_of}
 use Rattle.cmb_channels.specs.Logs.{logs_read_by}
 use Rattle.cmb_channels.proofs.logs.building.read_logs.Given as goal
 
-abbrev pub invariant-loop-source : goal.invariant-loop-source
-invariant-loop-source l = l.logs.items ≡ logs_read_by l.nets (take l.source-index l.sources)
+abbrev pub invariant-loop-net : goal.invariant-loop-net
+invariant-loop-net l = l.logs.items ≡ logs_read_by l.net (sources_of l.design.circuit)

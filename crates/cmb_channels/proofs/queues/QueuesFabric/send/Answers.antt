@@ -2,9 +2,11 @@ use Rattle.std.proofs.Common.{◌≡◌, ℕ, List, [], ◌∷◌, length, slice
 use Rattle.std.proofs.lemmas.List.{length-map}
 use Rattle.std.proofs.lemmas.List.FromFn.{length-map-range_with_len}
 use Rattle.cmb_channels.specs.Lists.{sent}
-use Rattle.cmb_channels.specs.Channels.{Channels, pins_fed, all_fed, pins_in, source_in, sources_in}
+use Rattle.design.specs.Pins.{pins_fed, all_fed}
+use Rattle.design.proofs.CallerLemmas.{pins_fed-rising, pins_fed-within, stored_pins}
+use Rattle.cmb_channels.specs.Channels.{Channels, pins_in, source_in, sources_in}
 use Rattle.cmb_channels.specs.Waiting.{appended, lists_in}
-use Rattle.cmb_channels.proofs.FedPins.{stored_pins, pins_fed-within, pins_fed-rising, appended-fed}
+use Rattle.cmb_channels.proofs.FedPins.{appended-fed}
 use Rattle.cmb_channels.proofs.WaitingLemmas.{length-appended}
 use Rattle.cmb_channels.proofs.queues.QueuesFabric.send.Goals as goal
 use Rattle.cmb_channels.proofs.queues.QueuesFabric.send.Goals.{After-as_slice-pins, After-push_at_all}

@@ -1,41 +1,20 @@
-use Rattle.std.proofs.Common.{◌<◌, All, [], length, replicate, ap, sym, subst, ◌∙◌, arith}
-use Rattle.std.proofs.lemmas.List.{take_all}
-use Rattle.std.proofs.lemmas.List.Elements.{All-nil, All-push}
-use Rattle.design.specs.Pins.{sources_of}
-use Rattle.design.proofs.CallerLemmas.{length-sources}
-use Rattle.cmb_channels.specs.Channels.{all_fed}
-use Rattle.cmb_channels.proofs.FedPins.{all_fed-first, stored_more, take-source}
+use Rattle.std.proofs.Common.{◌≡◌, rules, arith, ◌++◌, ◌∷◌, [], length, ap, sym, ◌∙◌, zero-add}
+use Rattle.std.proofs.lemmas.List.{map-append}
+use Rattle.std.proofs.lemmas.List.FromFn.{map-range_with_len_more}
+use Rattle.design.specs.Pins.{sources_of, pins_fed, all_fed}
+use Rattle.cmb_channels.specs.Channels.{pins_in}
 use Rattle.cmb_channels.proofs.queues.building.fed_pins.Goals as goal
 
-pub loop-pin-init : goal.loop-pin-init
-loop-pin-init c = record {
-  fed = c.in_ok-fed.ensures ∙ ap (λ nets. replicate nets []) c.nets.ensures.count ∙ sym (all_fed-first _);
-  within = All-nil (λ source. source < length c.args.design.now.circuit);
-}
-
-pub loop-pin-preserved : goal.loop-pin-preserved
-loop-pin-preserved c =
+pub loop-net-preserved : goal.loop-net-preserved
+loop-net-preserved c =
     let sources = sources_of c.args.design.now.circuit in
-    record {
-      fed =
-          stored_more c.loop-pin.fed.items _ c.loop-pin.pin _ sources _ _ c.loop-pin.invariant.fed
-          c.pin_source.ensures.source c.pin_source.ensures.within c.index_mut.ensures.value c.in_ok-push.ensures.items;
-      within =
-          subst (All (λ source. source < length c.args.design.now.circuit))
-          (sym (take-source sources c.loop-pin.pin _ c.pin_source.ensures.source))
-          (All-push (λ source. source < length c.args.design.now.circuit) _ _ c.loop-pin.invariant.within c.pin_source.ensures.within);
-    }
+    let copied = c.in_ok-to_vec.ensures.items_if_clones_equal (λ x y same. search rules) ∙ c.pins_fed.ensures.fed in
+    ap pins_in c.in_ok-push.ensures.items
+    ∙ map-append (λ pins. pins.items) c.loop-net.fed.items _
+    ∙ (λ i. c.loop-net.invariant i ++ copied i ∷ [])
+    ∙ sym (map-range_with_len_more (λ net. pins_fed net sources) 0 c.loop-net.net c.loop-net.net (zero-add c.loop-net.net))
 
 pub returns-clause-fed : goal.returns-clause-fed
 returns-clause-fed c =
-    c.loop-pin.invariant.fed
-    ∙ ap (all_fed (length c.args.design.now.circuit))
-    (take_all c.loop-pin.pin (sources_of c.args.design.now.circuit)
-    (omega (arith, c.pins-pin-end.ensures, length-sources c.args.design.now.circuit)))
-
-pub returns-clause-within : goal.returns-clause-within
-returns-clause-within c =
-    subst (All (λ source. source < length c.args.design.now.circuit))
-    (take_all c.loop-pin.pin (sources_of c.args.design.now.circuit)
-    (omega (arith, c.pins-pin-end.ensures, length-sources c.args.design.now.circuit)))
-    c.loop-pin.invariant.within
+    let all : c.loop-net.net ≡ length c.args.design.now.circuit = omega (arith, c.nets-nets.ensures.count) in
+    c.loop-net.invariant ∙ ap (λ nets. all_fed nets (sources_of c.args.design.now.circuit)) all

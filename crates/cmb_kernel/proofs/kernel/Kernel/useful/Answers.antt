@@ -4,8 +4,8 @@ use Rattle.gate_process.specs.Step.{ProcessState}
 use Rattle.gate_process.proofs.CallerLemmas.{least-bound}
 use Rattle.cmb_kernel.specs.State.{KernelView, least_frontier, IsComplete}
 use Rattle.cmb_kernel.specs.Sound.{IsSound}
-use Rattle.cmb_kernel.proofs.Running.{circuit_ok}
-use Rattle.cmb_kernel.proofs.Completion.{complete_from_least, least_when_complete}
+use Rattle.cmb_kernel.proofs.Running.{circuit_ok, waves_are, waves_whole}
+use Rattle.cmb_kernel.proofs.Completion.{complete_from_least, frontier_when_complete, least_when_complete}
 use Rattle.cmb_kernel.proofs.UsefulEvents.{waiting_useful, slowest_useful}
 use Rattle.cmb_kernel.proofs.kernel.Kernel.useful.Given.{Over}
 use Rattle.cmb_kernel.proofs.kernel.Kernel.useful.Goals as goal
@@ -21,6 +21,27 @@ returns-then-frontier-self-clause-none g c =
           (subst (λ (kernel : KernelView). IsSound kernel.circuit kernel.end kernel.state) c.self.view_is all.sound) (omega (arith, end, least))),
       (λ _. refl),
     )
+
+pub returns-then-frontier-self-clause-frontiers : goal.returns-then-frontier-self-clause-frontiers
+returns-then-frontier-self-clause-frontiers g c =
+    let all = c.self.invariant (rw (← c.self.view_is) at c.requires) in
+    let end = ap (λ (r : KernelView). r.end) c.self.view_is in
+    let least = c.slowest-net.ensures.least in
+    let sound = subst (λ (kernel : KernelView). IsSound kernel.circuit kernel.end kernel.state) c.self.view_is all.sound in
+    frontier_when_complete c.args.self.now.circuit c.args.self.now.end c.args.self.now.state sound
+    (complete_from_least c.args.self.now.circuit c.args.self.now.end c.args.self.now.state sound (omega (arith, end, least)))
+
+pub returns-then-frontier-self-clause-waves : goal.returns-then-frontier-self-clause-waves
+returns-then-frontier-self-clause-waves g c =
+    let all = c.self.invariant (rw (← c.self.view_is) at c.requires) in
+    let least = rw (← c.self.view_is) at c.slowest-net.ensures.least in
+    let reached = rw (← c.self.view_is) at c.frontier.ensures.frontier in
+    rw (← c.self.view_is)
+    (waves_are all (complete_from_least c.self.inside.design.now.circuit c.self.inside.end _ all.sound (omega (arith, least, reached))))
+
+pub returns-then-frontier-self-clause-undrained : goal.returns-then-frontier-self-clause-undrained
+returns-then-frontier-self-clause-undrained g c = λ undrained.
+    returns-then-frontier-self-clause-waves g c ∙ waves_whole c.args.self.now.circuit c.args.self.now.end c.args.self.now.state undrained
 
 ok : (g : Over) (c : After-waiting_pin g) → IsCircuit c.args.self.now.circuit
 ok g c =

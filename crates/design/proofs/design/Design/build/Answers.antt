@@ -1,6 +1,8 @@
-use Rattle.std.proofs.Common.{sym, ap, Err, map}
+use Rattle.std.proofs.Common.{sym, ap, ◌∙◌, Err, length, map, arith}
 use Rattle.std.proofs.lemmas.Result.{err_from_is_err_and}
 use Rattle.timing_text.specs.Timings.{seen_timing}
+use Rattle.design.specs.Pins.{all_fed}
+use Rattle.design.proofs.Feeding.{pins_exist, pins_few}
 use Rattle.design.proofs.Built.{IsGiven, is_given, design_of-given, IsJoined-given, design_of-timing_fault, design_of-stimulus_fault}
 use Rattle.design.proofs.design.Design.build.Goals as goal
 use Rattle.design.proofs.design.Design.build.Goals.{In_ok-stimuli}
@@ -26,8 +28,18 @@ returns-in_err-stimuli-clause-design c =
 
 pub invariant_of-result : goal.invariant_of-result
 invariant_of-result c =
-    IsJoined-given (given (goal.at.invariant_of-result c).In_ok-stimuli) c.in_ok-first_pins.first_pins.items
-    c.in_ok-first_pins.ensures.well_formed c.in_ok-first_pins.ensures.starts
+    IsJoined-given (given (goal.at.invariant_of-result c).In_ok-stimuli) c.in_ok-first_pins.first_pins.items c.in_ok-sources.sources.items
+    (map (λ v. v.items) c.in_ok-fed.fed.items) c.in_ok-first_pins.ensures.well_formed c.in_ok-first_pins.ensures.starts c.in_ok-sources.ensures
+    (c.in_ok-fed.ensures ∙ ap (all_fed c.nets.result) c.as_slice.ensures.value ∙ ap (λ nets. all_fed nets c.in_ok-sources.sources.items) c.nets.ensures.nets)
+
+pub fed_pins-requires-clause-exist : goal.fed_pins-requires-clause-exist
+fed_pins-requires-clause-exist c =
+    let sources = c.as_slice.ensures.value ∙ c.in_ok-sources.ensures in
+    rw (sources, c.nets.ensures.nets) (pins_exist c.args.netlist c.nets.ensures.well_formed)
+
+pub fed_pins-requires-clause-few : goal.fed_pins-requires-clause-few
+fed_pins-requires-clause-few c =
+    omega (arith, ap length (c.as_slice.ensures.value ∙ c.in_ok-sources.ensures), pins_few c.args.netlist c.nets.ensures.well_formed)
 
 pub returns-clause-design : goal.returns-clause-design
 returns-clause-design c = λ _. sym (design_of-given (given (goal.at.returns-clause-design c).In_ok-stimuli))

@@ -1,0 +1,4 @@
+use Rattle.cmb_kernel.proofs.kernel.Kernel.end.Goals as goal
+
+pub returns-clause-most : goal.returns-clause-most
+returns-clause-most g c = rw (← c.self.view_is) (λ running. (c.self.invariant running).within)

@@ -1,0 +1,47 @@
+//! The pins that nets feed.
+ghost use Rattle.std.specs.Prelude.{◌≡◌, ◌<◌, ◌≤◌, [], All, length, map, replicate, IfOk};
+ghost use Rattle.netlist.specs.Netlist.{most_pins};
+ghost use Rattle.design.specs.Joined.{joined_pins};
+ghost use Rattle.design.specs.Pins.{all_fed};
+
+use netlist::Netlist;
+use std::alloc::{AllocError, Global};
+
+/// The net that feeds each pin.
+pub(super) fn pin_sources(alloc: Global, netlist: &Netlist) -> Result<Vec<u32>, AllocError>
+    ensures { IfOk result (λ sources. sources.items ≡ joined_pins netlist.now.nets) }
+{
+    let mut sources = Vec::new(alloc);
+    for net in 0..netlist.nets() {
+        sources.extend_from_slice(netlist.pins_of(net))?;
+    }
+    Ok(sources)
+}
+
+/// The pins that each of so many nets feeds, in rising order, given the net that feeds each pin.
+pub(super) fn fed_pins(
+    alloc: Global,
+    nets: u32,
+    sources: &[u32],
+) -> Result<Vec<Vec<u32>>, AllocError>
+    requires exist { All (λ source. source < nets) sources.now }
+    requires few { length sources.now ≤ most_pins }
+    ensures { IfOk result (λ fed. map (λ v. v.items) fed.items ≡ all_fed nets sources.now) }
+{
+    let mut fed = no_pins(alloc, nets)?;
+    for (pin, source) in sources.iter().enumerate() {
+        fed[*source as usize].push(pin as u32)?;
+    }
+    Ok(fed)
+}
+
+/// No pins for each of so many nets.
+fn no_pins(alloc: Global, nets: u32) -> Result<Vec<Vec<u32>>, AllocError>
+    ensures { IfOk result (λ fed. map (λ v. v.items) fed.items ≡ replicate nets []) }
+{
+    let mut fed = Vec::with_capacity(alloc, nets as usize)?;
+    for _net in 0..nets {
+        fed.push(Vec::new(alloc))?;
+    }
+    Ok(fed)
+}

@@ -1,0 +1,74 @@
+ghost use Rattle.std.specs.Prelude.{◌≡◌, ◌≢◌, ℕ, ◌<◌, length, map, All, AllPairs, Contains, IfOk};
+ghost use Rattle.logic3.specs.Rising.{Rises};
+ghost use Rattle.netlist.specs.Netlist.{net_at};
+ghost use Rattle.timing_text.specs.Timings.{seen_timing};
+ghost use Rattle.design.specs.PickedDesign.{picked_design, stimuli_in, timing_in};
+
+use crate::design::Design;
+use crate::design::build::first_pins;
+use crate::design::feeding::{fed_pins, pin_sources};
+use logic3::Change;
+use smallvec::SmallVec;
+use std::alloc::{AllocError, Global};
+use timing_text::NetTiming;
+
+impl Design {
+    /// The nets of these numbers in this order, with these outputs, as a design of their own. Each
+    /// keeps its timing, its wires and its stimuli too; of the rest, and of what is asked for,
+    /// [`Netlist::pick`](netlist::Netlist::pick) tells.
+    ///
+    /// Takes time in proportion to the nets that are kept and to their stimuli, and for each of their
+    /// pins and for each output logarithmic time. It is an `AllocError` where memory is refused.
+    pub fn pick(&self, alloc: Global, keep: &[u32], outputs: &[u32]) -> Result<Design, AllocError>
+        requires some { 0 < length keep.now }
+        requires rising { Rises keep.now }
+        requires nets { All (λ number. number < length self.now.netlist.nets) keep.now }
+        requires pins { All (λ number. All (Contains keep.now) (net_at self.now.netlist number).pins) keep.now }
+        requires outputs { All (Contains keep.now) outputs.now }
+        requires outputs_once { AllPairs (λ (earlier later : ℕ). earlier ≢ later) outputs.now }
+        ensures { IfOk result (λ design. design ≡ picked_design self.now keep.now outputs.now) }
+    {
+        let netlist = self.netlist.pick(alloc, keep, outputs)?;
+        let first_pins = first_pins(alloc, &netlist)?;
+        let sources = pin_sources(alloc, &netlist)?;
+        let fed = fed_pins(alloc, netlist.nets(), sources.as_slice())?;
+        let timings = timings_of(alloc, self, keep)?;
+        let stimuli = stimuli_of(alloc, self, keep)?;
+        Ok(Design {
+            netlist,
+            first_pins,
+            sources,
+            fed,
+            timings,
+            stimuli,
+        })
+    }
+}
+
+/// The timings of these nets, in order.
+fn timings_of(alloc: Global, design: &Design, nets: &[u32]) -> Result<Vec<NetTiming>, AllocError>
+    requires { All (λ net. net < length design.now.circuit) nets.now }
+    ensures { IfOk result (λ timings. map seen_timing timings.items ≡ map (timing_in design.now.circuit) nets.now) }
+{
+    let mut timings = Vec::new(alloc);
+    for net in nets {
+        timings.push(NetTiming {
+            timing: design.timing(*net),
+            wires: SmallVec::from_slice(alloc, design.wires_of(*net))?,
+        })?;
+    }
+    Ok(timings)
+}
+
+/// The stimuli of these nets, in order.
+fn stimuli_of(alloc: Global, design: &Design, nets: &[u32]) -> Result<Vec<Vec<Change>>, AllocError>
+    requires { All (λ net. net < length design.now.circuit) nets.now }
+    ensures { IfOk result
+        (λ stimuli. map (λ v. v.items) stimuli.items ≡ map (stimuli_in design.now.circuit) nets.now) }
+{
+    let mut stimuli = Vec::new(alloc);
+    for net in nets {
+        stimuli.push(Vec::from_slice(alloc, design.stimuli(*net))?)?;
+    }
+    Ok(stimuli)
+}

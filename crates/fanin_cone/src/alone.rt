@@ -1,0 +1,50 @@
+//! The nets of some cones as a design of their own.
+ghost use Rattle.std.specs.Prelude.{◌≡◌, ◌≢◌, ℕ, ◌<◌, ◌↔◌, length, map, All, AllPairs, IfOk, IfSome, IsNone};
+ghost use Rattle.std.specs.List.{list_all};
+ghost use Rattle.netlist.specs.Netlist.{name_at};
+ghost use Rattle.fanin_cone.specs.Cone.{InCone};
+ghost use Rattle.fanin_cone.specs.Extract.{IsDesignOfCones};
+
+use crate::cones::{marked_cone, marked_nets};
+use design::Design;
+use std::alloc::{AllocError, Global};
+
+/// The nets in the fan-in cones of these nets as a design of their own, in their old order and with
+/// the timing, the wires and the stimuli that they have. Its outputs are these nets, in this order.
+/// None where all nets are in the cones, so that there is nothing to leave out.
+///
+/// At least one net is asked for, and none twice.
+///
+/// Takes time and memory in proportion to the nets and pins, and for what is kept also to the stimuli.
+///
+/// # Errors
+/// An `AllocError` where a growth was refused.
+pub fn cones_alone(
+    alloc: Global,
+    design: &Design,
+    nets: &[u32],
+) -> Result<Option<Design>, AllocError>
+    requires some { 0 < length nets.now }
+    requires nets { All (λ net. net < length design.now.netlist.nets) nets.now }
+    requires once { AllPairs (λ (earlier later : ℕ). earlier ≢ later) nets.now }
+    ensures alone { IfOk result (λ part. IfSome part (IsDesignOfCones design.now nets.now)) }
+    ensures all { IfOk result (λ part. IsNone part ↔ ((net : ℕ) → net < length design.now.netlist.nets →
+        InCone design.now.netlist (map (name_at design.now.netlist) nets.now) (name_at design.now.netlist net))) }
+{
+    prove!(0 < design.nets());
+    let marks = marked_cone(alloc, design.netlist(), nets)?;
+    if are_all(marks.as_slice()) {
+        return Ok(None);
+    }
+    let keep = marked_nets(alloc, marks.as_slice())?;
+    let part = design.pick(alloc, keep.as_slice(), nets)?;
+    prove!(0 < part.nets());
+    Ok(Some(part))
+}
+
+/// Whether all nets are marked.
+fn are_all(marks: &[bool]) -> bool
+    ensures { result ≡ list_all (λ mark. mark) marks.now }
+{
+    marks.iter().all(|mark| *mark)
+}

@@ -1,0 +1,7 @@
+mod Applied
+mod EndsOf
+mod Histories
+mod Leads
+mod Listed
+mod Takes
+mod Visits
