@@ -18,6 +18,7 @@ NULLSIM_DUMP = "nullsim.vcd"
 COLUMNS = ["circuit", "nets", "changes", "nullsim s", "nullsim MB"]
 VVP_COLUMNS = ["vvp s", "vvp MB", "time ratio", "memory ratio", "same"]
 COUNTS_COLUMNS = ["counted s", "counted MB", "events", "nulls", "rounds"]
+SHOWN_COLUMNS = ["shown s", "shown MB"]
 
 
 @dataclass
@@ -73,6 +74,12 @@ def cells_with_counts(words, folder, runs):
     return least([cost for cost, _ in measured]).cells() + [counts[name] for name in ("events", "nulls", "rounds")]
 
 
+def cells_with_names(words, folder, runs, names):
+    """The cells of runs with `--show` and these names of nets: their cost."""
+    measured = [run_once([*words, "--show", names], folder, "shown.vcd") for _ in range(runs)]
+    return least([cost for cost, _ in measured]).cells()
+
+
 def measure(name, words, folder):
     """Makes a circuit, measures it, and answers its row of the table."""
     circuit = circuits.make(name, words.size, words.seed)
@@ -91,6 +98,8 @@ def measure(name, words, folder):
         row += cells_beside_vvp(folder, circuit.horizon, least(nullsim), least(vvp))
     if words.counts:
         row += cells_with_counts(nullsim_words, folder, words.runs)
+    if words.show:
+        row += cells_with_names(nullsim_words, folder, words.runs, words.show)
     return row
 
 
@@ -101,7 +110,7 @@ def table_row(cells):
 
 def print_table(words):
     """Measures circuit after circuit, and prints each row as soon as it is there."""
-    columns = COLUMNS + VVP_COLUMNS * words.vvp + COUNTS_COLUMNS * words.counts
+    columns = COLUMNS + VVP_COLUMNS * words.vvp + COUNTS_COLUMNS * words.counts + SHOWN_COLUMNS * bool(words.show)
     print(table_row(columns))
     print(table_row(["---"] * len(columns)), flush=True)
     for name in words.circuits or circuits.CIRCUITS:
@@ -118,6 +127,7 @@ def read_words():
     parser.add_argument("--program", type=Path, default=PROGRAM, metavar="FILE", help="the program (the built one)")
     parser.add_argument("--alone", dest="vvp", action="store_false", help="leave vvp out")
     parser.add_argument("--counts", action="store_true", help="measure `nullsim run --counts` too")
+    parser.add_argument("--show", metavar="NAMES", help="measure `nullsim run --show NAMES` too")
     parser.add_argument("--folder", type=Path, metavar="FOLDER", help="where texts and dumps go for a while")
     words = parser.parse_args()
     unknown = [name for name in words.circuits if name not in circuits.CIRCUITS]

@@ -40,7 +40,7 @@ def commands() -> list[tuple[list, bytes, int]]:
         ([*streams.RUN, "--schedule", "none.schedule"], b"", 3),
         ("run --bench hazard.bench --stimuli hazard.stimuli --horizon 8 --schedule hazard.schedule".split(), b"", 0),
         ("run --bench latch.bench --stimuli latch.stimuli --horizon 5 --counts".split(), b"", 0),
-        ("run --bench clocks.bench --delays clocks.delays --horizon 40".split(), b"", 0),
+        ("run --bench clocks.bench --delays clocks.delays --horizon 40 --show next,fast".split(), b"", 0),
         ("plain --bench pulse.bench --delays pulse.delays --stimuli pulse.stimuli --horizon 22".split(), b"", 0),
         (streams.HELP, b"", 0),
         (["run", "--help"], b"", 0),

@@ -45,23 +45,29 @@ pub(super) fn subcommand<'a>(alloc: Global) -> Result<Command<'a>, AllocError> {
 }
 
 /// The order of its options.
-pub(super) fn order_given<'a>(options: &ArgMatches<'a>) -> Order<'a> {
-    Order::Draw {
+pub(super) fn order_given<'a>(
+    alloc: Global,
+    options: &ArgMatches<'a>,
+) -> Result<Order<'a>, AllocError> {
+    Ok(Order::Draw {
         source: source_given(options, &ALONE, PickOptions::Nothing),
-        view: view_given(options),
-    }
+        view: view_given(alloc, options)?,
+    })
 }
 
-fn view_given(options: &ArgMatches<'_>) -> DiagramView {
+fn view_given<'a>(
+    alloc: Global,
+    options: &ArgMatches<'a>,
+) -> Result<DiagramView<'a>, AllocError> {
     let horizon = number_given(options, "horizon");
-    DiagramView {
-        show: show_given(options),
+    Ok(DiagramView {
+        show: show_given(alloc, options)?,
         horizon,
         from: number_given(options, "from"),
         to: options.get_one("to").unwrap_or(horizon),
         step: number_given(options, "step"),
         form: form_given(options),
-    }
+    })
 }
 
 fn form_given(options: &ArgMatches<'_>) -> Form {

@@ -69,7 +69,8 @@ pub(super) const SCHEDULE: &str =
 
 const HORIZON: &str = "The last tick of the run: 0 to 10000000";
 
-const SHOW: &str = "The nets that are shown: all or outputs";
+const SHOW: &str = "The nets that are shown: all, outputs, or nets by their names, in this order,\n\
+     such as y,q; a net named all is all, with a comma behind it";
 
 const UNIT: &str = "What a tick of the dump stands for: s, ms, us, ns, ps or fs";
 
@@ -118,7 +119,7 @@ pub(super) static LENGTH: [Described; 1] = [Described(
 /// What is shown of a run.
 pub(super) static SHOWN: [Described; 1] = [Described(
     "show",
-    Takes::Word("NETS", &["all", "outputs"]),
+    Takes::NetList,
     Absent::Default("all"),
     SHOW,
 )];
@@ -146,14 +147,31 @@ pub(super) fn source_given<'a>(
     }
 }
 
-pub(super) fn show_given(options: &ArgMatches<'_>) -> Show {
-    match options.get_str("show") {
-        Some("outputs") => Show::Outputs,
-        _ => Show::All,
+/// The nets that are shown. All or the outputs are meant by the one word alone; beside a comma or another
+/// word it is a net's name, and a piece without a byte is none.
+pub(super) fn show_given<'a>(
+    alloc: Global,
+    options: &ArgMatches<'a>,
+) -> Result<Show<'a>, AllocError> {
+    match options.get_strs("show").unwrap_or(&[]) {
+        ["all"] => Ok(Show::All),
+        ["outputs"] => Ok(Show::Outputs),
+        pieces => Ok(Show::Named(names_in(alloc, pieces)?)),
     }
 }
 
-pub(super) fn view_given(options: &ArgMatches<'_>) -> View {
+fn names_in<'a>(alloc: Global, pieces: &[&'a str]) -> Result<Vec<&'a [u8]>, AllocError> {
+    pieces
+        .iter()
+        .filter(|piece| !piece.is_empty())
+        .map(|piece| piece.as_bytes())
+        .collect(alloc)
+}
+
+pub(super) fn view_given<'a>(
+    alloc: Global,
+    options: &ArgMatches<'a>,
+) -> Result<View<'a>, AllocError> {
     let unit = match options.get_str("unit") {
         Some("s") => TimeUnit::S,
         Some("ms") => TimeUnit::Ms,
@@ -162,11 +180,11 @@ pub(super) fn view_given(options: &ArgMatches<'_>) -> View {
         Some("fs") => TimeUnit::Fs,
         _ => TimeUnit::Ns,
     };
-    View {
+    Ok(View {
         horizon: number_given(options, "horizon"),
-        show: show_given(options),
+        show: show_given(alloc, options)?,
         unit,
-    }
+    })
 }
 
 /// The number of an option that is required or has a default.

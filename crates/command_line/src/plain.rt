@@ -26,9 +26,12 @@ pub(super) fn subcommand<'a>(alloc: Global) -> Result<Command<'a>, AllocError> {
 }
 
 /// The order of its options.
-pub(super) fn order_given<'a>(options: &ArgMatches<'a>) -> Order<'a> {
-    Order::Plain {
+pub(super) fn order_given<'a>(
+    alloc: Global,
+    options: &ArgMatches<'a>,
+) -> Result<Order<'a>, AllocError> {
+    Ok(Order::Plain {
         source: source_given(options, &ALONE, PickOptions::Nothing),
-        view: view_given(options),
-    }
+        view: view_given(alloc, options)?,
+    })
 }

@@ -40,7 +40,7 @@ pub(super) fn subcommand<'a>(alloc: Global) -> Result<Command<'a>, AllocError> {
 pub(super) fn order_given<'a>(alloc: Global, options: &ArgMatches<'a>) -> Result<Order<'a>, Error> {
     Ok(Order::Run {
         source: source_given(options, &ALONE, picks_given(alloc, options)?),
-        view: view_given(options),
+        view: view_given(alloc, options)?,
         counts: options.get_flag("counts"),
     })
 }

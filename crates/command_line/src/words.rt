@@ -49,8 +49,8 @@ fn read_order<'a>(alloc: Global, words: &'a [String]) -> Result<Order<'a>, Error
 fn order_matched<'a>(alloc: Global, matches: &ArgMatches<'a>) -> Result<Order<'a>, Error> {
     match matches.subcommand() {
         Some(("run", options)) => run::order_given(alloc, options),
-        Some(("plain", options)) => Ok(plain::order_given(options)),
-        Some(("draw", options)) => Ok(draw::order_given(options)),
+        Some(("plain", options)) => Ok(plain::order_given(alloc, options)?),
+        Some(("draw", options)) => Ok(draw::order_given(alloc, options)?),
         Some(("trace", options)) => trace::order_given(alloc, options),
         Some(("why", options)) => Ok(why::order_given(options)),
         Some(("stimuli", options)) => stimuli::order_given(alloc, options),

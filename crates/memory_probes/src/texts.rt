@@ -4,7 +4,7 @@ use crate::telling::Teller;
 use bench_text::{read, write};
 use cmb_events::Schedule;
 use design::{Design, flow_order, plain_waves, segments_of};
-use fanin_cone::{agree, cone, extract};
+use fanin_cone::{agree, cone, cones_alone, extract, net_numbers};
 use netlist::{Names, Netlist, without_repeats};
 use std::alloc::Global;
 use std::io::Write;
@@ -47,6 +47,8 @@ pub(crate) fn probe<W: Write>(alloc: Global, teller: &mut Teller<W>) -> Option<(
     teller.told("read_stimuli", read_stimuli(alloc, &netlist, STIMULI))?;
     let names = [b"sampled".as_slice(), b"enable".as_slice()];
     teller.told("fanin_cone::extract", extract(alloc, &netlist, &names))?;
+    let numbers = net_numbers(alloc, &netlist, &names);
+    teller.told("fanin_cone::net_numbers", numbers)?;
     pick(alloc, teller, &netlist)
 }
 
@@ -115,6 +117,11 @@ fn cones<W: Write>(alloc: Global, teller: &mut Teller<W>, design: &Design) -> Op
         return None;
     }
     teller.told("fanin_cone::cone", cone(alloc, design, 2))?;
+    let part = teller.told("fanin_cone::cones_alone", cones_alone(alloc, design, &[0]))?;
+    teller.fine("fanin_cone::cones_alone", part.is_some())?;
+    if design.netlist().pins_of(0).is_empty() {
+        teller.told("Design::pick", design.pick(alloc, &[0], &[0]))?;
+    }
     let agreement = agree(alloc, design, design, b"sampled", horizon()?);
     let agrees = teller.told("fanin_cone::agree", agreement)?;
     teller.fine("fanin_cone::agree", agrees == Some(true))

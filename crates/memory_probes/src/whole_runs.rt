@@ -9,7 +9,7 @@ use runs::{
     DiffTicks, Picks, Show, Source, View, check, cone_text, diff, info, plain, simulate, sweep,
     twin,
 };
-use std::alloc::Global;
+use std::alloc::{AllocError, Global};
 use std::io::Write;
 use vcd_dump::TimeUnit;
 use worked_examples::dumps::{OSCILLATOR_DUMP, PRESET_RING_DUMP};
@@ -34,19 +34,17 @@ const RING: Source<'static> = Source {
     picks: Picks::Seeded { seed: 7, picks: 9 },
 };
 
-/// All nets of the oscillator, in nanoseconds.
-const ALL: View = View {
-    horizon: 12,
-    show: Show::All,
-    unit: TimeUnit::Ns,
-};
+/// What goes out of the input of the oscillator alone.
+const INPUT_DUMP: &[u8] =
+    b"$version nullsim 1 $end\n$timescale 1 ns $end\n$scope module top $end\n$var wire 1 ! e $end\n$upscope $end\n$enddefinitions $end\n#0\n$dumpvars\n0!\n$end\n#5\n1!\n#12\n";
 
-/// A run and what goes out of it.
-type Run = (Source<'static>, View, &'static [u8]);
+/// A run, its horizon, the only net that it shows, where it doesn't show all, and what goes out of it.
+type Run = (Source<'static>, u64, Option<&'static [u8]>, &'static [u8]);
 
-static RUNS: [Run; 2] = [
-    (OSCILLATOR, ALL, OSCILLATOR_DUMP),
-    (RING, View { horizon: 10, ..ALL }, PRESET_RING_DUMP),
+static RUNS: [Run; 3] = [
+    (OSCILLATOR, 12, None, OSCILLATOR_DUMP),
+    (RING, 10, None, PRESET_RING_DUMP),
+    (OSCILLATOR, 12, Some(b"e"), INPUT_DUMP),
 ];
 
 /// The oscillator as a deck.
@@ -83,14 +81,27 @@ const COUNTING: DiffTicks = DiffTicks {
 
 /// Probes the calls for runs, then those for decks.
 pub(crate) fn probe<W: Write>(alloc: Global, teller: &mut Teller<W>) -> Option<()> {
-    for (source, view, dump) in &RUNS {
-        dumps(alloc, teller, source, view, dump)?;
-        written_dumps(alloc, teller, source, view, dump)?;
+    for (source, horizon, net, dump) in &RUNS {
+        let view = View {
+            horizon: *horizon,
+            show: teller.told("Show::Named", shown(alloc, *net))?,
+            unit: TimeUnit::Ns,
+        };
+        dumps(alloc, teller, source, &view, dump)?;
+        written_dumps(alloc, teller, source, &view, dump)?;
     }
     comparisons(alloc, teller)?;
     written_comparisons(alloc, teller)?;
     decks(alloc, teller)?;
     readings(alloc, teller)
+}
+
+/// This net alone, named twice, or all of them.
+fn shown(alloc: Global, net: Option<&'static [u8]>) -> Result<Show<'static>, AllocError> {
+    match net {
+        Some(name) => Ok(Show::Named(Vec::from_slice(alloc, &[name, name])?)),
+        None => Ok(Show::All),
+    }
 }
 
 /// Tells of a call that writes a text. It is out where the call was carried out, and else a first part.
@@ -113,7 +124,7 @@ fn dumps<W: Write>(
     alloc: Global,
     teller: &mut Teller<W>,
     source: &Source<'_>,
-    view: &View,
+    view: &View<'_>,
     dump: &'static [u8],
 ) -> Option<()> {
     let mut out = Follower::of(dump);
@@ -131,7 +142,7 @@ fn written_dumps<W: Write>(
     alloc: Global,
     teller: &mut Teller<W>,
     source: &Source<'_>,
-    view: &View,
+    view: &View<'_>,
     dump: &'static [u8],
 ) -> Option<()> {
     for counts in [false, true] {

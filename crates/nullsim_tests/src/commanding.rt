@@ -15,7 +15,7 @@ use crate::differing::{
 };
 use crate::drawing::{DRAWINGS, REFUSED_DRAWINGS};
 use crate::files::{FILES, Named};
-use crate::plainly::{DUMPS, FAULTY_TIMINGS, REFUSED_PLAIN};
+use crate::plainly::{DUMPS, FAULTY_TIMINGS, NAMED_DUMPS, REFUSED_PLAIN};
 use crate::running::{COUNTED_RUNS, EDGE_RUNS, REFUSED_RUNS, RUNS_WITHOUT_TEXTS};
 use nullsim::{ReadFault, Texts, command};
 use std::alloc::{AllocError, Global};
@@ -150,6 +150,8 @@ pub(crate) fn contains(text: &[u8], part: &[u8]) -> bool {
 fn lines_that_are_carried_out(rt: HostRuntime) -> Result<(), Fail> {
     for (start, table) in [
         ("plain", DUMPS.as_slice()),
+        ("plain", NAMED_DUMPS.as_slice()),
+        ("run", NAMED_DUMPS.as_slice()),
         ("draw", DRAWINGS.as_slice()),
         ("trace", TRACES.as_slice()),
         ("why", CAUSES.as_slice()),

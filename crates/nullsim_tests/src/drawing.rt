@@ -10,7 +10,7 @@ const LOW_SVG: &[u8] =
       </svg>\n";
 
 // Diagrams under all options of `draw`.
-pub(crate) static DRAWINGS: [CarriedOut; 9] = [
+pub(crate) static DRAWINGS: [CarriedOut; 10] = [
     (
         "--bench inv.bench --stimuli inv.stim --horizon 5",
         b"   0.........\na  ___/--\ny  x/--\\_\n",
@@ -36,6 +36,10 @@ pub(crate) static DRAWINGS: [CarriedOut; 9] = [
         b"   0.........\na  __|--\nb  |__/-\ny  x\\_|_\n",
     ),
     (
+        "--bench edge.bench --stimuli edge.stim --horizon 8 --show y,a,y",
+        b"   0.........\ny  xx\\___/\\_\na  _____/---\n",
+    ),
+    (
         "--bench flop.bench --stimuli flop.stim --period 4 --horizon 12",
         b"   0.........10........\nd  xxxx/\\_______\nq  xxxxx/---\\___\n",
     ),
@@ -50,7 +54,7 @@ pub(crate) static DRAWINGS: [CarriedOut; 9] = [
 ];
 
 // The horizon and the columns first, then the settings, then the texts; all texts are read before that.
-pub(crate) static REFUSED_DRAWINGS: [Refused; 8] = [
+pub(crate) static REFUSED_DRAWINGS: [Refused; 9] = [
     (
         "--bench bad.bench --horizon 10000001 --step 0",
         1,
@@ -91,6 +95,12 @@ pub(crate) static REFUSED_DRAWINGS: [Refused; 8] = [
         "--bench bad.bench --horizon 999 --svg",
         1,
         "bad.bench:2: BadLine\n",
+        1,
+    ),
+    (
+        "--bench inv.bench --horizon 5 --show y,zz",
+        1,
+        "inv.bench:0: UnknownNet\n",
         1,
     ),
     (

@@ -4,7 +4,7 @@ use worked_examples::{S27_BENCH, S27_STIMULI};
 /// A text with its name.
 pub(crate) type Named = (&'static str, &'static [u8]);
 
-pub(crate) static FILES: [Named; 66] = [
+pub(crate) static FILES: [Named; 68] = [
     ("inv.bench", b"INPUT(a)\nOUTPUT(y)\ny = NOT(a)\n"),
     ("inv.stim", b"0 a 0\n3 a 1\n"),
     ("slow.delays", b"y 9\n"),
@@ -115,4 +115,10 @@ pub(crate) static FILES: [Named; 66] = [
     ("s27.bench", S27_BENCH),
     ("s27.stim", S27_STIMULI),
     ("dash.bench", b"INPUT(-a)\n-y = NOT(-a)\n"),
+    // Nets whose names are the words for other nets.
+    (
+        "words.bench",
+        b"INPUT(all)\nOUTPUT(outputs)\noutputs = NOT(all)\n",
+    ),
+    ("words.stim", b"0 all 0\n3 all 1\n"),
 ];

@@ -16,7 +16,7 @@ static WITH_PLAIN: [&str; 16] = [
     "plain --bench inv.bench --horizon 18446744073709551616",
     "plain --bench inv.bench --horizon",
     "plain --bench inv.bench --horizon 5 --delay 1.5",
-    "plain --bench inv.bench --horizon 5 --show some",
+    "plain --bench inv.bench --horizon 5 --show",
     "plain --bench inv.bench --horizon 5 --unit NS",
     "plain --bench inv.bench --horizon 5 --horizon 6",
     "plain --bench inv.bench --horizon 5 --seed 1",

@@ -1,8 +1,9 @@
 //! Command lines of `plain`.
 use crate::commanding::{CarriedOut, Refused};
 use worked_examples::dumps::{
-    CLOCKED_DUMP, INVERTER_DUMP, OUTPUTS_DUMP, PRESET_RING_DUMP, SAMPLER_DUMP, SLOW_DUMP,
-    WIRED_FLOP_DUMP, WIRED_XOR_DUMP,
+    CLOCKED_DUMP, INPUT_DUMP, INVERTER_DUMP, NAMED_DUMP, NO_NETS_DUMP, OUTPUTS_DUMP,
+    PRESET_RING_DUMP, SAMPLER_DUMP, SLOW_DUMP, WIRED_FLOP_DUMP, WIRED_XOR_DUMP, WORD_DUMP,
+    WORDS_DUMP,
 };
 
 // Dumps under all options of `plain`.
@@ -53,8 +54,62 @@ pub(crate) static DUMPS: [CarriedOut; 11] = [
     ),
 ];
 
-// Settings first, then the texts in their order; all texts are read before anything is checked.
-pub(crate) static REFUSED_PLAIN: [Refused; 14] = [
+// Nets by their names, of which two are words for other nets: in their order and once, with pieces that
+// name nothing.
+pub(crate) static NAMED_DUMPS: [CarriedOut; 9] = [
+    (
+        "--bench edge.bench --stimuli edge.stim --horizon 8 --show y,a",
+        NAMED_DUMP,
+    ),
+    (
+        "--bench edge.bench --stimuli edge.stim --horizon 8 --show y --show a,y --show=y",
+        NAMED_DUMP,
+    ),
+    (
+        "--bench edge.bench --stimuli edge.stim --horizon 8 --show ,y,,a,",
+        NAMED_DUMP,
+    ),
+    (
+        "--bench edge.bench --stimuli edge.stim --horizon 8 --show a",
+        INPUT_DUMP,
+    ),
+    (
+        "--bench edge.bench --stimuli edge.stim --horizon 8 --show ,",
+        NO_NETS_DUMP,
+    ),
+    (
+        "--bench words.bench --stimuli words.stim --horizon 5 --show all,",
+        WORD_DUMP,
+    ),
+    (
+        "--bench words.bench --stimuli words.stim --horizon 5 --show all --show all",
+        WORD_DUMP,
+    ),
+    (
+        "--bench words.bench --stimuli words.stim --horizon 5 --show outputs,all",
+        WORDS_DUMP,
+    ),
+    (
+        "--bench words.bench --stimuli words.stim --horizon 5 --show outputs --show all",
+        WORDS_DUMP,
+    ),
+];
+
+// Settings first, then the texts in their order, then names of nets; all texts are read before anything is
+// checked.
+pub(crate) static REFUSED_PLAIN: [Refused; 16] = [
+    (
+        "--bench inv.bench --stimuli bad.stim --horizon 5 --show zz",
+        1,
+        "bad.stim:1: NotAnInput\n",
+        2,
+    ),
+    (
+        "--bench inv.bench --stimuli inv.stim --horizon 5 --show y,zz",
+        1,
+        "inv.bench:0: UnknownNet\n",
+        2,
+    ),
     (
         "--bench inv.bench --delay 0 --period 0 --horizon 10000001",
         1,

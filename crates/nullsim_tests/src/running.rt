@@ -1,8 +1,8 @@
 //! Command lines of `run`, with schedules and counts.
 use crate::commanding::{Counted, Refused};
 use worked_examples::dumps::{
-    CLOCKED_DUMP, EDGE_DUMP, INVERTER_DUMP, LATCH_DUMP, OUTPUTS_DUMP, PRESET_RING_DUMP, SLOW_DUMP,
-    WIRED_FLOP_DUMP, WIRED_XOR_DUMP,
+    CLOCKED_DUMP, EDGE_DUMP, INPUT_DUMP, INVERTER_DUMP, LATCH_DUMP, NAMED_DUMP, OUTPUTS_DUMP,
+    PRESET_RING_DUMP, SLOW_DUMP, WIRED_FLOP_DUMP, WIRED_XOR_DUMP,
 };
 
 pub(crate) const COUNTS: &str = "events 7 changes 4 nulls 3 rounds 2\n";
@@ -58,7 +58,7 @@ pub(crate) static COUNTED_RUNS: [Counted; 9] = [
 ];
 
 // The buffer and its comparison under schedules and picks: one dump, and other counts.
-pub(crate) static EDGE_RUNS: [Counted; 14] = [
+pub(crate) static EDGE_RUNS: [Counted; 17] = [
     ("", EDGE_DUMP, ""),
     ("--seed 7 --picks 1000", EDGE_DUMP, ""),
     ("--picks 1000", EDGE_DUMP, ""),
@@ -104,6 +104,14 @@ pub(crate) static EDGE_RUNS: [Counted; 14] = [
         EDGE_DUMP,
         "events 24 changes 7 nulls 6 rounds 2\n",
     ),
+    // What is shown plays no part in the counts, and events of a net outside its cone none in the dump.
+    ("--show y --show a,", NAMED_DUMP, ""),
+    (
+        "--counts --show y,a,y",
+        NAMED_DUMP,
+        "events 19 changes 7 nulls 6 rounds 3\n",
+    ),
+    ("--show a --schedule seven.sched", INPUT_DUMP, ""),
     // Without picks a seed does nothing.
     (
         "--counts --seed 7",
@@ -113,7 +121,7 @@ pub(crate) static EDGE_RUNS: [Counted; 14] = [
 ];
 
 // What is refused once all texts are read.
-pub(crate) static REFUSED_RUNS: [Refused; 11] = [
+pub(crate) static REFUSED_RUNS: [Refused; 14] = [
     // What a schedule has wrong.
     (
         "--bench inv.bench --horizon 5 --schedule pin.sched",
@@ -180,6 +188,25 @@ pub(crate) static REFUSED_RUNS: [Refused; 11] = [
         "--bench inv.bench --stimuli bad.stim --horizon 5 --picks 10000001",
         1,
         "bad.stim:1: NotAnInput\n",
+        2,
+    ),
+    // Names of nets come behind the schedule.
+    (
+        "--bench inv.bench --stimuli inv.stim --schedule pin.sched --horizon 5 --show zz",
+        1,
+        "pin.sched:1: BadPin\n",
+        3,
+    ),
+    (
+        "--bench inv.bench --stimuli inv.stim --horizon 5 --show y,zz",
+        1,
+        "inv.bench:0: UnknownNet\n",
+        2,
+    ),
+    (
+        "--bench inv.bench --stimuli inv.stim --horizon 5 --show some --counts",
+        1,
+        "inv.bench:0: UnknownNet\n",
         2,
     ),
 ];

@@ -45,19 +45,19 @@ pub enum Order<'a> {
     /// Write the dump of a run, by the kernel.
     Run {
         source: SourceOptions<'a>,
-        view: View,
+        view: View<'a>,
         /// Whether the counts are asked for.
         counts: bool,
     },
     /// Write the dump of a run, by the plain engine. Nothing is picked.
     Plain {
         source: SourceOptions<'a>,
-        view: View,
+        view: View<'a>,
     },
     /// Write the timing diagram of a run. Nothing is picked.
     Draw {
         source: SourceOptions<'a>,
-        view: DiagramView,
+        view: DiagramView<'a>,
     },
     /// Write the trace of a run.
     Trace {

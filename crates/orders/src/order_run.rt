@@ -85,7 +85,7 @@ impl<'a> Order<'a> {
 fn carry_out_run<'a, T: Texts, W: Write>(
     alloc: Global,
     options: &SourceOptions<'a>,
-    view: &View,
+    view: &View<'a>,
     counts: bool,
     texts: &mut T,
     out: &mut W,
@@ -106,7 +106,7 @@ fn carry_out_run<'a, T: Texts, W: Write>(
 fn carry_out_plain<'a, T: Texts, W: Write>(
     alloc: Global,
     options: &SourceOptions<'a>,
-    view: &View,
+    view: &View<'a>,
     texts: &mut T,
     out: &mut W,
 ) -> Result<Outcome, ProgramFault<'a>>
@@ -126,7 +126,7 @@ fn carry_out_plain<'a, T: Texts, W: Write>(
 fn carry_out_diagram<'a, T: Texts, W: Write>(
     alloc: Global,
     options: &SourceOptions<'a>,
-    view: &DiagramView,
+    view: &DiagramView<'a>,
     texts: &mut T,
     out: &mut W,
 ) -> Result<Outcome, ProgramFault<'a>>

@@ -29,7 +29,7 @@ use std::io::Write;
 pub fn write_run<W: Write>(
     alloc: Global,
     source: &Source<'_>,
-    view: &View,
+    view: &View<'_>,
     counts: bool,
     out: &mut W,
 ) -> Result<Outcome, ProgramFault<'static>>
@@ -48,7 +48,7 @@ pub fn write_run<W: Write>(
 fn dump_and_count<W: Write>(
     alloc: Global,
     source: &Source<'_>,
-    view: &View,
+    view: &View<'_>,
     counts: bool,
     out: &mut W,
 ) -> Result<Outcome, SimFault>
@@ -72,7 +72,7 @@ fn dump_and_count<W: Write>(
 pub fn write_plain<W: Write>(
     alloc: Global,
     source: &Source<'_>,
-    view: &View,
+    view: &View<'_>,
     out: &mut W,
 ) -> Result<Outcome, ProgramFault<'static>>
     ensures ok { IfOk result (GoesOut (λ answer. answer ≡ plain_answer (seen_source source.now) view.now)
@@ -93,7 +93,7 @@ pub fn write_plain<W: Write>(
 pub fn write_diagram<W: Write>(
     alloc: Global,
     source: &Source<'_>,
-    view: &DiagramView,
+    view: &DiagramView<'_>,
     out: &mut W,
 ) -> Result<Outcome, ProgramFault<'static>>
     ensures ok { IfOk result (GoesOut (λ answer. answer ≡ diagram_answer (seen_source source.now) view.now)

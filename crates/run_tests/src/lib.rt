@@ -6,6 +6,8 @@ mod cones;
 #[cfg(test)]
 mod far_runs;
 #[cfg(test)]
+mod showing;
+#[cfg(test)]
 mod simulations;
 #[cfg(test)]
 mod twins;

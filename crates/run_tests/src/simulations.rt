@@ -104,7 +104,7 @@ fn counts([events, changes, nulls, rounds]: [u64; 4]) -> Counts {
 }
 
 // All nets in nanoseconds, up to a horizon.
-fn all_up_to(horizon: u64) -> View {
+fn all_up_to(horizon: u64) -> View<'static> {
     View {
         horizon,
         show: Show::All,

@@ -1,5 +1,5 @@
 -- The answer to a source, step by step.
-use Rattle.std.proofs.Common.{◌≡◌, ◌≢◌, ℕ, ◌<◌, ◌≤◌, List, length, Result, Ok, Err, refl, ap, subst, ◌⊎◌, inl, inr}
+use Rattle.std.proofs.Common.{◌≡◌, ◌≢◌, ℕ, ◌<◌, ◌≤◌, Bool, true, false, cond, IsTrue, List, length, Result, Ok, Err, refl, ap, subst, ◌⊎◌, inl, inr}
 use Rattle.std.proofs.lemmas.Bool.{cases_lt}
 use Rattle.bench_text.specs.declared.fault.BenchFault.{BenchFault}
 use Rattle.bench_text.specs.declared.fault.BenchFault.TheVariants as bench
@@ -17,13 +17,14 @@ use Rattle.design.specs.Build.{design_of}
 use Rattle.cmb_events.specs.declared.event.Event.{Event}
 use Rattle.cmb_events.specs.declared.schedule_fault.ScheduleFault.{ScheduleFault}
 use Rattle.cmb_events.specs.declared.schedule_fault.ScheduleFault.TheVariants as schedule
+use Rattle.runs.specs.declared.view.Show.{Show}
 use Rattle.runs.specs.declared.view.View.{View}
 use Rattle.runs.specs.declared.fault.SimFault.{SimFault}
-use Rattle.runs.specs.declared.fault.SimFault.TheVariants.{Setting, Dump, Memory}
+use Rattle.runs.specs.declared.fault.SimFault.TheVariants.{Setting, UnknownNet, Dump, Memory}
 use Rattle.runs.specs.declared.simulation.Report.{Report}
 use Rattle.runs.specs.Events.{events_of_picks}
 use Rattle.runs.specs.Faults.{sim_of_bench, sim_of_build, sim_of_schedule}
-use Rattle.runs.specs.Source.{SourceView, design_of_source, dump_of_source, or_fault, dump_of_design}
+use Rattle.runs.specs.Source.{SourceView, design_of_source, dump_of_source, if_known, knows_shown, or_fault, dump_of_design}
 use Rattle.runs.specs.Simulated.{RunView, dump_in, report_of, run_of_source, simulated}
 use Rattle.runs.specs.Ends.{IsRefusal}
 
@@ -126,26 +127,49 @@ module _ (source : SourceView) (ticks : ℕ) where
 
 -- ---- what is made of it
 
+-- a net that isn't there refuses one answer as it refuses another
+pub unknown_for : {A B : Type 0} (show : Show) (netlist : NetlistView) (shown : A) (answer : B) (fault : SimFault) →
+    if_known show netlist shown ≡ Err fault → if_known show netlist answer ≡ Err fault
+unknown_for show netlist shown answer fault = go (knows_shown show netlist)
+  where
+    go : (known : Bool) → cond known (Ok shown) (Err UnknownNet) ≡ Err fault → cond known (Ok answer) (Err UnknownNet) ≡ Err fault
+    go true e = absurd (cc)
+    go false e = cc
+
 module _ (source : SourceView) (view : View) where
   -- a fault of the design is the answer
   pub dump_of_source-bad : (fault : SimFault) → design_of_source source view.horizon ≡ Err fault → dump_of_source source view ≡ Err fault
   unfolding dump_of_source
   dump_of_source-bad fault bad = rw bad refl
 
-  pub dump_of_source-good : (horizon : ℕ) (design : DesignView) → design_of_source source view.horizon ≡ Ok (horizon, design) →
-      dump_of_source source view ≡ Ok (dump_of_design view horizon design)
-  unfolding dump_of_source
-  dump_of_source-good horizon design made = rw made refl
+  module _ (horizon : ℕ) (design : DesignView) (made : design_of_source source view.horizon ≡ Ok (horizon, design)) where
+    -- so is a net that isn't there
+    pub dump_of_source-unknown : {A : Type 0} (shown : A) (fault : SimFault) → if_known view.show design.netlist shown ≡ Err fault →
+        dump_of_source source view ≡ Err fault
+    unfolding dump_of_source
+    dump_of_source-unknown shown fault unknown = rw made (unknown_for view.show design.netlist shown _ fault unknown)
+
+    pub dump_of_source-good : IsTrue (knows_shown view.show design.netlist) → dump_of_source source view ≡ Ok (dump_of_design view horizon design)
+    unfolding dump_of_source
+    dump_of_source-good known = rw (made, known) refl
 
   -- a fault of the run is the answer
   pub simulated-bad : (fault : SimFault) → run_of_source source view.horizon ≡ Err fault → dump_in (simulated source view) ≡ Err fault
   unfolding simulated
   simulated-bad fault bad = rw bad refl
 
-  pub simulated-good : (run : RunView) → run_of_source source view.horizon ≡ Ok run →
-      simulated source view ≡ Ok (dump_of_design view run.horizon run.design, report_of run)
-  unfolding simulated
-  simulated-good run made = rw made refl
+  module _ (run : RunView) (made : run_of_source source view.horizon ≡ Ok run) where
+    -- so is a net that isn't there
+    pub simulated-unknown : {A : Type 0} (shown : A) (fault : SimFault) → if_known view.show run.design.netlist shown ≡ Err fault →
+        dump_in (simulated source view) ≡ Err fault
+    unfolding simulated
+    simulated-unknown shown fault unknown =
+        rw made (ap dump_in (unknown_for view.show run.design.netlist shown (dump_of_design view run.horizon run.design, report_of run) fault unknown))
+
+    pub simulated-good : IsTrue (knows_shown view.show run.design.netlist) →
+        simulated source view ≡ Ok (dump_of_design view run.horizon run.design, report_of run)
+    unfolding simulated
+    simulated-good known = rw (made, known) refl
 
 -- the dump of a run by the kernel is the one that needs no events
 module _ (source : SourceView) (view : View) (text : List ℕ) (report : Report) where
@@ -158,18 +182,23 @@ module _ (source : SourceView) (view : View) (text : List ℕ) (report : Report)
   abbrev answer_to : RunView → List ℕ × Report
   answer_to run = (dump_of_design view run.horizon run.design, report_of run)
 
+  known_text : (known : Bool) (run : RunView) → cond known (Ok (answer_to run)) (Err UnknownNet) ≡ Ok (text, report) →
+      cond known (Ok (dump_of_design view run.horizon run.design)) (Err UnknownNet) ≡ Ok text
+  known_text true run is = ap dump_in is
+  known_text false run is = absurd (cc)
+
   text_is : (ready : ℕ × DesignView) (events : Result (List Event) SimFault) →
-      (events >>= (λ all. Ok (run_with ready all)) >>= λ run. Ok (answer_to run)) ≡ Ok (text, report) →
-      ◌≡◌ {A = Result (List ℕ) SimFault} (Ok (dump_of_design view ready.0 ready.1)) (Ok text)
-  text_is ready (Ok events) is = ap dump_in is
-  text_is ready (Err fault) is = cc
+      (events >>= (λ all. Ok (run_with ready all)) >>= λ run. if_known view.show run.design.netlist (answer_to run)) ≡ Ok (text, report) →
+      if_known view.show (ready.1).netlist (dump_of_design view ready.0 ready.1) ≡ Ok text
+  text_is ready (Ok events) is = known_text (knows_shown view.show (ready.1).netlist) (run_with ready events) is
+  text_is ready (Err fault) is = absurd (cc)
 
   pub dump_of_source-simulated : simulated source view ≡ Ok (text, report) → dump_of_source source view ≡ Ok text
   unfolding simulated run_of_source dump_of_source
   dump_of_source-simulated = go (design_of_source source view.horizon)
     where
       go : (made : Result (ℕ × DesignView) SimFault) →
-          (made >>= (λ ready. picked ready >>= λ events. Ok (run_with ready events)) >>= λ run. Ok (answer_to run)) ≡ Ok (text, report) →
-          (made >>= λ ready. Ok (dump_of_design view ready.0 ready.1)) ≡ Ok text
+          (made >>= (λ ready. picked ready >>= λ events. Ok (run_with ready events)) >>= λ run. if_known view.show run.design.netlist (answer_to run)) ≡ Ok (text, report) →
+          (made >>= λ ready. if_known view.show (ready.1).netlist (dump_of_design view ready.0 ready.1)) ≡ Ok text
       go (Ok ready) is = text_is ready (picked ready) is
       go (Err fault) is = cc

@@ -1,5 +1,5 @@
 -- The timing diagram of a run, step by step.
-use Rattle.std.proofs.Common.{◌≡◌, ℕ, ◌+◌, ◌≤◌, List, Ok, Err, refl, ap, ◌∙◌, arith}
+use Rattle.std.proofs.Common.{◌≡◌, ℕ, ◌+◌, ◌≤◌, IsTrue, List, Ok, Err, refl, ap, ◌∙◌, arith}
 use Rattle.logic3.specs.Wave.{Wave, value_at, wave_of}
 use Rattle.logic3.proofs.CallerLemmas.{value_at-wave_of}
 use Rattle.timing_text.specs.declared.fault.OptionFault.{OptionFault}
@@ -14,8 +14,9 @@ use Rattle.runs.specs.declared.diagram_run.DiagramView.{DiagramView}
 use Rattle.runs.specs.declared.fault.SimFault.{SimFault}
 use Rattle.runs.specs.declared.fault.SimFault.TheVariants.{Setting, Columns}
 use Rattle.runs.specs.Drawn.{diagram_of_design, diagram_of_source, ticks_of_view}
-use Rattle.runs.specs.Source.{SourceView, design_of_source, or_fault, shown_nets, signals_of}
+use Rattle.runs.specs.Source.{SourceView, design_of_source, if_known, knows_shown, or_fault, shown_nets, signals_of}
 use Rattle.runs.specs.Shown.{waves_up_to}
+use Rattle.runs.proofs.Answer.{unknown_for}
 use Rattle.runs.proofs.Signals.{traces-map}
 
 module _ (view : DiagramView) where
@@ -40,10 +41,16 @@ module _ (source : SourceView) (view : DiagramView) where
     unfolding diagram_of_source
     diagram_of_source-bad fault bad = rw (drawn, bad) refl
 
-    pub diagram_of_source-good : (horizon : ℕ) (design : DesignView) → design_of_source source view.horizon ≡ Ok (horizon, design) →
-        diagram_of_source source view ≡ Ok (diagram_of_design view ticks design)
-    unfolding diagram_of_source
-    diagram_of_source-good horizon design made = rw (drawn, made) refl
+    module _ (horizon : ℕ) (design : DesignView) (made : design_of_source source view.horizon ≡ Ok (horizon, design)) where
+      -- so is a net that isn't there
+      pub diagram_of_source-unknown : {A : Type 0} (shown : A) (fault : SimFault) → if_known view.show design.netlist shown ≡ Err fault →
+          diagram_of_source source view ≡ Err fault
+      unfolding diagram_of_source
+      diagram_of_source-unknown shown fault unknown = rw (drawn, made) (unknown_for view.show design.netlist shown _ fault unknown)
+
+      pub diagram_of_source-good : IsTrue (knows_shown view.show design.netlist) → diagram_of_source source view ≡ Ok (diagram_of_design view ticks design)
+      unfolding diagram_of_source
+      diagram_of_source-good known = rw (drawn, made, known) refl
 
 -- what is drawn of the shown nets' waveforms is the answer's text
 pub diagram_of_design-waves : (view : DiagramView) (ticks : Ticks) (horizon : ℕ) (design : DesignView) (nets : List ℕ) (waves : List Wave) →

@@ -28,7 +28,7 @@ ends_showing accepted name net signal shown same =
     let values = ShowsValues-run_of_source accepted.source view run accepted.accepted in
     let found = net_at-named run.design.netlist name net shown.number in
     let named : name_of run.design.circuit net ≡ name = name_is run.design design net (omega (arith, found.0, length-circuit run.design design)) ∙ found.1 in
-    rw (simulated-good accepted.source view run accepted.accepted) (record {
+    rw (simulated-good accepted.source view run accepted.accepted accepted.known) (record {
       rounds = few_rounds run;
       shows = λ tick due.
           subst (λ n. shown_value (dump_of_design view run.horizon run.design) n tick ≡ Some (value_of run.design.circuit net tick)) named

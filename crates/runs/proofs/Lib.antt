@@ -3,6 +3,7 @@ mod Answers
 pub mod CallerLemmas
 mod Checks
 mod Cones
+mod ConesShown
 mod Diagrams
 mod DiffNames
 mod Diffs

@@ -1,8 +1,9 @@
 -- The nets that a dump shows, and their waveforms, are such as the dump asks for.
-use Rattle.std.proofs.Common.{◌≡◌, ◌≢◌, ℕ, ◌+◌, ◌<◌, ◌≤◌, List, [], ◌∷◌, length, map, get_or, All, AllPairs, Contains, refl, sym, ap, subst, ◌∙◌, arith}
-use Rattle.std.specs.List.{range_with_len}
+use Rattle.std.proofs.Common.{◌≡◌, ◌≢◌, ℕ, ◌+◌, ◌<◌, ◌≤◌, true, List, [], ◌∷◌, length, filter_map, map, get_or, Option, None, Some, All, AllPairs, Contains, refl, sym, ap, subst, ◌∙◌, arith}
+use Rattle.std.specs.List.{cons_option, range_with_len}
+use Rattle.std.specs.Option.{is_none}
 use Rattle.std.proofs.lemmas.List.{length-map}
-use Rattle.std.proofs.lemmas.List.Elements.{All-head, All-tail, All-map, Contains-get_or}
+use Rattle.std.proofs.lemmas.List.Elements.{All-cons, All-head, All-nil, All-tail, All-map, Contains-get_or}
 use Rattle.std.proofs.lemmas.Bool.{eqb-true}
 use Rattle.std.proofs.lemmas.Bool.Decides.{Decides-eqb}
 use Rattle.std.proofs.lemmas.Map.Made.{IsDistinct-from_AllPairs}
@@ -14,10 +15,14 @@ use Rattle.logic3.specs.declared.value.Value.TheVariants.{Unknown}
 use Rattle.logic3.specs.declared.change.Change.{Change}
 use Rattle.logic3.specs.Wave.{Wave, wave_of}
 use Rattle.logic3.proofs.CallerLemmas.{Contains-wave_of_iff}
-use Rattle.netlist.specs.Netlist.{NetlistView, IsNetlist}
+use Rattle.netlist.specs.Names.{seen_names}
+use Rattle.netlist.specs.Netlist.{NetlistView, IsNetlist, net_named}
+use Rattle.netlist.proofs.CallerLemmas.{All-distinct, AllPairs-distinct, net_at-named}
 use Rattle.design.specs.Circuit.{Net, Circuit}
 use Rattle.design.specs.Design.{DesignView, IsDesign, untimed}
 use Rattle.design.specs.Equations.{value_of, waves_of}
+use Rattle.fanin_cone.specs.Extract.{first_unknown}
+use Rattle.fanin_cone.proofs.CallerLemmas.{filter_map-known, first_unknown-known}
 use Rattle.runs.specs.declared.view.Show.{Show}
 use Rattle.runs.specs.declared.view.Show.TheVariants as show
 use Rattle.runs.specs.Source.{shown_nets}
@@ -37,9 +42,34 @@ all_apart n i j d less inside =
     let below : j < n = omega (arith, length-range_with_len 0 n) in
     λ same. absurd (omega (arith, get_or-range_with_len 0 n i d (omega arith), get_or-range_with_len 0 n j d below))
 
+-- a name's number is that of a net
+named_below : (netlist : NetlistView) (names : List (List ℕ)) → All (λ net. net < length netlist.nets) (filter_map (net_named netlist) names)
+named_below netlist [] = All-nil (λ net. net < length netlist.nets)
+named_below netlist (name ∷ names) = go (net_named netlist name) refl (named_below netlist names)
+  where
+    IsNet : ℕ → Type 0
+    IsNet net = net < length netlist.nets
+
+    go : (found : Option ℕ) → net_named netlist name ≡ found → All IsNet (filter_map (net_named netlist) names) →
+        All IsNet (cons_option found (filter_map (net_named netlist) names))
+    go None is rest = rest
+    go (Some net) is rest = All-cons IsNet net (filter_map (net_named netlist) names) (net_at-named netlist name net is).0 rest
+
+-- names whose numbers are known, also where netlist and names are written in another way
+module _ (netlist seen : NetlistView) (names listed : List (List ℕ)) (numbers : List ℕ) (same : seen ≡ netlist) (same_names : listed ≡ names)
+    (known : map (net_named seen) listed ≡ map Some numbers) where
+  pub numbers_of_names : numbers ≡ filter_map (net_named netlist) names
+  numbers_of_names = sym (filter_map-known seen listed numbers known) ∙ (λ i. filter_map (net_named (same i)) (same_names i))
+
+  pub none_unknown : is_none (first_unknown netlist names) ≡ true
+  none_unknown =
+      (λ i. is_none (first_unknown (sym same i) (sym same_names i))) ∙ ap is_none (first_unknown-known seen listed numbers known)
+
 nets_below : (kind : Show) (netlist : NetlistView) → IsNetlist netlist → All (λ net. net < length netlist.nets) (shown_nets kind netlist)
 nets_below show.All netlist formed = λ k d inside. all_below (length netlist.nets) k d inside
 nets_below show.Outputs netlist formed = formed.outputs
+nets_below (show.Named names) netlist formed =
+    All-distinct (λ net. net < length netlist.nets) (filter_map (net_named netlist) (seen_names names.items)) (named_below netlist (seen_names names.items))
 
 -- each shown net is a net
 pub All-shown_nets : (kind : Show) (design : DesignView) → IsDesign design → All (λ net. net < length design.circuit) (shown_nets kind design.netlist)
@@ -50,6 +80,7 @@ pub AllPairs-shown_nets : (kind : Show) (design : DesignView) → IsDesign desig
     AllPairs (λ (earlier later : ℕ). earlier ≢ later) (shown_nets kind design.netlist)
 AllPairs-shown_nets show.All design formed = λ i j d less inside. all_apart (length design.netlist.nets) i j d less inside
 AllPairs-shown_nets show.Outputs design formed = formed.netlist.outputs_once
+AllPairs-shown_nets (show.Named names) design formed = AllPairs-distinct (filter_map (net_named design.netlist) (seen_names names.items))
 
 -- nets below a number, each once, are no more
 pub few_below : (n : ℕ) (nets : List ℕ) → All (λ net. net < n) nets → AllPairs (λ (earlier later : ℕ). earlier ≢ later) nets → length nets ≤ n

@@ -29,10 +29,10 @@ use Rattle.design.proofs.CallerLemmas.{IsDesign-design_of}
 use Rattle.vcd_dump.specs.Traces.{name_of}
 use Rattle.vcd_dump.proofs.CallerLemmas.{shown_value-dump_text}
 use Rattle.runs.specs.declared.fault.SimFault.{SimFault}
-use Rattle.runs.specs.declared.fault.SimFault.TheVariants.{Setting}
+use Rattle.runs.specs.declared.fault.SimFault.TheVariants.{Setting, UnknownNet}
 use Rattle.runs.specs.declared.view.View.{View}
 use Rattle.runs.specs.Faults.{sim_of_bench, sim_of_build}
-use Rattle.runs.specs.Source.{SourceView, design_of_source, dump_of_source, or_fault, shown_nets, signals_of, dump_of_design}
+use Rattle.runs.specs.Source.{SourceView, design_of_source, dump_of_source, if_known, knows_shown, or_fault, shown_nets, signals_of, dump_of_design}
 use Rattle.runs.specs.Viewed.{ShowsValues}
 use Rattle.runs.proofs.Nets.{few_below, length-circuit, All-shown_nets, AllPairs-shown_nets}
 
@@ -155,6 +155,11 @@ module _ (source : SourceView) (ticks : ℕ) (ready : ℕ × DesignView) where
       go (Ok done) (Ok horizon) a (Err fault) b e = cc
       go (Ok done) (Ok horizon) a (Ok netlist) b e = made horizon netlist a b e
 
+-- an answer that is given is that of nets that are there
+known_answer : {A : Type 0} (known : Bool) (answer given : A) → cond known (Ok answer) (Err UnknownNet) ≡ Ok given → answer ≡ given
+known_answer true answer given e = cc
+known_answer false answer given e = absurd (cc)
+
 -- the dump of a run shows the values of its design
 pub ShowsValues-design_of_source : (source : SourceView) (view : View) (horizon : ℕ) (design : DesignView) →
     design_of_source source view.horizon ≡ Ok (horizon, design) → ShowsValues view design (dump_of_design view horizon design)
@@ -171,9 +176,10 @@ ShowsValues-dump_of_source source view text e = go (design_of_source source view
   where
     go : (ready : Result (ℕ × DesignView) SimFault) →
         ((horizon : ℕ) (design : DesignView) → ready ≡ Ok (horizon, design) → ShowsValues view design (dump_of_design view horizon design)) →
-        (ready >>= λ good. Ok (dump_of_design view good.0 good.1)) ≡ Ok text → IsOkAnd ready (λ good. ShowsValues view good.1 text)
+        (ready >>= λ good. if_known view.show (good.1).netlist (dump_of_design view good.0 good.1)) ≡ Ok text →
+        IsOkAnd ready (λ good. ShowsValues view good.1 text)
     go (Ok good) shows e =
-        let same : dump_of_design view good.0 good.1 ≡ text = cc in
+        let same = known_answer (knows_shown view.show (good.1).netlist) (dump_of_design view good.0 good.1) text e in
         subst (ShowsValues view good.1) same (shows good.0 good.1 refl)
     go (Err fault) shows e = cc
 

@@ -1,5 +1,5 @@
 -- The timing diagram of a run.
-use Rattle.std.specs.Prelude.{ℕ, List, Result, Ok}
+use Rattle.std.specs.Prelude.{ℕ, List, Result}
 use Rattle.text_lines.specs.Text.{◌>>=◌}
 use Rattle.timing_text.specs.Options.{horizon_of}
 use Rattle.design.specs.Design.{DesignView}
@@ -8,7 +8,7 @@ use Rattle.timing_diagram.specs.Drawing.{drawing}
 use Rattle.runs.specs.declared.diagram_run.DiagramView.{DiagramView}
 use Rattle.runs.specs.declared.fault.SimFault.{SimFault}
 use Rattle.runs.specs.declared.fault.SimFault.TheVariants.{Setting, Columns}
-use Rattle.runs.specs.Source.{SourceView, design_of_source, or_fault, shown_nets, signals_of}
+use Rattle.runs.specs.Source.{SourceView, design_of_source, if_known, or_fault, shown_nets, signals_of}
 
 -- the ticks that are drawn, or the first fault
 unfoldable pub ticks_of_view : DiagramView → Result Ticks SimFault
@@ -25,4 +25,4 @@ unfoldable pub diagram_of_source : SourceView → DiagramView → Result (List �
 diagram_of_source source view = do
   ticks ← ticks_of_view view
   ready ← design_of_source source view.horizon
-  Ok (diagram_of_design view ticks ready.1)
+  if_known view.show (ready.1).netlist (diagram_of_design view ticks ready.1)

@@ -1,5 +1,5 @@
 -- What runs show for one net, whatever else they hold.
-use Rattle.std.specs.Prelude.{◌≡◌, ℕ, ◌+◌, ◌≤◌, List, [], ◌∷◌, Contains, Some, Ok, IsOkAnd}
+use Rattle.std.specs.Prelude.{◌≡◌, ℕ, ◌+◌, ◌≤◌, IsTrue, List, [], ◌∷◌, Contains, Some, Ok, IsOkAnd}
 use Rattle.logic3.specs.declared.value.Value.{Value}
 use Rattle.netlist.specs.Netlist.{net_named}
 use Rattle.cmb_kernel.specs.State.{most_rounds}
@@ -9,14 +9,15 @@ use Rattle.vcd_dump.specs.Shown.{shown_value}
 use Rattle.runs.specs.declared.simulation.Report.{Report}
 use Rattle.runs.specs.declared.view.View.{View}
 use Rattle.runs.specs.Simulated.{RunView, run_of_source, simulated}
-use Rattle.runs.specs.Source.{SourceView, shown_nets}
+use Rattle.runs.specs.Source.{SourceView, knows_shown, shown_nets}
 
--- an input that is accepted, and the run that it makes
+-- an input that is accepted, and the run that it makes, in which each net is that is to be shown
 pub record AcceptedRun : Type 0 where
   pub source : SourceView
   pub view : View
   pub run : RunView
   pub accepted : run_of_source source view.horizon ≡ Ok run
+  pub known : IsTrue (knows_shown view.show run.design.netlist)
 
 -- the net of this name has this number, and is shown
 pub record IsShown (run : AcceptedRun) (name : List ℕ) (net : ℕ) : Type 0 where

@@ -1,3 +1,4 @@
+pub mod Alone
 pub mod Checked
 pub mod ConeText
 pub mod Diffs

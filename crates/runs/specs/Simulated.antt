@@ -13,7 +13,7 @@ use Rattle.runs.specs.declared.simulation.Report.{Report}
 use Rattle.runs.specs.declared.view.View.{View}
 use Rattle.runs.specs.Events.{events_of_picks}
 use Rattle.runs.specs.Faults.{sim_of_schedule}
-use Rattle.runs.specs.Source.{SourceView, design_of_source, or_fault, dump_of_design}
+use Rattle.runs.specs.Source.{SourceView, design_of_source, if_known, or_fault, dump_of_design}
 
 -- a run: its horizon, its design, and the events that come before it completes
 pub record RunView : Type 0 where
@@ -49,7 +49,7 @@ report_of run =
 unfoldable pub simulated : SourceView → View → Result (List ℕ × Report) SimFault
 simulated source view = do
   run ← run_of_source source view.horizon
-  Ok (dump_of_design view run.horizon run.design, report_of run)
+  if_known view.show run.design.netlist (dump_of_design view run.horizon run.design, report_of run)
 
 -- the dump of such an answer
 abbrev pub dump_in : {F : Type 0} → Result (List ℕ × Report) F → Result (List ℕ) F

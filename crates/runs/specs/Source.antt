@@ -1,24 +1,27 @@
 -- Whole runs: the answer to texts and settings, composed of the definitions below.
-use Rattle.std.specs.Prelude.{ℕ, ◌≤◌, List, map, length, Result, Ok, IsOk}
+use Rattle.std.specs.Prelude.{ℕ, ◌≤◌, Bool, true, if◌then◌else◌, List, filter_map, map, length, is_none, Result, Ok, Err, IsOk}
 use Rattle.std.specs.List.{range_with_len}
 use Rattle.std.specs.Result.{result_map_both}
 use Rattle.logic3.specs.declared.value.Value.{Value}
 use Rattle.text_lines.specs.Text.{◌>>=◌, longest_text}
-use Rattle.netlist.specs.Netlist.{NetlistView}
+use Rattle.netlist.specs.Names.{seen_names}
+use Rattle.netlist.specs.Netlist.{NetlistView, net_named}
+use Rattle.netlist.specs.Repeats.{distinct}
 use Rattle.bench_text.specs.NetlistOf.{netlist_of}
 use Rattle.timing_text.specs.Options.{options_of, horizon_of}
 use Rattle.design.specs.Circuit.{Circuit}
 use Rattle.design.specs.Design.{DesignView}
 use Rattle.design.specs.Build.{design_of}
 use Rattle.design.specs.Equations.{value_of}
+use Rattle.fanin_cone.specs.Extract.{first_unknown}
 use Rattle.vcd_dump.specs.Dump.{dump_text}
 use Rattle.vcd_dump.specs.Traces.{name_of}
 use Rattle.runs.specs.declared.source.Source.{Source}
 use Rattle.runs.specs.declared.view.View.{View}
 use Rattle.runs.specs.declared.view.Show.{Show}
-use Rattle.runs.specs.declared.view.Show.TheVariants.{All, Outputs}
+use Rattle.runs.specs.declared.view.Show.TheVariants.{All, Outputs, Named}
 use Rattle.runs.specs.declared.fault.SimFault.{SimFault}
-use Rattle.runs.specs.declared.fault.SimFault.TheVariants.{Setting}
+use Rattle.runs.specs.declared.fault.SimFault.TheVariants.{Setting, UnknownNet}
 use Rattle.runs.specs.Faults.{sim_of_bench, sim_of_build}
 use Rattle.runs.specs.Events.{PicksView, seen_picks}
 
@@ -41,10 +44,21 @@ seen_source s = record {
   picks = seen_picks s.picks;
 }
 
--- the numbers of the nets that a dump shows, in its order
+-- the numbers of the nets that a dump shows, in its order; nets that are named are shown in the order of the names, none twice
 abbrev pub shown_nets : Show → NetlistView → List ℕ
 shown_nets All netlist = range_with_len 0 (length netlist.nets)
 shown_nets Outputs netlist = netlist.outputs
+shown_nets (Named names) netlist = distinct (filter_map (net_named netlist) (seen_names names.items))
+
+-- each name of a net that is to be shown is that of a net
+abbrev pub knows_shown : Show → NetlistView → Bool
+knows_shown All netlist = true
+knows_shown Outputs netlist = true
+knows_shown (Named names) netlist = is_none (first_unknown netlist (seen_names names.items))
+
+-- an answer, unless a net that is to be shown isn't there
+abbrev pub if_known : {A : Type 0} → Show → NetlistView → A → Result A SimFault
+if_known show netlist answer = if knows_shown show netlist then Ok answer else Err UnknownNet
 
 -- the names of nets, each with what the net shows at each tick
 abbrev pub signals_of : Circuit → List ℕ → List (List ℕ × (ℕ → Value))
@@ -77,4 +91,4 @@ design_of_source source ticks = do
 unfoldable pub dump_of_source : SourceView → View → Result (List ℕ) SimFault
 dump_of_source source view = do
   ready ← design_of_source source view.horizon
-  Ok (dump_of_design view ready.0 ready.1)
+  if_known view.show (ready.1).netlist (dump_of_design view ready.0 ready.1)

@@ -1,10 +1,11 @@
 //! The timing diagram of a run.
 ghost use Rattle.std.specs.Prelude.{◌≡◌, ◌≢◌, ◌≤◌, Ok, Err, IfErr, IfOk, IsOkAnd, OnOk};
 ghost use Rattle.std.specs.Io.KnownBytes.{Appends};
+ghost use Rattle.design.specs.Design.{IsDesign};
 ghost use Rattle.timing_diagram.specs.Columns.{IsDrawable};
 ghost use Rattle.runs.specs.Drawn.{diagram_of_design, diagram_of_source, ticks_of_view};
 ghost use Rattle.runs.specs.Ends.{BreaksOff, IsRefusal, RunEndsBy};
-ghost use Rattle.runs.specs.Source.{seen_source, MayWantMemory};
+ghost use Rattle.runs.specs.Source.{seen_source, shown_nets, MayWantMemory};
 ghost use Rattle.runs.specs.declared.fault.SimFault.TheVariants.{Memory};
 
 use crate::dumping::shown_nets;
@@ -20,10 +21,10 @@ use timing_diagram::{Columns, Form, draw};
 use timing_text::Horizon;
 
 /// What a timing diagram shows of a run.
-#[derive(Clone, Copy, Debug)]
-pub struct DiagramView {
+#[derive(Debug, Drop)]
+pub struct DiagramView<'a> {
     /// Which nets it shows, from top to bottom.
-    pub show: Show,
+    pub show: Show<'a>,
     /// The last tick of the run: at most 10,000,000.
     pub horizon: u64,
     /// The first tick that is drawn.
@@ -40,13 +41,14 @@ pub struct DiagramView {
 /// A column shows what the equations give the net at the column's ticks.
 ///
 /// # Errors
-/// The horizon and the columns are looked at first, then the settings and the texts; a refusal comes
+/// The horizon and the columns are looked at first, then the settings and the texts, and then the names
+/// of nets that are to be shown ([`SimFault::UnknownNet`]); a refusal comes
 /// before the first byte is written, and the diagram is made whole before that. After a failed write a
 /// first part of it went out.
 pub fn diagram<W: Write>(
     alloc: Global,
     source: &Source<'_>,
-    view: &DiagramView,
+    view: &DiagramView<'_>,
     out: &mut W,
 ) -> Result<(), SimFault>
     ensures ok { OnOk result (IsOkAnd (diagram_of_source (seen_source source.now) view.now)
@@ -57,11 +59,12 @@ pub fn diagram<W: Write>(
 {
     let columns = columns_of(view)?;
     let (design, horizon) = prepare(alloc, source, view.horizon)?;
-    draw_design(alloc, &design, horizon, view, columns, out)
+    let nets = shown_nets(alloc, &design, &view.show)?;
+    draw_design(alloc, &design, horizon, view, nets.as_slice(), columns, out)
 }
 
 /// The columns of a diagram.
-fn columns_of(view: &DiagramView) -> Result<Columns, SimFault>
+fn columns_of(view: &DiagramView<'_>) -> Result<Columns, SimFault>
     ensures ok { IfOk result (λ ticks. ticks_of_view view.now ≡ Ok ticks) }
     ensures drawable { IfOk result IsDrawable }
     ensures within { IfOk result (λ ticks. ticks.to ≤ view.now.horizon) }
@@ -72,15 +75,18 @@ fn columns_of(view: &DiagramView) -> Result<Columns, SimFault>
     Ok(Columns::new(view.from, view.to, view.step, horizon)?)
 }
 
-/// Runs a design by the plain engine, and draws it.
+/// Runs a design by the plain engine, and draws these nets, which are those that are shown.
 fn draw_design<W: Write>(
     alloc: Global,
     design: &Design,
     horizon: Horizon,
-    view: &DiagramView,
+    view: &DiagramView<'_>,
+    nets: &[u32],
     columns: Columns,
     out: &mut W,
 ) -> Result<(), SimFault>
+    requires nets { nets.now ≡ shown_nets view.now.show design.now.netlist }
+    requires well_formed { IsDesign design.now }
     requires drawable { IsDrawable columns }
     requires within { columns.to ≤ horizon }
     ensures ok { OnOk result (Appends (W.contents out.old) (W.contents out.new)
@@ -88,14 +94,12 @@ fn draw_design<W: Write>(
     ensures err { IfErr result (BreaksOff (W.contents out.old) (W.contents out.new)
         (diagram_of_design view.now columns design.now)) }
 {
-    let nets = shown_nets(alloc, design, view.show)?;
-    let shown = nets.as_slice();
-    let waves = shown_waves(alloc, design, horizon, view.show, shown)?;
+    let waves = shown_waves(alloc, design, horizon, &view.show, nets)?;
     draw(
         alloc,
         out,
         design,
-        shown,
+        nets,
         waves.as_slice(),
         columns,
         view.form,

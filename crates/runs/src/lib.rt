@@ -1,6 +1,7 @@
 //! Whole runs: from the texts of a circuit to the dump, and what is compared of two runs.
 #![tactic(auto)]
 
+mod alone;
 mod check_run;
 mod cone_run;
 mod diagram_run;

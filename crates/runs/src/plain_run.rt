@@ -25,12 +25,13 @@ use timing_text::Horizon;
 ///
 /// # Errors
 /// A refusal of the settings or of a text comes before the first byte is written; the settings and
-/// the length of the netlist's text are looked at before any memory is taken. After a failed write
+/// the length of the netlist's text are looked at before any memory is taken. Behind them comes
+/// [`SimFault::UnknownNet`], where no net has a name that is to be shown. After a failed write
 /// or a want of memory a first part of the dump went out, which may be nothing.
 pub fn plain<W: Write>(
     alloc: Global,
     source: &Source<'_>,
-    view: &View,
+    view: &View<'_>,
     out: &mut W,
 ) -> Result<(), SimFault>
     ensures ok { OnOk result (IsOkAnd (dump_of_source (seen_source source.now) view.now)
@@ -43,26 +44,28 @@ pub fn plain<W: Write>(
     ensures memory { result ≡ Err Memory → MayWantMemory (seen_source source.now) view.now.horizon }
 {
     let (design, horizon) = prepare(alloc, source, view.horizon)?;
-    dump_by_plain_engine(alloc, &design, horizon, view, out)
+    let nets = shown_nets(alloc, &design, &view.show)?;
+    dump_by_plain_engine(alloc, &design, horizon, view, nets.as_slice(), out)
 }
 
-/// Runs a design by the plain engine, and writes the dump.
+/// Runs a design by the plain engine, and writes the dump of these nets, which are those that are shown.
 fn dump_by_plain_engine<W: Write>(
     alloc: Global,
     design: &Design,
     horizon: Horizon,
-    view: &View,
+    view: &View<'_>,
+    nets: &[u32],
     out: &mut W,
 ) -> Result<(), SimFault>
+    requires nets { nets.now ≡ shown_nets view.now.show design.now.netlist }
+    requires well_formed { IsDesign design.now }
     ensures ok { OnOk result (Appends (W.contents out.old) (W.contents out.new)
         (dump_of_design view.now horizon design.now)) }
     ensures err { IfErr result (BreaksOff (W.contents out.old) (W.contents out.new)
         (dump_of_design view.now horizon design.now)) }
 {
-    let nets = shown_nets(alloc, design, view.show)?;
-    let waves = shown_waves(alloc, design, horizon, view.show, nets.as_slice())?;
-    let (nets, waves) = (nets.as_slice(), waves.as_slice());
-    write_dump(alloc, design, horizon, view, nets, waves, out)
+    let waves = shown_waves(alloc, design, horizon, &view.show, nets)?;
+    write_dump(alloc, design, horizon, view, nets, waves.as_slice(), out)
 }
 
 /// The waveforms of the nets that are shown.
@@ -70,17 +73,17 @@ pub(crate) fn shown_waves(
     alloc: Global,
     design: &Design,
     horizon: Horizon,
-    show: Show,
+    show: &Show<'_>,
     nets: &[u32],
 ) -> Result<Vec<Waveform>, AllocError>
-    requires nets { nets.now ≡ shown_nets show design.now.netlist }
+    requires nets { nets.now ≡ shown_nets show.now design.now.netlist }
     requires well_formed { IsDesign design.now }
     ensures { IfOk result (λ waves. waves.items ≡ waves_up_to design.now.circuit horizon nets.now) }
 {
     let waves = plain_waves(alloc, design, horizon)?;
     match show {
         Show::All => Ok(waves),
-        Show::Outputs => copies(alloc, waves.as_slice(), nets),
+        Show::Outputs | Show::Named(_) => copies(alloc, waves.as_slice(), nets),
     }
 }
 

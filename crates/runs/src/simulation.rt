@@ -12,6 +12,7 @@ ghost use Rattle.runs.specs.Simulated.{IsKnown, dump_in, report_of, reported, ru
 ghost use Rattle.runs.specs.Viewed.{ShowsValues};
 ghost use Rattle.runs.specs.declared.fault.SimFault.TheVariants.{Memory};
 
+use crate::dumping::shown_nets;
 use crate::fault::SimFault;
 use crate::pace::Pace;
 use crate::preparation::{PreparedRun, prepare_run};
@@ -47,12 +48,13 @@ pub struct Report {
 ///
 /// # Errors
 /// A refusal of the settings or of a text comes before the first byte is written; the settings and
-/// the length of the netlist's text are looked at before any memory is taken. After a failed write
+/// the length of the netlist's text are looked at before any memory is taken. Behind them comes
+/// [`SimFault::UnknownNet`], where no net has a name that is to be shown. After a failed write
 /// or a want of memory a first part of the dump went out, which may be nothing.
 pub fn simulate<W: Write>(
     alloc: Global,
     source: &Source<'_>,
-    view: &View,
+    view: &View<'_>,
     out: &mut W,
 ) -> Result<Report, SimFault>
     ensures ok { IfOk result (λ report. IsOkAnd (simulated (seen_source source.now) view.now)
@@ -68,5 +70,13 @@ pub fn simulate<W: Write>(
     ensures memory { result ≡ Err Memory → MayWantMemory (seen_source source.now) view.now.horizon }
 {
     let run = prepare_run(alloc, source, view.horizon)?;
-    dump_by_kernel(alloc, &run, view, &mut Pace::Rounds, out)
+    let nets = shown_nets(alloc, &run.design, &view.show)?;
+    dump_by_kernel(
+        alloc,
+        &run,
+        nets.as_slice(),
+        view.unit,
+        &mut Pace::Rounds,
+        out,
+    )
 }

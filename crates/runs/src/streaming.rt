@@ -8,54 +8,44 @@ ghost use Rattle.cmb_kernel.specs.Sound.{IsSound};
 ghost use Rattle.cmb_events.specs.Schedule.{most_events, Exists};
 ghost use Rattle.vcd_dump.specs.Dump.{dump_text};
 ghost use Rattle.vcd_dump.specs.Spans.{parts_of, span_text, stream_at};
+ghost use Rattle.runs.specs.Alone.{CanShow};
 ghost use Rattle.runs.specs.Drained.{EachFloor, DrainsTo, IsRest, values_of};
 ghost use Rattle.runs.specs.Ends.{BreaksOff};
 ghost use Rattle.runs.specs.Paces.{Suits};
 ghost use Rattle.runs.specs.Simulated.{report_of, reported, seen_run};
-ghost use Rattle.runs.specs.Source.{dump_of_design, signals_of};
+ghost use Rattle.runs.specs.Source.{signals_of};
 ghost use Rattle.runs.specs.declared.pace.Pace.TheVariants.{Rounds};
 
 use crate::draining::{forget_below, give_parts};
-use crate::dumping::shown_nets;
 use crate::fault::SimFault;
 use crate::hiding::hidden_nets;
 use crate::pace::Pace;
 use crate::preparation::PreparedRun;
 use crate::simulation::{Report, RunKernel};
-use crate::view::View;
 use std::alloc::Global;
 use std::io::Write;
 use vcd_dump::{Stream, TimeUnit};
 
-/// Runs to the end by the kernel, and writes the dump. Answers the report, which is that of rounds where
-/// the run goes on by these.
+/// Runs to the end by the kernel, and writes the dump of these nets. Answers the report, which is that of
+/// rounds where the run goes on by these.
 pub(crate) fn dump_by_kernel<W: Write>(
     alloc: Global,
     run: &PreparedRun,
-    view: &View,
+    nets: &[u32],
+    unit: TimeUnit,
     pace: &mut Pace,
     out: &mut W,
 ) -> Result<Report, SimFault>
     requires suits { Suits pace.old run.now.design.circuit (run.now.horizon + 1) }
-    requires exist { All (Exists run.now.design.circuit) run.now.schedule }
-    requires few { length run.now.schedule ≤ most_events }
+    requires can { CanShow run.now nets.now }
     ensures report { pace.old ≡ Rounds → IfOk result (λ report. report ≡ report_of (seen_run run.now)) }
     ensures ok { OnOk result (Appends (W.contents out.old) (W.contents out.new)
-        (dump_of_design view.now run.now.horizon run.now.design)) }
+        (dump_text unit run.now.horizon (signals_of run.now.design.circuit nets.now))) }
     ensures err { IfErr result (BreaksOff (W.contents out.old) (W.contents out.new)
-        (dump_of_design view.now run.now.horizon run.now.design)) }
+        (dump_text unit run.now.horizon (signals_of run.now.design.circuit nets.now))) }
 {
-    let nets = shown_nets(alloc, &run.design, view.show)?;
     let mut kernel = RunKernel::new(alloc, &run.design, run.horizon)?;
-    stream_run(
-        alloc,
-        &mut kernel,
-        run,
-        view.unit,
-        nets.as_slice(),
-        pace,
-        out,
-    )
+    stream_run(alloc, &mut kernel, run, unit, nets, pace, out)
 }
 
 /// Applies the run's events, and then runs to the end and writes the dump of these nets.

@@ -4,13 +4,17 @@ ghost use Rattle.std.specs.Io.KnownBytes.{Appends};
 ghost use Rattle.cmb_events.specs.Schedule.{most_events, Exists};
 ghost use Rattle.cmb_kernel.specs.State.{IsUndrained};
 ghost use Rattle.cmb_kernel.specs.Sound.{IsSound};
+ghost use Rattle.vcd_dump.specs.Dump.{dump_text};
+ghost use Rattle.runs.specs.Alone.{CanShow};
 ghost use Rattle.runs.specs.Ends.{BreaksOff, RunEndsBy};
 ghost use Rattle.runs.specs.Paces.{Suits};
 ghost use Rattle.runs.specs.Simulated.{IsKnown, dump_in, run_of_source, simulated};
-ghost use Rattle.runs.specs.Source.{dump_of_design, seen_source, MayWantMemory};
+ghost use Rattle.runs.specs.Source.{seen_source, signals_of, MayWantMemory};
 ghost use Rattle.runs.specs.Viewed.{ShowsValues};
 ghost use Rattle.runs.specs.declared.fault.SimFault.TheVariants.{Memory};
 
+use crate::alone::cones_of;
+use crate::dumping::shown_nets;
 use crate::fault::SimFault;
 use crate::pace::Pace;
 use crate::preparation::{PreparedRun, prepare_run};
@@ -21,20 +25,23 @@ use crate::view::View;
 use cmb_kernel::KernelFault;
 use std::alloc::Global;
 use std::io::Write;
+use vcd_dump::TimeUnit;
 
 /// Runs a source by the kernel, which applies the events that are picked and then picks its own: it
 /// sweeps through the nets in the order in which values flow, some ticks at a time. After each sweep
-/// what every net knows goes out and is forgotten.
+/// what every net knows goes out and is forgotten. Where the shown nets don't hang on all others, the
+/// nets in their fan-in cones alone are run, without the events that are picked.
 ///
-/// The text is that of [`simulate`](crate::simulate), since no order of events shows in it; it takes
-/// far fewer events, and memory for what is in flight in a window of ticks alone.
+/// The text is that of [`simulate`](crate::simulate), since no order of events shows in it, and nothing
+/// outside of cones; it takes far fewer events, and memory for what is in flight in a window of ticks
+/// alone.
 ///
 /// # Errors
 /// As [`simulate`](crate::simulate).
 pub fn sweep<W: Write>(
     alloc: Global,
     source: &Source<'_>,
-    view: &View,
+    view: &View<'_>,
     out: &mut W,
 ) -> Result<(), SimFault>
     ensures ok { OnOk result (IsOkAnd (dump_in (simulated (seen_source source.now) view.now))
@@ -47,25 +54,27 @@ pub fn sweep<W: Write>(
     ensures memory { result ≡ Err Memory → MayWantMemory (seen_source source.now) view.now.horizon }
 {
     let run = prepare_run(alloc, source, view.horizon)?;
-    dump_by_sweeps(alloc, &run, view, out)
+    let nets = shown_nets(alloc, &run.design, &view.show)?;
+    let shown = cones_of(alloc, run, nets)?;
+    dump_by_sweeps(alloc, &shown.run, shown.nets.as_slice(), view.unit, out)
 }
 
-/// Runs to the end in sweeps, and writes the dump.
+/// Runs to the end in sweeps, and writes the dump of these nets.
 fn dump_by_sweeps<W: Write>(
     alloc: Global,
     run: &PreparedRun,
-    view: &View,
+    nets: &[u32],
+    unit: TimeUnit,
     out: &mut W,
 ) -> Result<(), SimFault>
-    requires exist { All (Exists run.now.design.circuit) run.now.schedule }
-    requires few { length run.now.schedule ≤ most_events }
+    requires can { CanShow run.now nets.now }
     ensures ok { OnOk result (Appends (W.contents out.old) (W.contents out.new)
-        (dump_of_design view.now run.now.horizon run.now.design)) }
+        (dump_text unit run.now.horizon (signals_of run.now.design.circuit nets.now))) }
     ensures err { IfErr result (BreaksOff (W.contents out.old) (W.contents out.new)
-        (dump_of_design view.now run.now.horizon run.now.design)) }
+        (dump_text unit run.now.horizon (signals_of run.now.design.circuit nets.now))) }
 {
     let mut pace = Pace::sweeps(alloc, &run.design, run.horizon)?;
-    dump_by_kernel(alloc, run, view, &mut pace, out)?;
+    dump_by_kernel(alloc, run, nets, unit, &mut pace, out)?;
     Ok(())
 }
 

@@ -16,6 +16,27 @@ pub const SLOW_DUMP: &[u8] =
 pub const EDGE_DUMP: &[u8] =
     b"$version nullsim 1 $end\n$timescale 1 ns $end\n$scope module top $end\n$var wire 1 ! a $end\n$var wire 1 \" b $end\n$var wire 1 # y $end\n$upscope $end\n$enddefinitions $end\n#0\n$dumpvars\n0!\nx\"\nx#\n$end\n#1\n0\"\n#2\n0#\n#5\n1!\n#6\n1\"\n1#\n#7\n0#\n#8\n";
 
+/// Of the gate and the input of that circuit alone, in this order.
+pub const NAMED_DUMP: &[u8] =
+    b"$version nullsim 1 $end\n$timescale 1 ns $end\n$scope module top $end\n$var wire 1 ! y $end\n$var wire 1 \" a $end\n$upscope $end\n$enddefinitions $end\n#0\n$dumpvars\nx!\n0\"\n$end\n#2\n0!\n#5\n1\"\n#6\n1!\n#7\n0!\n#8\n";
+
+/// Of its input alone.
+pub const INPUT_DUMP: &[u8] =
+    b"$version nullsim 1 $end\n$timescale 1 ns $end\n$scope module top $end\n$var wire 1 ! a $end\n$upscope $end\n$enddefinitions $end\n#0\n$dumpvars\n0!\n$end\n#5\n1!\n#8\n";
+
+/// Of none of its nets.
+pub const NO_NETS_DUMP: &[u8] =
+    b"$version nullsim 1 $end\n$timescale 1 ns $end\n$scope module top $end\n$upscope $end\n$enddefinitions $end\n#0\n$dumpvars\n$end\n#8\n";
+
+/// Of an inverter whose input is called `all` and whose gate is called `outputs`, driven by 0, and by 1 from
+/// tick 3 on, up to tick 5: the gate and then the input.
+pub const WORDS_DUMP: &[u8] =
+    b"$version nullsim 1 $end\n$timescale 1 ns $end\n$scope module top $end\n$var wire 1 ! outputs $end\n$var wire 1 \" all $end\n$upscope $end\n$enddefinitions $end\n#0\n$dumpvars\nx!\n0\"\n$end\n#1\n1!\n#3\n1\"\n#4\n0!\n#5\n";
+
+/// Of its input alone.
+pub const WORD_DUMP: &[u8] =
+    b"$version nullsim 1 $end\n$timescale 1 ns $end\n$scope module top $end\n$var wire 1 ! all $end\n$upscope $end\n$enddefinitions $end\n#0\n$dumpvars\n0!\n$end\n#3\n1!\n#5\n";
+
 /// Of a flip-flop of period 4 whose pin is 1 at tick 4 alone, up to tick 9.
 pub const SAMPLER_DUMP: &[u8] =
     b"$version nullsim 1 $end\n$timescale 1 ns $end\n$scope module top $end\n$var wire 1 ! d $end\n$var wire 1 \" q $end\n$upscope $end\n$enddefinitions $end\n#0\n$dumpvars\nx!\nx\"\n$end\n#4\n1!\n#5\n0!\n1\"\n#9\n0\"\n";

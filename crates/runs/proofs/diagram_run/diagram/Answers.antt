@@ -2,7 +2,7 @@ use Rattle.std.proofs.Common.{arith}
 use Rattle.std.proofs.lemmas.Result.{err_from_is_err_and, IfErr-weaker}
 use Rattle.runs.specs.Drawn.{ticks_of_view}
 use Rattle.runs.specs.Source.{design_of_source, seen_source}
-use Rattle.runs.proofs.Diagrams.{diagram_of_source-bad_ticks, diagram_of_source-bad, diagram_of_source-good}
+use Rattle.runs.proofs.Diagrams.{diagram_of_source-bad_ticks, diagram_of_source-bad, diagram_of_source-good, diagram_of_source-unknown}
 use Rattle.runs.proofs.Ends.{RunEndsBy-BreaksOff, RunEndsBy-IsRefusal}
 use Rattle.runs.proofs.Viewed.{IsReady-design_of_source}
 use Rattle.runs.proofs.diagram_run.diagram.Goals as goal
@@ -21,6 +21,12 @@ returns-in_err-design-clause-err g c =
     rw (p.1, p.2) (RunEndsBy-IsRefusal (design_of_source source view.horizon) _ _ _
     (diagram_of_source-bad source view _ c.in_ok-columns.ensures.ok _) c.in_err-design.ensures.err)
 
+pub returns-in_err-nets-clause-err : goal.returns-in_err-nets-clause-err
+returns-in_err-nets-clause-err g c =
+    let p = err_from_is_err_and c.from_residual-in_err-nets.result c.from_residual-in_err-nets.ensures.1 in
+    rw (p.1, p.2) (RunEndsBy-IsRefusal _ _ _ _
+    (diagram_of_source-unknown (seen_source c.args.source.now) c.args.view.now _ c.in_ok-columns.ensures.ok _ _ c.in_ok-design.ensures.ok _ _) c.in_err-nets.ensures.err)
+
 pub draw_design-requires-clause-within : goal.draw_design-requires-clause-within
 draw_design-requires-clause-within g c =
     let ready = IsReady-design_of_source (seen_source c.args.source.now) c.args.view.now.horizon _ c.in_ok-design.ensures.ok in
@@ -29,9 +35,9 @@ draw_design-requires-clause-within g c =
 
 pub returns-clause-ok : goal.returns-clause-ok
 returns-clause-ok g c =
-    rw (diagram_of_source-good (seen_source c.args.source.now) c.args.view.now _ c.in_ok-columns.ensures.ok _ _ c.in_ok-design.ensures.ok) c.draw_design.ensures.ok
+    rw (diagram_of_source-good (seen_source c.args.source.now) c.args.view.now _ c.in_ok-columns.ensures.ok _ _ c.in_ok-design.ensures.ok c.in_ok-nets.ensures.known) c.draw_design.ensures.ok
 
 pub returns-clause-err : goal.returns-clause-err
 returns-clause-err g c =
-    rw (diagram_of_source-good (seen_source c.args.source.now) c.args.view.now _ c.in_ok-columns.ensures.ok _ _ c.in_ok-design.ensures.ok)
+    rw (diagram_of_source-good (seen_source c.args.source.now) c.args.view.now _ c.in_ok-columns.ensures.ok _ _ c.in_ok-design.ensures.ok c.in_ok-nets.ensures.known)
     (IfErr-weaker c.draw_design.result _ _ (λ fault. RunEndsBy-BreaksOff _ _ _ fault) c.draw_design.ensures.err)

@@ -1,6 +1,6 @@
 use Rattle.std.proofs.lemmas.Result.{err_from_is_err_and, on_ok_weaker, IfErr-weaker}
 use Rattle.runs.specs.Source.{design_of_source, seen_source}
-use Rattle.runs.proofs.Answer.{dump_of_source-bad, dump_of_source-good}
+use Rattle.runs.proofs.Answer.{dump_of_source-bad, dump_of_source-good, dump_of_source-unknown}
 use Rattle.runs.proofs.Ends.{RunEndsBy-BreaksOff, RunEndsBy-IsRefusal}
 use Rattle.runs.proofs.Viewed.{IfSome-appended, ShowsValues-design_of_source}
 use Rattle.runs.proofs.plain_run.plain.Goals as goal
@@ -12,9 +12,14 @@ returns-in_err-design-clause-err g c =
     let view = c.args.view.now in
     rw (p.1, p.2) (RunEndsBy-IsRefusal (design_of_source source view.horizon) _ _ _ (dump_of_source-bad source view _) c.in_err-design.ensures.err)
 
+pub returns-in_err-nets-clause-err : goal.returns-in_err-nets-clause-err
+returns-in_err-nets-clause-err g c =
+    let p = err_from_is_err_and c.from_residual-in_err-nets.result c.from_residual-in_err-nets.ensures.1 in
+    rw (p.1, p.2) (RunEndsBy-IsRefusal _ _ _ _ (dump_of_source-unknown (seen_source c.args.source.now) c.args.view.now _ _ c.in_ok-design.ensures.ok _ _) c.in_err-nets.ensures.err)
+
 pub returns-clause-ok : goal.returns-clause-ok
 returns-clause-ok g c =
-    rw (dump_of_source-good (seen_source c.args.source.now) c.args.view.now _ _ c.in_ok-design.ensures.ok) c.dump_by_plain_engine.ensures.ok
+    rw (dump_of_source-good (seen_source c.args.source.now) c.args.view.now _ _ c.in_ok-design.ensures.ok c.in_ok-nets.ensures.known) c.dump_by_plain_engine.ensures.ok
 
 pub returns-clause-shows : goal.returns-clause-shows
 returns-clause-shows g c =
@@ -26,5 +31,5 @@ returns-clause-shows g c =
 
 pub returns-clause-err : goal.returns-clause-err
 returns-clause-err g c =
-    rw (dump_of_source-good (seen_source c.args.source.now) c.args.view.now _ _ c.in_ok-design.ensures.ok)
+    rw (dump_of_source-good (seen_source c.args.source.now) c.args.view.now _ _ c.in_ok-design.ensures.ok c.in_ok-nets.ensures.known)
     (IfErr-weaker c.dump_by_plain_engine.result _ _ (λ fault. RunEndsBy-BreaksOff _ _ _ fault) c.dump_by_plain_engine.ensures.err)

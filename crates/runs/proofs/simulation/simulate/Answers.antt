@@ -1,12 +1,16 @@
-use Rattle.std.proofs.Common.{◌+◌, ◌≤◌, Result, Ok, Err, IfOk, OnOk, refl, sym, subst}
+use Rattle.std.proofs.Common.{◌+◌, ◌≤◌, Result, Ok, Err, IfOk, OnOk, refl, sym, ◌∙◌, subst}
+use Rattle.std.specs.Io.KnownBytes.{Appends}
 use Rattle.std.proofs.lemmas.Result.{err_from_is_err_and, IfErr-weaker, IfOk-weaker, on_ok_weaker}
 use Rattle.cmb_kernel.specs.State.{most_rounds}
 use Rattle.runs.specs.declared.simulation.Report.{Report}
 use Rattle.runs.specs.Source.{seen_source}
 use Rattle.runs.specs.Simulated.{run_of_source, seen_run}
-use Rattle.runs.proofs.Answer.{simulated-bad, simulated-good}
+use Rattle.runs.specs.Ends.{BreaksOff}
+use Rattle.runs.proofs.Answer.{simulated-bad, simulated-good, simulated-unknown}
+use Rattle.runs.proofs.ConesShown.{CanShow-shown}
 use Rattle.runs.proofs.Ends.{RunEndsBy-BreaksOff, RunEndsBy-IsRefusal}
 use Rattle.runs.proofs.Runs.{ShowsValues-run_of_source}
+use Rattle.runs.proofs.Signals.{dump_of_design-nets}
 use Rattle.runs.proofs.Simulated.{few_rounds}
 use Rattle.runs.proofs.Viewed.{IfSome-appended}
 use Rattle.runs.proofs.simulation.simulate.Goals as goal
@@ -18,6 +22,16 @@ returns-in_err-run-clause-err g c =
     let view = c.args.view.now in
     rw (p.1, p.2) (RunEndsBy-IsRefusal (run_of_source source view.horizon) _ _ _ (simulated-bad source view _) c.in_err-run.ensures.err)
 
+pub returns-in_err-nets-clause-err : goal.returns-in_err-nets-clause-err
+returns-in_err-nets-clause-err g c =
+    let p = err_from_is_err_and c.from_residual-in_err-nets.result c.from_residual-in_err-nets.ensures.1 in
+    rw (p.1, p.2) (RunEndsBy-IsRefusal _ _ _ _ (simulated-unknown (seen_source c.args.source.now) c.args.view.now _ c.in_ok-run.ensures.ok _ _) c.in_err-nets.ensures.err)
+
+pub dump_by_kernel-requires-clause-can : goal.dump_by_kernel-requires-clause-can
+dump_by_kernel-requires-clause-can g c =
+    CanShow-shown c.args.view.now.show c.in_ok-run.run' c.as_slice.result.now c.shown_nets.ensures.well_formed c.in_ok-run.ensures.exist c.in_ok-run.ensures.few
+    (c.as_slice.ensures.value ∙ c.in_ok-nets.ensures.nets)
+
 -- what holds of a result, and of its value
 both : {A F : Type 0} (P : Type 0) (Q : A → Type 0) (result : Result A F) → OnOk result P → IfOk result Q → IfOk result (λ value. P × Q value)
 both P Q (Ok value) p q = (p, q)
@@ -25,14 +39,19 @@ both P Q (Err fault) p q = tt
 
 pub returns-clause-ok : goal.returns-clause-ok
 returns-clause-ok g c =
-    rw (simulated-good (seen_source c.args.source.now) c.args.view.now _ c.in_ok-run.ensures.ok)
-    (both _ _ c.dump_by_kernel.result c.dump_by_kernel.ensures.ok (c.dump_by_kernel.ensures.report refl))
+    let text = dump_of_design-nets c.args.view.now c.in_ok-run.run'.horizon c.in_ok-run.run'.design c.as_slice.result.now
+    (c.as_slice.ensures.value ∙ c.in_ok-nets.ensures.nets) in
+    rw (simulated-good (seen_source c.args.source.now) c.args.view.now _ c.in_ok-run.ensures.ok c.in_ok-nets.ensures.known)
+    (both _ _ c.dump_by_kernel.result (on_ok_weaker c.dump_by_kernel.result (subst (Appends _ _) text) c.dump_by_kernel.ensures.ok)
+    (c.dump_by_kernel.ensures.report refl))
 
 pub returns-clause-shows : goal.returns-clause-shows
 returns-clause-shows g c =
+    let text = dump_of_design-nets c.args.view.now c.in_ok-run.run'.horizon c.in_ok-run.run'.design c.as_slice.result.now
+    (c.as_slice.ensures.value ∙ c.in_ok-nets.ensures.nets) in
     rw c.in_ok-run.ensures.ok
     (on_ok_weaker c.dump_by_kernel.result
-    (λ done empty. IfSome-appended _ _ _ _ empty done
+    (λ done empty. IfSome-appended _ _ _ _ empty (subst (Appends _ _) text done)
     (ShowsValues-run_of_source (seen_source c.args.source.now) c.args.view.now _ c.in_ok-run.ensures.ok))
     c.dump_by_kernel.ensures.ok)
 
@@ -46,5 +65,8 @@ returns-clause-rounds g c =
 
 pub returns-clause-err : goal.returns-clause-err
 returns-clause-err g c =
-    rw (simulated-good (seen_source c.args.source.now) c.args.view.now _ c.in_ok-run.ensures.ok)
-    (IfErr-weaker c.dump_by_kernel.result _ _ (λ fault. RunEndsBy-BreaksOff _ _ _ fault) c.dump_by_kernel.ensures.err)
+    let text = dump_of_design-nets c.args.view.now c.in_ok-run.run'.horizon c.in_ok-run.run'.design c.as_slice.result.now
+    (c.as_slice.ensures.value ∙ c.in_ok-nets.ensures.nets) in
+    rw (simulated-good (seen_source c.args.source.now) c.args.view.now _ c.in_ok-run.ensures.ok c.in_ok-nets.ensures.known)
+    (IfErr-weaker c.dump_by_kernel.result _ _
+    (λ fault ends. RunEndsBy-BreaksOff _ _ _ fault (subst (λ whole. BreaksOff (g.W.Write.contents c.args.out.now) (g.W.Write.contents c.dump_by_kernel.new.out) whole fault) text ends)) c.dump_by_kernel.ensures.err)

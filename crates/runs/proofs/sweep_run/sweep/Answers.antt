@@ -1,7 +1,11 @@
+use Rattle.std.proofs.Common.{subst}
+use Rattle.std.specs.Io.KnownBytes.{Appends}
 use Rattle.std.proofs.lemmas.Result.{err_from_is_err_and, IfErr-weaker, on_ok_weaker}
 use Rattle.runs.specs.Source.{seen_source}
 use Rattle.runs.specs.Simulated.{run_of_source}
-use Rattle.runs.proofs.Answer.{simulated-bad, simulated-good}
+use Rattle.runs.specs.Ends.{BreaksOff}
+use Rattle.runs.proofs.Answer.{simulated-bad, simulated-good, simulated-unknown}
+use Rattle.runs.proofs.ConesShown.{CanShow-shown, dump_alone}
 use Rattle.runs.proofs.Ends.{RunEndsBy-BreaksOff, RunEndsBy-IsRefusal}
 use Rattle.runs.proofs.Runs.{ShowsValues-run_of_source}
 use Rattle.runs.proofs.Viewed.{IfSome-appended}
@@ -14,19 +18,37 @@ returns-in_err-run-clause-err g c =
     let view = c.args.view.now in
     rw (p.1, p.2) (RunEndsBy-IsRefusal (run_of_source source view.horizon) _ _ _ (simulated-bad source view _) c.in_err-run.ensures.err)
 
+pub returns-in_err-nets-clause-err : goal.returns-in_err-nets-clause-err
+returns-in_err-nets-clause-err g c =
+    let p = err_from_is_err_and c.from_residual-in_err-nets.result c.from_residual-in_err-nets.ensures.1 in
+    rw (p.1, p.2) (RunEndsBy-IsRefusal _ _ _ _ (simulated-unknown (seen_source c.args.source.now) c.args.view.now _ c.in_ok-run.ensures.ok _ _) c.in_err-nets.ensures.err)
+
+pub cones_of-requires : goal.cones_of-requires
+cones_of-requires g c =
+    CanShow-shown c.args.view.now.show c.in_ok-run.run' c.in_ok-nets.nets.items c.shown_nets.ensures.well_formed c.in_ok-run.ensures.exist c.in_ok-run.ensures.few
+    c.in_ok-nets.ensures.nets
+
 pub returns-clause-ok : goal.returns-clause-ok
 returns-clause-ok g c =
-    rw (simulated-good (seen_source c.args.source.now) c.args.view.now _ c.in_ok-run.ensures.ok) c.dump_by_sweeps.ensures.ok
+    let text = dump_alone c.args.view.now c.in_ok-shown.shown.run c.in_ok-run.run' c.as_slice.result.now c.in_ok-shown.shown.nets.items c.in_ok-nets.nets.items
+    c.as_slice.ensures.value c.in_ok-shown.ensures.same c.in_ok-nets.ensures.nets in
+    rw (simulated-good (seen_source c.args.source.now) c.args.view.now _ c.in_ok-run.ensures.ok c.in_ok-nets.ensures.known)
+    (on_ok_weaker c.dump_by_sweeps.result (subst (Appends _ _) text) c.dump_by_sweeps.ensures.ok)
 
 pub returns-clause-shows : goal.returns-clause-shows
 returns-clause-shows g c =
+    let text = dump_alone c.args.view.now c.in_ok-shown.shown.run c.in_ok-run.run' c.as_slice.result.now c.in_ok-shown.shown.nets.items c.in_ok-nets.nets.items
+    c.as_slice.ensures.value c.in_ok-shown.ensures.same c.in_ok-nets.ensures.nets in
     rw c.in_ok-run.ensures.ok
     (on_ok_weaker c.dump_by_sweeps.result
-    (λ done empty. IfSome-appended _ _ _ _ empty done
+    (λ done empty. IfSome-appended _ _ _ _ empty (subst (Appends _ _) text done)
     (ShowsValues-run_of_source (seen_source c.args.source.now) c.args.view.now _ c.in_ok-run.ensures.ok))
     c.dump_by_sweeps.ensures.ok)
 
 pub returns-clause-err : goal.returns-clause-err
 returns-clause-err g c =
-    rw (simulated-good (seen_source c.args.source.now) c.args.view.now _ c.in_ok-run.ensures.ok)
-    (IfErr-weaker c.dump_by_sweeps.result _ _ (λ fault. RunEndsBy-BreaksOff _ _ _ fault) c.dump_by_sweeps.ensures.err)
+    let text = dump_alone c.args.view.now c.in_ok-shown.shown.run c.in_ok-run.run' c.as_slice.result.now c.in_ok-shown.shown.nets.items c.in_ok-nets.nets.items
+    c.as_slice.ensures.value c.in_ok-shown.ensures.same c.in_ok-nets.ensures.nets in
+    rw (simulated-good (seen_source c.args.source.now) c.args.view.now _ c.in_ok-run.ensures.ok c.in_ok-nets.ensures.known)
+    (IfErr-weaker c.dump_by_sweeps.result _ _
+    (λ fault ends. RunEndsBy-BreaksOff _ _ _ fault (subst (λ whole. BreaksOff (g.W.Write.contents c.args.out.now) (g.W.Write.contents c.dump_by_sweeps.new.out) whole fault) text ends)) c.dump_by_sweeps.ensures.err)

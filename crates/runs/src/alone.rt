@@ -1,0 +1,44 @@
+//! A run of the nets in the cones of those that are shown alone.
+ghost use Rattle.std.specs.Prelude.{IfOk};
+ghost use Rattle.runs.specs.Alone.{CanShow, ShowsTheSame};
+
+use crate::preparation::PreparedRun;
+use cmb_events::Schedule;
+use fanin_cone::cones_alone;
+use std::alloc::{AllocError, Global};
+
+/// A run, and the numbers of the nets that it shows.
+#[derive(Drop)]
+pub(crate) struct ShownRun {
+    pub(crate) run: PreparedRun,
+    pub(crate) nets: Vec<u32>,
+}
+
+/// A run in which these nets show what they show in this one: that of the nets in their fan-in cones
+/// alone, where these are not all nets.
+///
+/// No net shows what picks the events, so such a run has none: those that were picked are of nets by
+/// their old numbers, and some of these are left out.
+pub(crate) fn cones_of(
+    alloc: Global,
+    run: PreparedRun,
+    nets: Vec<u32>,
+) -> Result<ShownRun, AllocError>
+    requires { CanShow run nets.items }
+    ensures can { IfOk result (λ shown. CanShow shown.run shown.nets.items) }
+    ensures same { IfOk result (λ shown. ShowsTheSame shown.run shown.nets.items run nets.items) }
+{
+    if nets.is_empty() {
+        return Ok(ShownRun { run, nets });
+    }
+    let Some(design) = cones_alone(alloc, &run.design, nets.as_slice())? else {
+        return Ok(ShownRun { run, nets });
+    };
+    let nets = Vec::from_slice(alloc, design.netlist().outputs())?;
+    let run = PreparedRun {
+        horizon: run.horizon,
+        design,
+        schedule: Schedule::empty(alloc),
+    };
+    Ok(ShownRun { run, nets })
+}
