@@ -20,7 +20,7 @@ const USAGE: &str = "nullsim diff --first <FILE> --second <FILE> --horizon <N> [
 const NET: &str = "The nets, by their names in both circuits, such as y,q; without it the\n\
      outputs of both";
 
-const FROM: &str = "The first tick that counts";
+const FROM: &str = "The first tick that counts: 0 up to the horizon";
 
 const EVERY: &str = "Only multiples of so many ticks count: at least 1";
 

@@ -13,11 +13,12 @@ const ABOUT: &str =
 
 const USAGE: &str = "nullsim draw --bench <FILE> --horizon <N> [OPTIONS]";
 
-const FROM: &str = "The first tick that is drawn";
+const FROM: &str = "The first tick that is drawn: 0 up to the horizon";
 
-const TO: &str = "The last tick that is drawn; without it the horizon";
+const TO: &str = "The last tick that is drawn: at most the horizon, which it is without it";
 
-const STEP: &str = "How many ticks stand in a column; there are 1000 columns at most";
+const STEP: &str = "How many ticks stand in a column: at least 1; there are 1000 columns at\n\
+     most";
 
 const SVG: &str = "Draw a picture, an SVG text, which browsers show";
 

@@ -11,7 +11,7 @@ const ABOUT: &str =
      \n\
      Without words it reads a deck, a whole run in one text, on standard input.";
 
-const USAGE: &str = "nullsim <COMMAND> [OPTIONS]\n       nullsim < DECK";
+const USAGE: &str = "nullsim <COMMAND> [OPTIONS]\n       nullsim < DECK\n       nullsim --version";
 
 const ENDS: &str =
     "Exit status: 0 done, 1 an input was refused, 2 a mistake in the command line, 3 reading or\n\

@@ -8,6 +8,7 @@ mod diff;
 mod draw;
 mod drives;
 mod help;
+mod hints;
 mod info;
 mod options;
 mod picks;
@@ -19,4 +20,5 @@ mod twin;
 mod why;
 mod words;
 
+pub use hints::with_tip;
 pub use words::{NoOrder, parse_words};

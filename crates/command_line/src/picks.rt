@@ -7,9 +7,12 @@ use clap::{ArgMatches, Error};
 use orders::PickOptions;
 use std::alloc::Global;
 
-const SEED: &str = "What the events that are drawn start from";
+const SEED: &str = "What the drawn events start from: 0 to 18446744073709551615; it picks an\n\
+     order of work and no stimuli";
 
-const PICKS: &str = "How many events to draw in place of a schedule: 0 to 10000000";
+const PICKS: &str = "How many events to draw in place of a schedule: 0 to 10000000; they are\n\
+     an order of work and no stimuli: what the nets show doesn't depend on\n\
+     them";
 
 const BOTH: &str = "the argument '--schedule <FILE>' cannot be used with '--picks <N>' above 0";
 

@@ -16,7 +16,7 @@ const USAGE: &str = "nullsim stimuli --bench <FILE> --horizon <N> [OPTIONS]";
 
 const EVERY: &str = "How many ticks lie between drawn values: at least 1";
 
-const SEED: &str = "What the drawn values start from";
+const SEED: &str = "What the drawn values start from: 0 to 18446744073709551615";
 
 static CIRCUIT: [Described; 1] = [Described("bench", Takes::File, Absent::Refused, BENCH)];
 

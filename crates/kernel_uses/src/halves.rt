@@ -9,7 +9,7 @@ use cmb_channels::Logs;
 use cmb_kernel::{Kernel, KernelFault};
 use design::{BuildFault, Design};
 use itoa::Buffer;
-use logic3::{Change, Value};
+use logic3::Change;
 use netlist::{Netlist, Part};
 use std::alloc::{AllocError, Global};
 use thiserror::Error;
@@ -175,18 +175,11 @@ fn push_changes(text: &mut Vec<u8>, name: &[u8], changes: &[Change]) -> Result<(
         text.extend_from_slice(buffer.format(change.tick).as_bytes())?;
         text.extend_from_slice(b" ")?;
         text.extend_from_slice(name)?;
-        text.extend_from_slice(value_word(change.value))?;
+        text.extend_from_slice(b" ")?;
+        text.extend_from_slice(change.value.text().as_bytes())?;
+        text.extend_from_slice(b"\n")?;
     }
     Ok(())
-}
-
-/// The end of the line of a change to a value.
-fn value_word(value: Value) -> &'static [u8] {
-    match value {
-        Value::Zero => b" 0\n",
-        Value::One => b" 1\n",
-        Value::Unknown => b" x\n",
-    }
 }
 
 impl From<BenchFault> for TurnFault {

@@ -5,7 +5,7 @@ use crate::circuits::{CIRCUITS, Circuit, SELF_INVERTER};
 use cmb_channels::{Fabric, Logs, Queues};
 use cmb_kernel::Kernel;
 use design::{Design, plain_waves};
-use kernel_uses::{drive, drive_by_draws};
+use kernel_uses::{drive, drive_by_draws, drive_by_work_list};
 use std::alloc::Global;
 use std::process::Abort;
 use std::test::Fail;
@@ -16,10 +16,12 @@ use timing_text::Horizon;
 enum Driver {
     ByUseful,
     ByDraws(u64),
+    ByWorkList,
 }
 
-static DRIVERS: [Driver; 5] = [
+static DRIVERS: [Driver; 6] = [
     Driver::ByUseful,
+    Driver::ByWorkList,
     Driver::ByDraws(0),
     Driver::ByDraws(1),
     Driver::ByDraws(7),
@@ -46,7 +48,7 @@ fn shows_all<F: Fabric>(
     Ok(())
 }
 
-fn drive_by<F: Fabric>(kernel: &mut Kernel<F>, driver: Driver) -> Result<(), Fail>
+fn drive_by<F: Fabric>(alloc: Global, kernel: &mut Kernel<F>, driver: Driver) -> Result<(), Fail>
     ensures { OnOk result (kernel.new.circuit ≡ kernel.old.circuit) }
 {
     match driver {
@@ -54,6 +56,7 @@ fn drive_by<F: Fabric>(kernel: &mut Kernel<F>, driver: Driver) -> Result<(), Fai
             drive(kernel)?;
         }
         Driver::ByDraws(seed) => drive_by_draws(kernel, seed)?,
+        Driver::ByWorkList => drive_by_work_list(alloc, kernel)?,
     }
     Ok(())
 }
@@ -67,7 +70,7 @@ fn drives_over<F: Fabric>(
     let design = circuit.build(alloc)?;
     let horizon = Horizon::new(circuit.horizon)?;
     let mut kernel: Kernel<F> = Kernel::new(alloc, &design, horizon)?;
-    drive_by(&mut kernel, driver)?;
+    drive_by(alloc, &mut kernel, driver)?;
     shows_all(rt, alloc, &design, horizon, &kernel)
 }
 

@@ -1,11 +1,13 @@
 //! The program with words.
-ghost use Rattle.std.specs.Prelude.{◌≡◌, ◌≢◌, IfErr, OnErr, OnOk};
+ghost use Rattle.std.specs.Prelude.{◌≡◌, ◌≢◌, IfErr, OnErr, OnOk, IsTrue};
 ghost use Rattle.std.specs.Io.KnownBytes.{Appends, Keeps};
 ghost use Rattle.vcd_dump.specs.Bytes.{AppendsPrefix};
 ghost use Rattle.vcd_dump.specs.Faults.{IsFailedWrite};
 ghost use Rattle.event_trace.specs.Lines.{counts_line};
-ghost use Rattle.nullsim.specs.Command.{CommandEnds, Explains, OrderTold, line_of_numbers, outcome_text, status_of_outcome};
+ghost use Rattle.nullsim.specs.Command.{CommandEnds, Explains, OrderTold, TextGiven, VersionGiven, line_of_numbers, outcome_text, status_of_outcome};
+ghost use Rattle.nullsim.specs.Version.{asks_for_version};
 
+use crate::version::{asks_for_version, give_version};
 use crate::words::order_of_words;
 use cmb_kernel::Counts;
 use command_line::NoOrder;
@@ -20,7 +22,8 @@ use vcd_dump::{DumpFault, write_all_bytes};
 /// Carries out what the words ask for, which don't have the program's own name, as
 /// [`answer_order`] does; answers the exit status.
 ///
-/// Where a word asks for help it goes to `out`, and the status is 0. Where the words are wrong the
+/// Where the words are just `--version` or `-V` the version goes to `out`, and where a word asks for help
+/// that does; the status is 0 then. Where the words are wrong the
 /// status is 2, and some lines that say so go to `err`; then no text is asked for.
 pub fn command<T: Texts, W: Write, E: Write>(
     alloc: Global,
@@ -32,9 +35,15 @@ pub fn command<T: Texts, W: Write, E: Write>(
     ensures ends { CommandEnds words.now (T.known texts.old)
         (record { readings = T.readings texts.old; out = W.contents out.old; err = E.contents err.old })
         (record { readings = T.readings texts.new; out = W.contents out.new; err = E.contents err.new }) result }
+    ensures version { IsTrue (asks_for_version words.now) → VersionGiven
+        (record { readings = T.readings texts.old; out = W.contents out.old; err = E.contents err.old })
+        (record { readings = T.readings texts.new; out = W.contents out.new; err = E.contents err.new }) result }
     ensures usage { result ≡ 2 → (texts.new ≡ texts.old)
         × Keeps (W.contents out.old) (W.contents out.new) }
 {
+    if asks_for_version(words) {
+        return give_version(out, err);
+    }
     match order_of_words(alloc, words) {
         Ok(order) => answer_order(alloc, &order, texts, out, err),
         Err(no_order) => explain(no_order, out, err),
@@ -135,14 +144,22 @@ fn explain<W: Write, E: Write>(no_order: NoOrder, out: &mut W, err: &mut E) -> u
         (E.contents err.old) (E.contents err.new) no_order result }
 {
     match no_order {
-        NoOrder::Help(text) => match write_text(out, text.as_str().as_bytes()) {
-            Ok(()) => DONE,
-            Err(fault) => report(err, fault, SECTIONS),
-        },
+        NoOrder::Help(text) => give_text(text.as_str(), out, err),
         NoOrder::Usage(text) => {
             let _ = write_all_bytes(err, text.as_str().as_bytes());
             WRONG_WORDS
         }
         NoOrder::Memory => report(err, ProgramFault::Memory, SECTIONS),
+    }
+}
+
+/// Writes a text that was asked for; answers the exit status.
+pub(crate) fn give_text<W: Write, E: Write>(text: &str, out: &mut W, err: &mut E) -> u8
+    ensures { TextGiven text.now (W.contents out.old) (W.contents out.new)
+        (E.contents err.old) (E.contents err.new) result }
+{
+    match write_text(out, text.as_bytes()) {
+        Ok(()) => DONE,
+        Err(fault) => report(err, fault, SECTIONS),
     }
 }

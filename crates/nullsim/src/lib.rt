@@ -2,6 +2,8 @@
 #![tactic(auto)]
 
 mod commander;
+pub mod laws;
+mod version;
 mod words;
 
 pub use command_line::NoOrder;

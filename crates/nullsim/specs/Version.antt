@@ -1,0 +1,24 @@
+-- The version, and the words that ask for it.
+use Rattle.std.specs.Prelude.{ℕ, ◌==◌, ◌&&◌, Bool, List, [], ◌∷◌, length, String, codes, bytes_eq, string_bytes}
+use Rattle.std.specs.List.{list_any}
+use Rattle.std.specs.declared.alloc.Global.{Global}
+use Rattle.vcd_dump.specs.Dump.{line}
+
+-- the version of the dumps, which is the program's
+abbrev pub version : List ℕ
+version = codes "nullsim 1"
+
+-- what goes out where it is asked for
+abbrev pub version_line : List ℕ
+version_line = line version
+
+-- it is asked for by one of these words
+abbrev pub is_version_word : List ℕ → Bool
+is_version_word word = list_any (bytes_eq word) (codes "--version" ∷ codes "-V" ∷ [])
+
+abbrev pub has_version_word : List (String Global) → Bool
+has_version_word words = list_any (λ word. is_version_word (string_bytes word)) words
+
+-- which stands alone
+abbrev pub asks_for_version : List (String Global) → Bool
+asks_for_version words = (length words == 1) && has_version_word words

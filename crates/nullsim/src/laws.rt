@@ -1,0 +1,11 @@
+//! Facts about the definitions alone.
+ghost use Rattle.std.specs.Prelude.{◌≡◌, ℕ, List, ◌++◌, codes};
+ghost use Rattle.vcd_dump.specs.declared.unit.TimeUnit.{TimeUnit};
+ghost use Rattle.vcd_dump.specs.Dump.{heading, line};
+ghost use Rattle.nullsim.specs.Version.{version};
+
+/// The first line of each dump tells the program's version.
+pub fn dumps_tell_the_version()
+    ensures { (unit : TimeUnit) →
+        (rest : List ℕ) × (heading unit ≡ line (codes "$version " ++ version ++ codes " $end") ++ rest) }
+{}
