@@ -44,6 +44,7 @@ def commands() -> list[tuple[list, bytes, int]]:
         ("plain --bench pulse.bench --delays pulse.delays --stimuli pulse.stimuli --horizon 22".split(), b"", 0),
         (streams.HELP, b"", 0),
         (["run", "--help"], b"", 0),
+        (["explain", "BadLine"], b"", 0),
         (["run", "--horizon", "x"], b"", 2),
         ([], b"%nullsim x\n", 1),
     ]

@@ -68,9 +68,53 @@ def source_fault(source: Path, shown: str) -> str | None:
     return None
 
 
+# What the tables of faults in docs/FORMATS.md are of, by the headings above them, as `explain` calls it.
+SUBJECTS = {
+    "Faults": "a .bench text", "The delay text": "a delay text", "The stimulus text": "a stimulus text",
+    "The schedule text": "a schedule text", "The deck": "a deck", "Settings": "the settings",
+    "`draw`": "the columns of draw", "`stimuli`": "the drives of stimuli", "`diff`": "the ticks of diff",
+}
+# Faults that the page names outside its tables.
+UNTABLED = {"nets asked for by name": {"UnknownNet"}, "reading and writing": {"Read", "Write", "WroteNothing"}}
+# Want of memory stands in tables of several texts, and is explained once, since its line names no text.
+MEMORY = "reading and writing"
+
+
+def names_in_page(page: str) -> dict[str, set[str]]:
+    """The faults in the tables of a page, by what they are of."""
+    found = {subject: set(names) for subject, names in UNTABLED.items()}
+    heading, of_faults, column = "", False, 0
+    for line in page.splitlines():
+        cells = [cell.strip() for cell in line.split("|")]
+        if line.startswith("#"):
+            heading = line.lstrip("# ").strip()
+        if not line.startswith("|"):
+            of_faults = False
+        elif any(cell.split(",")[0] == "Fault" for cell in cells):
+            of_faults, column = True, [cell.split(",")[0] for cell in cells].index("Fault")
+        elif of_faults and cells[column].startswith("`"):
+            name = cells[column].strip("`")
+            found.setdefault(MEMORY if name == "Memory" else SUBJECTS[heading], set()).add(name)
+    return found
+
+
+def names_fault(program: Path) -> str | None:
+    """What is wrong with the names that `explain` lists: they are those of the page, each once."""
+    listed = {}
+    for line in run([program, "explain"]).out.decode().splitlines():
+        subject, names = line.split(": ")
+        listed[subject] = names.split()
+    page = names_in_page((ROOT / "docs/FORMATS.md").read_text(encoding="utf-8"))
+    for subject in page.keys() | listed.keys():
+        if sorted(page.get(subject, [])) != sorted(listed.get(subject, [])):
+            return f"{subject}: {sorted(page.get(subject, []))} in the page, {sorted(listed.get(subject, []))} explained"
+    return None
+
+
 def cases(program: Path, folder: str) -> list[tuple[str, Callable[[], str | None]]]:
     """Each stored answer, each example of a page and each part of a source in one, with its check."""
     found = [(name, lambda it=(program, ROOT / name, words): stored_fault(*it)) for name, words in STORED.items()]
+    found.append(("the names that explain lists", lambda: names_fault(program)))
     there = Path(folder, "pages")
     shutil.copytree(EXAMPLES, there / "examples")
     for page in [ROOT / "README.md", *sorted((ROOT / "docs").glob("*.md"))]:

@@ -20,6 +20,8 @@ pub(super) enum Takes {
     Word(&'static str, &'static [&'static str]),
     /// The name of a net.
     Net,
+    /// The name of a fault, which stands by itself.
+    Fault,
     /// The names of nets, which stand by themselves.
     Nets,
     /// The names of nets, with commas between; it may be given again.
@@ -69,6 +71,7 @@ fn arg<'a>(alloc: Global, option: &'static Described) -> Arg<'a> {
     let arg = Arg::new(alloc, name).help(help);
     let arg = match takes {
         Takes::Nets => arg.num_args(1..),
+        Takes::Fault => arg,
         _ => arg.long(name),
     };
     let arg = taking(arg, takes);
@@ -87,7 +90,7 @@ fn taking<'a>(arg: Arg<'a>, takes: Takes) -> Arg<'a> {
             .value_name(name)
             .value_parser(words)
             .hide_possible_values(true),
-        Takes::Net | Takes::Nets => arg.value_name("NAME"),
+        Takes::Net | Takes::Nets | Takes::Fault => arg.value_name("NAME"),
         Takes::NetList => arg
             .value_name("NAMES")
             .value_delimiter(',')

@@ -1,8 +1,8 @@
 //! The program's words: its subcommands, and the help.
 use crate::described::{Described, with_tables};
-use crate::{check, cone, diff, draw, info, plain, run, stimuli, trace, twin, why};
+use crate::{check, cone, diff, draw, explain, info, plain, run, stimuli, trace, twin, why};
 use clap::error::ErrorKind;
-use clap::{Command, Error};
+use clap::{Arg, ArgAction, Command, Error};
 use std::alloc::{AllocError, Global};
 
 const ABOUT: &str =
@@ -18,9 +18,12 @@ const ENDS: &str =
      writing failed, 4 out of memory, 5 what diff compared isn't all the same. For 1, 3 and 4\n\
      standard error has one line WHERE:LINE: NAME, such as adder.bench:3: Undefined. LINE is 0 where\n\
      no single line is at fault, as in adder.bench:0: Read for a file that can't be read.\n\
-     docs/FORMATS.md lists the names.\n\
+     nullsim explain NAME tells what such a name means; docs/FORMATS.md lists the names.\n\
      \n\
-     Example: nullsim run --bench adder.bench --stimuli adder.stimuli --horizon 500 > adder.vcd";
+     Example: nullsim run --bench adder.bench --stimuli adder.stimuli --horizon 500 > adder.vcd\n\
+     With --verbose, the line at fault and what it means follow that line on standard error.";
+
+const VERBOSE: &str = "Behind the line of a fault, also tell what it means";
 
 pub(super) fn program<'a>(alloc: Global) -> Result<Command<'a>, AllocError> {
     let mut subcommands = Vec::new(alloc);
@@ -31,7 +34,18 @@ pub(super) fn program<'a>(alloc: Global) -> Result<Command<'a>, AllocError> {
         .about(ABOUT)
         .override_usage(USAGE)
         .after_help(ENDS)
+        .arg(verbose(alloc))?
         .subcommands(subcommands)
+}
+
+/// The option that every command takes, before its name and behind it.
+fn verbose<'a>(alloc: Global) -> Arg<'a> {
+    Arg::new(alloc, "verbose")
+        .short('v')
+        .long("verbose")
+        .help(VERBOSE)
+        .action(ArgAction::SetTrue)
+        .global(true)
 }
 
 /// Adds the subcommands, in the order of the help.
@@ -49,7 +63,8 @@ fn add_subcommands<'a>(
     add(subcommands, cone::subcommand(alloc))?;
     add(subcommands, diff::subcommand(alloc))?;
     add(subcommands, twin::subcommand(alloc))?;
-    add(subcommands, check::subcommand(alloc))
+    add(subcommands, check::subcommand(alloc))?;
+    add(subcommands, explain::subcommand(alloc))
 }
 
 /// Adds a subcommand, if there was memory for it.

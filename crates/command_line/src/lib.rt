@@ -7,6 +7,7 @@ mod described;
 mod diff;
 mod draw;
 mod drives;
+mod explain;
 mod help;
 mod hints;
 mod info;
@@ -21,4 +22,4 @@ mod why;
 mod words;
 
 pub use hints::with_tip;
-pub use words::{NoOrder, parse_words};
+pub use words::{Asked, NoOrder, parse_words};

@@ -1,12 +1,23 @@
 //! Words as an order, or why they are none.
 use crate::help::{mistake, program};
-use crate::{check, cone, diff, draw, info, plain, run, stimuli, trace, twin, why};
+use crate::{check, cone, diff, draw, explain, info, plain, run, stimuli, trace, twin, why};
 use clap::error::ErrorKind;
 use clap::{ArgMatches, Error};
 use orders::Order;
 use std::alloc::Global;
 
-/// Why words are no order.
+/// What words ask for.
+#[derive(Debug, Drop)]
+pub enum Asked<'a> {
+    /// An order over files, and whether its fault is to be explained.
+    Order { order: Order<'a>, verbose: bool },
+    /// What the faults of a name mean, which there are.
+    Explanation { name: &'a str },
+    /// The names of all faults.
+    FaultNames,
+}
+
+/// Why words ask for nothing that is known.
 #[derive(Debug, Drop)]
 pub enum NoOrder {
     /// The text of the help, for words that ask for it or begin like one that does, as `-hx`.
@@ -22,9 +33,9 @@ pub enum NoOrder {
 /// # Errors
 /// The text of the help, for words that `clap` answers by it, or a text that says what is wrong with
 /// the words.
-pub fn parse_words<'a>(alloc: Global, words: &'a [String]) -> Result<Order<'a>, NoOrder> {
-    match read_order(alloc, words) {
-        Ok(order) => Ok(order),
+pub fn parse_words<'a>(alloc: Global, words: &'a [String]) -> Result<Asked<'a>, NoOrder> {
+    match read_asked(alloc, words) {
+        Ok(asked) => Ok(asked),
         Err(error) => Err(no_order(alloc, &error)),
     }
 }
@@ -40,9 +51,15 @@ fn no_order(alloc: Global, error: &Error) -> NoOrder {
     }
 }
 
-fn read_order<'a>(alloc: Global, words: &'a [String]) -> Result<Order<'a>, Error> {
+fn read_asked<'a>(alloc: Global, words: &'a [String]) -> Result<Asked<'a>, Error> {
     let matches = program(alloc)?.try_get_matches_from(words)?;
-    order_matched(alloc, &matches)
+    if let Some(("explain", options)) = matches.subcommand() {
+        return explain::asked_given(alloc, options);
+    }
+    Ok(Asked::Order {
+        order: order_matched(alloc, &matches)?,
+        verbose: matches.get_flag("verbose"),
+    })
 }
 
 /// The order of the options of a subcommand.

@@ -5,7 +5,9 @@ use crate::whole_runs::{
     CONE, INFO, NO_DIFFERENCE, OSCILLATOR, SAME, TOLD, TWINS, answered, ended,
 };
 use command_line::parse_words;
-use nullsim::{Order, ReadFault, Texts, answer_order, command, order_of_words, read_text};
+use nullsim::{
+    Asked, Keeping, Order, ReadFault, Texts, answer_order, asked_by_words, command, read_text,
+};
 use std::alloc::{AllocError, Global};
 use std::io::Write;
 use worked_examples::dumps::OSCILLATOR_DUMP;
@@ -84,9 +86,13 @@ fn orders<W: Write>(
     text: &'static [u8],
 ) -> Option<()> {
     teller.told("parse_words", parse_words(alloc, words))?;
-    let order = teller.told("order_of_words", order_of_words(alloc, words))?;
-    carried_out(alloc, teller, &order, text)?;
-    told_orders(alloc, teller, &order, text)
+    match teller.told("asked_by_words", asked_by_words(alloc, words))? {
+        Asked::Order { order, .. } => {
+            carried_out(alloc, teller, &order, text)?;
+            told_orders(alloc, teller, &order, text)
+        }
+        Asked::Explanation { .. } | Asked::FaultNames => Some(()),
+    }
 }
 
 fn carried_out<W: Write>(
@@ -119,7 +125,7 @@ fn commands<W: Write>(
     words: &[String],
     text: &'static [u8],
 ) -> Option<()> {
-    let mut shelf = Shelf { alloc };
+    let mut shelf = Keeping::new(alloc, Shelf { alloc });
     let (mut out, mut err) = (Follower::of(text), Follower::of(TOLD));
     let status = command(alloc, words, &mut shelf, &mut out, &mut err);
     answered(teller, "command", status, &out, &err)

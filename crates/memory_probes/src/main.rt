@@ -7,6 +7,7 @@ mod circuits;
 mod commands;
 mod diagrams;
 mod dumps;
+mod explained;
 mod faults;
 mod following;
 mod kernels;
@@ -32,4 +33,5 @@ fn main(rt: HostRuntime) {
     let _ = diagrams::probe(alloc, &mut teller);
     let _ = whole_runs::probe(alloc, &mut teller);
     let _ = commands::probe(alloc, &mut teller);
+    let _ = explained::probe(alloc, &mut teller);
 }

@@ -1,5 +1,5 @@
 -- The line of counts, and what an order tells beside its answer.
-use Rattle.std.proofs.Common.{◌≡◌, ℕ, List, [], ◌∷◌, ◌++◌, ap, sym, subst, ◌∙◌, inl, append_assoc}
+use Rattle.std.proofs.Common.{◌≡◌, ℕ, List, [], ◌∷◌, ◌++◌, ap, sym, subst, ◌∙◌, append_assoc}
 use Rattle.std.proofs.lemmas.List.{append-nil}
 use Rattle.std.specs.List.{concat}
 use Rattle.program_io.specs.declared.outcome.Outcome.{Outcome}
@@ -8,7 +8,7 @@ use Rattle.orders.specs.declared.order.Order.{Order}
 use Rattle.orders.specs.Options.{KnownTexts}
 use Rattle.orders.specs.OrderAnswer.{Answered}
 use Rattle.orders.specs.Readings.{ReadsAll, files_of}
-use Rattle.nullsim.specs.Command.{OrderTold, Streams, outcome_text, status_of_outcome}
+use Rattle.nullsim.specs.Command.{OrderDone, Streams, outcome_text, status_of_outcome}
 
 -- texts joined from the left
 abbrev pub joined : List ℕ → List (List ℕ) → List ℕ
@@ -20,8 +20,8 @@ concat-joined text [] = append-nil text
 concat-joined text (next ∷ texts) = sym (append_assoc text next (concat texts)) ∙ concat-joined (text ++ next) texts
 
 -- an order is done, and what is told beside its answer was told
-pub OrderTold-outcome : (known : KnownTexts) (order : Order) (old new : Streams) (outcome : Outcome) (status : ℕ) →
+pub OrderDone-outcome : (known : KnownTexts) (order : Order) (old new : Streams) (outcome : Outcome) (status : ℕ) →
     Answered known order old.out new.out outcome → ReadsAll (files_of order) old.readings new.readings →
-    AppendsPrefix old.err new.err (outcome_text outcome) → status ≡ status_of_outcome outcome → OrderTold known order old new status
-OrderTold-outcome known order old new outcome status (answer, is, (appends, same)) read part told =
-    inl (read, (answer, is, (appends, subst (λ (o : Outcome). AppendsPrefix old.err new.err (outcome_text o)) same part, told ∙ ap status_of_outcome same)))
+    AppendsPrefix old.err new.err (outcome_text outcome) → status ≡ status_of_outcome outcome → OrderDone known order old new status
+OrderDone-outcome known order old new outcome status (answer, is, (appends, same)) read part told =
+    (read, (answer, is, (appends, subst (λ (o : Outcome). AppendsPrefix old.err new.err (outcome_text o)) same part, told ∙ ap status_of_outcome same)))

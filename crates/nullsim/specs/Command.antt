@@ -21,7 +21,7 @@ use Rattle.orders.specs.Readings.{KnownReadings, ReadsAll, ReadsUntil, files_of}
 use Rattle.program_io.specs.Report.{Reports}
 use Rattle.command_line.specs.declared.words.NoOrder.{NoOrder}
 use Rattle.command_line.specs.declared.words.NoOrder.TheVariants.{Help, Usage, Memory}
-use Rattle.nullsim.specs.Version.{asks_for_version, version_line}
+use Rattle.nullsim.specs.Version.{version_line}
 
 -- what is known of what the program reads and writes, before it runs or after
 pub record Streams : Type 0 where
@@ -78,11 +78,16 @@ abbrev pub HelpsIfAsked : List (String Global) → NoOrder → Type 0
 HelpsIfAsked words (Help text) = IsTrue (asks_for_help words)
 HelpsIfAsked words other = Unit {0}
 
--- a text that was asked for goes out: the help, or the version
+-- a text that was asked for goes out: the help, the version, or what faults mean
 abbrev pub TextGiven : List ℕ → Option (List ℕ) → Option (List ℕ) → Option (List ℕ) → Option (List ℕ) → ℕ → Type 0
 TextGiven text out out_new err err_new status =
     ((status ≡ 0) × Appends out out_new text × Keeps err err_new)
     ⊎ ((fault : ProgramFault) × WriteEndsBy out out_new text fault × Reports section_names fault err err_new status)
+
+-- a text that is made goes out so, or memory was wanting for it
+abbrev pub TextMade : List ℕ → Option (List ℕ) → Option (List ℕ) → Option (List ℕ) → Option (List ℕ) → ℕ → Type 0
+TextMade text out out_new err err_new status =
+    TextGiven text out out_new err err_new status ⊎ (Keeps out out_new × Reports section_names program.Memory err err_new status)
 
 -- what is wrong with the words is told, or a first part of it
 abbrev pub WrongWords : List ℕ → Option (List ℕ) → Option (List ℕ) → Option (List ℕ) → Option (List ℕ) → ℕ → Type 0
@@ -99,10 +104,3 @@ Explains out out_new err err_new Memory status = Keeps out out_new × Reports se
 -- the version goes out, and no text is asked for
 abbrev pub VersionGiven : Streams → Streams → ℕ → Type 0
 VersionGiven old new status = (new.readings ≡ old.readings) × TextGiven version_line old.out new.out old.err new.err status
-
--- they ask for the version, are some order, or none
-abbrev pub CommandEnds : List (String Global) → KnownTexts → Streams → Streams → ℕ → Type 0
-CommandEnds words known old new status =
-    (IsTrue (asks_for_version words) × VersionGiven old new status)
-    ⊎ ((order : Order) × OrderTold known order old new status)
-    ⊎ ((other : NoOrder) × HelpsIfAsked words other × (new.readings ≡ old.readings) × Explains old.out new.out old.err new.err other status)

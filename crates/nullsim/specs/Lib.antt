@@ -1,2 +1,5 @@
+pub mod Asked
 pub mod Command
+pub mod Kept
+pub mod Verbose
 pub mod Version

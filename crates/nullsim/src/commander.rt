@@ -4,13 +4,18 @@ ghost use Rattle.std.specs.Io.KnownBytes.{Appends, Keeps};
 ghost use Rattle.vcd_dump.specs.Bytes.{AppendsPrefix};
 ghost use Rattle.vcd_dump.specs.Faults.{IsFailedWrite};
 ghost use Rattle.event_trace.specs.Lines.{counts_line};
-ghost use Rattle.nullsim.specs.Command.{CommandEnds, Explains, OrderTold, TextGiven, VersionGiven, line_of_numbers, outcome_text, status_of_outcome};
+ghost use Rattle.explanations.specs.Explained.{all_names, explained};
+ghost use Rattle.nullsim.specs.Asked.{CommandEnds, OrderEnds};
+ghost use Rattle.nullsim.specs.Command.{Explains, OrderTold, TextGiven, TextMade, VersionGiven, line_of_numbers, outcome_text, status_of_outcome};
 ghost use Rattle.nullsim.specs.Version.{asks_for_version};
 
+use crate::kept::KeptTexts;
+use crate::verbose::answer_verbosely;
 use crate::version::{asks_for_version, give_version};
-use crate::words::order_of_words;
+use crate::words::asked_by_words;
 use cmb_kernel::Counts;
-use command_line::NoOrder;
+use command_line::{Asked, NoOrder};
+use explanations::{Table, explanation_text, names_text, tables};
 use itoa::Buffer;
 use orders::{Order, Texts};
 use program_io::status::{DIFFERENT, DONE, WRONG_WORDS};
@@ -22,17 +27,20 @@ use vcd_dump::{DumpFault, write_all_bytes};
 /// Carries out what the words ask for, which don't have the program's own name, as
 /// [`answer_order`] does; answers the exit status.
 ///
+/// Where the words ask for it, what a fault means follows its line, as [`answer_verbosely`] has it, or
+/// what faults mean goes to `out`, and no text is asked for.
+///
 /// Where the words are just `--version` or `-V` the version goes to `out`, and where a word asks for help
 /// that does; the status is 0 then. Where the words are wrong the
 /// status is 2, and some lines that say so go to `err`; then no text is asked for.
-pub fn command<T: Texts, W: Write, E: Write>(
+pub fn command<T: KeptTexts, W: Write, E: Write>(
     alloc: Global,
     words: &[String],
     texts: &mut T,
     out: &mut W,
     err: &mut E,
 ) -> u8
-    ensures ends { CommandEnds words.now (T.known texts.old)
+    ensures ends { CommandEnds words.now (T.held texts.new) (T.known texts.old)
         (record { readings = T.readings texts.old; out = W.contents out.old; err = E.contents err.old })
         (record { readings = T.readings texts.new; out = W.contents out.new; err = E.contents err.new }) result }
     ensures version { IsTrue (asks_for_version words.now) → VersionGiven
@@ -44,9 +52,34 @@ pub fn command<T: Texts, W: Write, E: Write>(
     if asks_for_version(words) {
         return give_version(out, err);
     }
-    match order_of_words(alloc, words) {
-        Ok(order) => answer_order(alloc, &order, texts, out, err),
+    match asked_by_words(alloc, words) {
+        Ok(Asked::Order { order, verbose }) => {
+            answer_as_asked(alloc, &order, verbose, texts, out, err)
+        }
+        Ok(Asked::Explanation { name }) => tell_fault(alloc, &tables(), name, out, err),
+        Ok(Asked::FaultNames) => tell_names(alloc, &tables(), out, err),
         Err(no_order) => explain(no_order, out, err),
+    }
+}
+
+/// Carries out an order, verbosely or not, and answers the exit status.
+fn answer_as_asked<T: KeptTexts, W: Write, E: Write>(
+    alloc: Global,
+    order: &Order<'_>,
+    verbose: bool,
+    texts: &mut T,
+    out: &mut W,
+    err: &mut E,
+) -> u8
+    ensures told { OrderEnds verbose (T.held texts.new) (T.known texts.old) order.now
+        (record { readings = T.readings texts.old; out = W.contents out.old; err = E.contents err.old })
+        (record { readings = T.readings texts.new; out = W.contents out.new; err = E.contents err.new }) result }
+    ensures no_usage { result ≢ 2 }
+{
+    if verbose {
+        answer_verbosely(alloc, order, &tables(), texts, out, err)
+    } else {
+        answer_order(alloc, order, texts, out, err)
     }
 }
 
@@ -76,7 +109,7 @@ pub fn answer_order<T: Texts, W: Write, E: Write>(
 
 /// Writes what is told beside an answer, or a first part of it where the writer fails, and answers the
 /// exit status. Takes no memory.
-fn tell_outcome<E: Write>(err: &mut E, outcome: Outcome) -> u8
+pub(crate) fn tell_outcome<E: Write>(err: &mut E, outcome: Outcome) -> u8
     ensures status { result ≡ status_of_outcome outcome }
     ensures told { AppendsPrefix (E.contents err.old) (E.contents err.new) (outcome_text outcome) }
 {
@@ -138,6 +171,36 @@ fn write_numbers<'a, E: Write>(
     write_pieces(err, &pieces)
 }
 
+/// Writes what the faults of a name mean, and flushes once; answers the exit status.
+fn tell_fault<W: Write, E: Write>(
+    alloc: Global,
+    tables: &[Table],
+    name: &str,
+    out: &mut W,
+    err: &mut E,
+) -> u8
+    ensures told { TextMade (explained tables.now name.now) (W.contents out.old) (W.contents out.new)
+        (E.contents err.old) (E.contents err.new) result }
+    ensures no_usage { result ≢ 2 }
+{
+    match explanation_text(alloc, tables, name) {
+        Ok(text) => give_text(text.as_str(), out, err),
+        Err(_) => report(err, ProgramFault::Memory, SECTIONS),
+    }
+}
+
+/// Writes the names of all faults, and flushes once; answers the exit status.
+fn tell_names<W: Write, E: Write>(alloc: Global, tables: &[Table], out: &mut W, err: &mut E) -> u8
+    ensures told { TextMade (all_names tables.now) (W.contents out.old) (W.contents out.new)
+        (E.contents err.old) (E.contents err.new) result }
+    ensures no_usage { result ≢ 2 }
+{
+    match names_text(alloc, tables) {
+        Ok(text) => give_text(text.as_str(), out, err),
+        Err(_) => report(err, ProgramFault::Memory, SECTIONS),
+    }
+}
+
 /// Writes the help, or what is wrong with the words; answers the exit status.
 fn explain<W: Write, E: Write>(no_order: NoOrder, out: &mut W, err: &mut E) -> u8
     ensures { Explains (W.contents out.old) (W.contents out.new)
@@ -153,10 +216,11 @@ fn explain<W: Write, E: Write>(no_order: NoOrder, out: &mut W, err: &mut E) -> u
     }
 }
 
-/// Writes a text that was asked for; answers the exit status.
+/// Writes a text that was asked for, and flushes once; answers the exit status.
 pub(crate) fn give_text<W: Write, E: Write>(text: &str, out: &mut W, err: &mut E) -> u8
-    ensures { TextGiven text.now (W.contents out.old) (W.contents out.new)
+    ensures given { TextGiven text.now (W.contents out.old) (W.contents out.new)
         (E.contents err.old) (E.contents err.new) result }
+    ensures no_usage { result ≢ 2 }
 {
     match write_text(out, text.as_bytes()) {
         Ok(()) => DONE,

@@ -1,9 +1,8 @@
-//! Words as an order.
+//! What words ask for.
 ghost use Rattle.std.specs.Prelude.{◌≡◌, IfErr};
 ghost use Rattle.nullsim.specs.Command.{HelpsIfAsked, asks_for_help};
 
-use command_line::{NoOrder, parse_words, with_tip};
-use orders::Order;
+use command_line::{Asked, NoOrder, parse_words, with_tip};
 use std::alloc::Global;
 
 /// What the words ask for, which don't have the program's own name.
@@ -11,11 +10,11 @@ use std::alloc::Global;
 /// # Errors
 /// The text of the help where one of the words `help`, `--help` and `-h` asks for it, a text that
 /// says what is wrong with the words, with a tip where there is one, or `Memory` where a growth was refused.
-pub fn order_of_words<'a>(alloc: Global, words: &'a [String]) -> Result<Order<'a>, NoOrder>
+pub fn asked_by_words<'a>(alloc: Global, words: &'a [String]) -> Result<Asked<'a>, NoOrder>
     ensures { IfErr result (HelpsIfAsked words.now) }
 {
     match parse_words(alloc, words) {
-        Ok(order) => Ok(order),
+        Ok(asked) => Ok(asked),
         Err(NoOrder::Help(text)) if !asks_for_help(words) => Err(told(alloc, text, words)),
         Err(NoOrder::Usage(text)) => Err(told(alloc, text, words)),
         Err(no_order) => Err(no_order),

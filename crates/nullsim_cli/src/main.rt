@@ -2,7 +2,7 @@
 //! it carries out a command over files.
 #![tactic(auto)]
 
-use nullsim::{ReadFault, Texts, command, read_text, tell};
+use nullsim::{Keeping, ReadFault, Texts, command, read_text, tell};
 use std::fs::File;
 use std::io::{self, ErrorKind, Write};
 use std::process::ExitCode;
@@ -34,7 +34,7 @@ fn main(rt: HostRuntime) -> ExitCode {
     let status = match words_given(&rt) {
         Ok(words) if words.is_empty() => tell(alloc, &mut rt.stdin(), &mut out, &mut err),
         Ok(words) => {
-            let mut files = Folder { rt: &rt };
+            let mut files = Keeping::new(alloc, Folder { rt: &rt });
             command(alloc, words.as_slice(), &mut files, &mut out, &mut err)
         }
         Err(fault) if fault.kind() == ErrorKind::OutOfMemory => {

@@ -17,7 +17,7 @@ use crate::drawing::{DRAWINGS, REFUSED_DRAWINGS};
 use crate::files::{FILES, Named};
 use crate::plainly::{DUMPS, FAULTY_TIMINGS, NAMED_DUMPS, REFUSED_PLAIN};
 use crate::running::{COUNTED_RUNS, EDGE_RUNS, REFUSED_RUNS, RUNS_WITHOUT_TEXTS};
-use nullsim::{ReadFault, Texts, command};
+use nullsim::{KeptTexts, ReadFault, Texts, command};
 use std::alloc::{AllocError, Global};
 use std::io::Write;
 use std::process::Abort;
@@ -55,6 +55,14 @@ impl Texts for Shelf {
             None if name == "too-big" => Err(ReadFault::Memory),
             None => Err(ReadFault::Read),
         }
+    }
+}
+
+impl KeptTexts for Shelf {
+    fn keep(&mut self) {}
+
+    fn kept(&self, _name: &str) -> Option<&[u8]> {
+        None
     }
 }
 

@@ -154,7 +154,7 @@ fn wrong_words(rt: HostRuntime) -> Result<(), Fail> {
 }
 
 // The commands, which the help of the program lists.
-static COMMANDS: [&str; 13] = [
+static COMMANDS: [&str; 15] = [
     "\nUsage: nullsim <COMMAND> [OPTIONS]\n",
     "\n  run ",
     "\n  plain ",
@@ -167,6 +167,8 @@ static COMMANDS: [&str; 13] = [
     "\n  diff ",
     "\n  twin ",
     "\n  check ",
+    "\n  explain ",
+    "-v, --verbose ",
     "\nExit status: 0 done",
 ];
 

@@ -5,7 +5,7 @@ ghost use Rattle.nullsim_tests.specs.Ledger.{seen_notes};
 ghost use Rattle.nullsim_tests.specs.Shelf.{text_under};
 
 use crate::commanding::{Shelf, words_of};
-use nullsim::{ReadFault, Texts, command};
+use nullsim::{KeptTexts, ReadFault, Texts, command};
 use std::alloc::Global;
 use std::process::Abort;
 use std::test::Fail;
@@ -38,6 +38,14 @@ impl Texts for Ledger {
                 Err(fault)
             }
         }
+    }
+}
+
+impl KeptTexts for Ledger {
+    fn keep(&mut self) {}
+
+    fn kept(&self, _name: &str) -> Option<&[u8]> {
+        None
     }
 }
 

@@ -8,7 +8,7 @@ ghost use Rattle.program_io.specs.Place.{called, fault_line};
 ghost use Rattle.program_io.specs.Report.{Reports};
 
 use crate::output::write_pieces;
-use crate::place::{TextNames, place};
+use crate::place::{TextNames, fault_place};
 use crate::program_fault::ProgramFault;
 use crate::status::status;
 use itoa::Buffer;
@@ -32,7 +32,7 @@ pub fn write_fault_line<E: Write>(
 {
     let mut buffer = Buffer::new();
     let number = buffer.format(fault.line());
-    write_line_of(err, place(fault, names), number, fault.name())
+    write_line_of(err, fault_place(fault, names), number, fault.name())
 }
 
 /// Writes the line `WHERE:LINE: NAME` of these three.

@@ -20,5 +20,5 @@ pub use fault_line::{report, write_fault_line};
 pub use input::{ReadFault, read_text};
 pub use outcome::Outcome;
 pub use output::{flush, write_pieces, write_text};
-pub use place::{SECTIONS, TextNames};
+pub use place::{SECTIONS, TextNames, fault_place};
 pub use program_fault::ProgramFault;

@@ -22,8 +22,8 @@ pub const SECTIONS: TextNames<'static> = TextNames {
     schedule: "schedule",
 };
 
-/// The name of the text at fault, or what else is.
-pub(crate) fn place<'a>(fault: ProgramFault<'a>, names: TextNames<'a>) -> &'a str
+/// The name of the text at fault, or what else is: the WHERE of the line of a fault.
+pub fn fault_place<'a>(fault: ProgramFault<'a>, names: TextNames<'a>) -> &'a str
     ensures { result.now ≡ place_of (called names.entry) fault.entry }
 {
     match fault {

@@ -1,0 +1,90 @@
+-- What is told of faults.
+use Rattle.std.specs.Prelude.{ℕ, Bool, List, [], ◌++◌, if◌then◌else◌, flat_map, codes, decimal, Option, None, Some}
+use Rattle.std.specs.List.{list_any}
+use Rattle.std.specs.Str.{str_eq_ignore_ascii_case}
+use Rattle.explanations.specs.declared.explanation.Explanation.{Explanation}
+use Rattle.explanations.specs.declared.explanation.Example.{Example}
+use Rattle.explanations.specs.declared.subject.Subject.{Subject}
+use Rattle.explanations.specs.declared.table.Table.{Table}
+use Rattle.explanations.specs.declared.subject.Subject.TheVariants.{Bench, Delays, Stimuli, Schedule, Deck, Settings, Columns, Drives, Ticks, Names, Program}
+
+-- what a subject is called
+abbrev pub title_of : Subject → List ℕ
+title_of Bench = codes "a .bench text"
+title_of Delays = codes "a delay text"
+title_of Stimuli = codes "a stimulus text"
+title_of Schedule = codes "a schedule text"
+title_of Deck = codes "a deck"
+title_of Settings = codes "the settings"
+title_of Columns = codes "the columns of draw"
+title_of Drives = codes "the drives of stimuli"
+title_of Ticks = codes "the ticks of diff"
+title_of Names = codes "nets asked for by name"
+title_of Program = codes "reading and writing"
+
+-- the circuit that its examples are for
+abbrev pub circuit_of : Subject → List ℕ
+circuit_of Delays = codes " for INPUT(a), y = NAND(a, q), q = DFF(y)"
+circuit_of Stimuli = codes " for INPUT(a), y = NAND(a, q), q = DFF(y)"
+circuit_of Schedule = codes " for INPUT(a), y = NAND(a, q), q = DFF(y)"
+circuit_of other = []
+
+-- an example, if there is one: the faulty text with its line, and the text mended
+abbrev pub example_line : List ℕ → ℕ → List ℕ
+example_line circuit number = codes "for example" ++ circuit ++ codes ", refused at line " ++ decimal number ++ codes ":\n"
+
+abbrev pub both_texts : Example → List ℕ
+both_texts example = example.faulty.now ++ codes "mended:\n" ++ example.mended.now
+
+abbrev pub example_text : List ℕ → Option Example → List ℕ
+example_text circuit None = []
+example_text circuit (Some example) = example_line circuit example.line ++ both_texts example
+
+-- what it means, and what is wanted
+abbrev pub meaning_line : List ℕ → Explanation → List ℕ
+meaning_line title one = one.name.now ++ codes " of " ++ title ++ codes ": " ++ one.meaning.now ++ codes "\n"
+
+abbrev pub wanted_line : Explanation → List ℕ
+wanted_line one = codes "want " ++ one.wanted.now ++ codes "\n"
+
+-- all that is told of a fault of a subject
+abbrev pub explanation_of : Subject → Explanation → List ℕ
+explanation_of subject one =
+    meaning_line (title_of subject) one ++ wanted_line one ++ example_text (circuit_of subject) one.example
+
+-- without regard to case
+abbrev pub is_called : List ℕ → Explanation → Bool
+is_called name one = str_eq_ignore_ascii_case one.name.now name
+
+-- ---- what is told of the faults of a name
+
+-- of one fault of a subject: nothing where it has another name
+abbrev pub told_if_called : Subject → List ℕ → Explanation → List ℕ
+told_if_called subject name one = (if is_called name one then explanation_of subject one else [])
+
+-- of those of one subject, whose explanations these are
+abbrev pub told_of : Subject → List ℕ → List Explanation → List ℕ
+told_of subject name table = flat_map (told_if_called subject name) table
+
+abbrev pub told_by : List ℕ → Table → List ℕ
+told_by name table = told_of table.subject name table.explanations.now
+
+-- of those of each table, in order
+abbrev pub explained : List Table → List ℕ → List ℕ
+explained tables name = flat_map (told_by name) tables
+
+-- there is one
+abbrev pub has_called : List ℕ → Table → Bool
+has_called name table = list_any (is_called name) table.explanations.now
+
+-- ---- the names of all faults
+
+abbrev pub name_behind : Explanation → List ℕ
+name_behind one = codes " " ++ one.name.now
+
+-- a line for a table, with the names of its faults
+abbrev pub names_line : Table → List ℕ
+names_line table = title_of table.subject ++ codes ":" ++ flat_map name_behind table.explanations.now ++ codes "\n"
+
+abbrev pub all_names : List Table → List ℕ
+all_names tables = flat_map names_line tables

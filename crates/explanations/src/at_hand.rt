@@ -1,0 +1,117 @@
+//! What is told of a fault at hand.
+ghost use Rattle.std.specs.Prelude.{◌≡◌, ◌++◌, flat_map, option_and_then, option_map, string_bytes, IfOk, OnOk};
+ghost use Rattle.explanations.specs.AtHand.{hint_if_called, hint_of, hints_in, line_at, told_at_hand};
+
+use crate::excerpt::{line_at, push_excerpt};
+use crate::explanation::Explanation;
+use crate::subject::Subject;
+use crate::table::Table;
+use crate::telling::{push_meaning, push_wanted};
+use std::alloc::{AllocError, Global};
+
+/// A fault as it was met.
+#[derive(Clone, Copy, Debug)]
+pub struct AtHand<'a> {
+    /// What it is of.
+    pub subject: Subject,
+    pub name: &'a str,
+    /// Its line, from 1, and 0 for a fault without a line.
+    pub line: u64,
+    /// The text at fault, where it is known.
+    pub text: Option<&'a [u8]>,
+}
+
+/// What is told of a fault: the line of its text, where the text is known, what it means, and what is
+/// wanted. Of a long line the first 100 bytes are shown, and a byte that isn't printable as `?`.
+pub fn fault_text(alloc: Global, tables: &[Table], fault: AtHand<'_>) -> Result<Vec<u8>, AllocError>
+    ensures { IfOk result (λ told. told.items ≡ told_at_hand tables.now fault.entry.subject fault.entry.name.now
+        fault.entry.line (option_map (λ text. text.now) fault.entry.text)) }
+{
+    let mut told = Vec::new(alloc);
+    push_excerpt(
+        alloc,
+        &mut told,
+        fault.line,
+        line_of(fault.line, fault.text),
+    )?;
+    let hints = hints_text(alloc, tables, fault.subject, fault.name)?;
+    told.extend_from_slice(hints.as_str().as_bytes())?;
+    Ok(told)
+}
+
+fn line_of<'a>(number: u64, text: Option<&'a [u8]>) -> Option<&'a [u8]>
+    ensures { option_map (λ line. line.now) result
+        ≡ option_and_then (line_at number) (option_map (λ text. text.now) text.entry) }
+{
+    match text {
+        Some(text) => line_at(text, number),
+        None => None,
+    }
+}
+
+fn hints_text(
+    alloc: Global,
+    tables: &[Table],
+    subject: Subject,
+    name: &str,
+) -> Result<String, AllocError>
+    ensures { IfOk result (λ text. string_bytes text ≡ flat_map (hints_in subject name.now) tables.now) }
+{
+    let mut text = String::new(alloc);
+    for table in tables {
+        push_hints_in(&mut text, subject, name, table)?;
+    }
+    Ok(text)
+}
+
+fn push_hints_in(
+    text: &mut String,
+    subject: Subject,
+    name: &str,
+    table: &Table,
+) -> Result<(), AllocError>
+    ensures { OnOk result (string_bytes text.new ≡ string_bytes text.old ++ hints_in subject name.now table.now) }
+{
+    if table.subject.number() == subject.number() {
+        push_hints(text, subject, name, table.explanations)
+    } else {
+        Ok(())
+    }
+}
+
+fn push_hints(
+    text: &mut String,
+    subject: Subject,
+    name: &str,
+    table: &[Explanation],
+) -> Result<(), AllocError>
+    ensures { OnOk result (string_bytes text.new ≡ string_bytes text.old ++ flat_map (hint_if_called subject name.now) table.now) }
+{
+    for one in table {
+        push_if_called(text, subject, name, one)?;
+    }
+    Ok(())
+}
+
+/// Adds what a fault means and what is wanted, where it has this name.
+fn push_if_called(
+    text: &mut String,
+    subject: Subject,
+    name: &str,
+    one: &Explanation,
+) -> Result<(), AllocError>
+    ensures { OnOk result (string_bytes text.new ≡ string_bytes text.old ++ hint_if_called subject name.now one.now) }
+{
+    if one.name.eq_ignore_ascii_case(name) {
+        push_hint(text, subject, one)
+    } else {
+        Ok(())
+    }
+}
+
+fn push_hint(text: &mut String, subject: Subject, one: &Explanation) -> Result<(), AllocError>
+    ensures { OnOk result (string_bytes text.new ≡ string_bytes text.old ++ hint_of subject one.now) }
+{
+    push_meaning(text, subject.title(), one)?;
+    push_wanted(text, one)
+}

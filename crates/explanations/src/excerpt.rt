@@ -1,0 +1,85 @@
+//! The line of a text at fault, as it is shown.
+ghost use Rattle.std.specs.Prelude.{◌≡◌, ◌++◌, OnOk, option_map, slice_get, take};
+ghost use Rattle.explanations.specs.AtHand.{cut_mark, excerpt, line_at, shown_byte, shown_line};
+ghost use Rattle.text_lines.specs.Text.{lines_of};
+
+use std::alloc::{AllocError, Global};
+
+/// The most bytes of a line that are shown.
+pub(crate) const LONGEST_SHOWN: usize = 100;
+
+/// The line of a text by its number, from 1.
+pub(crate) fn line_at(text: &[u8], number: u64) -> Option<&[u8]>
+    ensures { option_map (λ line. line.now) result ≡ line_at number text.now }
+{
+    if number == 0 {
+        None
+    } else {
+        nth_line(text, (number - 1) as usize)
+    }
+}
+
+/// The line of a text by its place, from 0.
+fn nth_line(text: &[u8], place: usize) -> Option<&[u8]>
+    ensures { option_map (λ line. line.now) result ≡ slice_get (lines_of text.now) place }
+{
+    text.split(|byte| *byte == b'\n').nth(place)
+}
+
+/// Adds `line N is: ` and the line, if there is one, and a line feed.
+pub(crate) fn push_excerpt(
+    alloc: Global,
+    told: &mut Vec<u8>,
+    number: u64,
+    line: Option<&[u8]>,
+) -> Result<(), AllocError>
+    ensures { OnOk result (told.new.items ≡ told.old.items ++ excerpt number (option_map (λ line. line.now) line.entry)) }
+{
+    let Some(line) = line else {
+        return Ok(());
+    };
+    let head = format!(in alloc; "line {number} is: ")?;
+    told.extend_from_slice(head.as_str().as_bytes())?;
+    push_shown(told, line)?;
+    told.push(b'\n')?;
+    Ok(())
+}
+
+/// Adds a line: its first bytes where it is long, and `?` for each that isn't printable.
+fn push_shown(told: &mut Vec<u8>, line: &[u8]) -> Result<(), AllocError>
+    ensures { OnOk result (told.new.items ≡ told.old.items ++ shown_line line.now) }
+{
+    for byte in head_of(line) {
+        told.push(shown_byte(*byte))?;
+    }
+    push_cut(told, line.len())
+}
+
+/// The bytes of a line that are shown.
+fn head_of(line: &[u8]) -> &[u8]
+    ensures { result.now ≡ take 100 line.now }
+{
+    &line[..LONGEST_SHOWN.min(line.len())]
+}
+
+/// Adds two dots behind a line that is cut off.
+fn push_cut(told: &mut Vec<u8>, length: usize) -> Result<(), AllocError>
+    ensures { OnOk result (told.new.items ≡ told.old.items ++ cut_mark length) }
+{
+    if length > LONGEST_SHOWN {
+        told.extend_from_slice(b" ..")
+    } else {
+        Ok(())
+    }
+}
+
+/// A byte as it is shown: white space as a space, and what isn't printable as `?`.
+fn shown_byte(byte: u8) -> u8
+    ensures { result ≡ shown_byte byte }
+{
+    match byte {
+        b'\t' | b'\r' => b' ',
+        b' '..=b'~' => byte,
+        _ => b'?',
+    }
+}

@@ -1,0 +1,23 @@
+//! What each fault means, with a text that has it, and the text mended; and what is told of a fault at
+//! hand.
+#![tactic(auto)]
+
+mod at_hand;
+mod bench;
+mod deck;
+mod delays;
+mod excerpt;
+mod explanation;
+mod options;
+mod program;
+mod schedule;
+mod stimuli;
+mod subject;
+mod table;
+mod telling;
+
+pub use at_hand::{AtHand, fault_text};
+pub use explanation::{Example, Explanation};
+pub use subject::Subject;
+pub use table::{Table, tables};
+pub use telling::{explanation_text, is_explained, names_text};

@@ -1,0 +1,172 @@
+//! Faults of what the words of a command line ask for.
+use crate::explanation::{Example, Explanation};
+
+/// The circuit's file in all examples is `circuit.bench`.
+pub(crate) static SETTINGS: [Explanation; 3] = [
+    Explanation {
+        name: "BadDelay",
+        meaning: "the default delay is 0 or above 1,000,000.",
+        wanted: "--delay 1 to 1000000",
+        example: Some(Example {
+            line: 0,
+            faulty: "nullsim run --bench circuit.bench --horizon 60 --delay 0\n",
+            mended: "nullsim run --bench circuit.bench --horizon 60 --delay 1\n",
+        }),
+    },
+    Explanation {
+        name: "BadPeriod",
+        meaning: "the period of the flip-flops without a clock line is 0 or above 10,000,000.",
+        wanted: "--period 1 to 10000000",
+        example: Some(Example {
+            line: 0,
+            faulty: "nullsim run --bench circuit.bench --horizon 60 --period 0\n",
+            mended: "nullsim run --bench circuit.bench --horizon 60 --period 10\n",
+        }),
+    },
+    Explanation {
+        name: "BadHorizon",
+        meaning: "the last tick of the run is above 10,000,000.",
+        wanted: "--horizon 0 to 10000000; of why it is --at",
+        example: Some(Example {
+            line: 0,
+            faulty: "nullsim run --bench circuit.bench --horizon 10000001\n",
+            mended: "nullsim run --bench circuit.bench --horizon 60\n",
+        }),
+    },
+];
+
+pub(crate) static COLUMNS: [Explanation; 4] = [
+    Explanation {
+        name: "NoStep",
+        meaning: "a column would hold 0 ticks.",
+        wanted: "--step of at least 1",
+        example: Some(Example {
+            line: 0,
+            faulty: "nullsim draw --bench circuit.bench --horizon 60 --step 0\n",
+            mended: "nullsim draw --bench circuit.bench --horizon 60 --step 1\n",
+        }),
+    },
+    Explanation {
+        name: "Backwards",
+        meaning: "the last tick that is drawn is before the first.",
+        wanted: "--from no later than --to",
+        example: Some(Example {
+            line: 0,
+            faulty: "nullsim draw --bench circuit.bench --horizon 60 --from 20 --to 10\n",
+            mended: "nullsim draw --bench circuit.bench --horizon 60 --from 10 --to 20\n",
+        }),
+    },
+    Explanation {
+        name: "PastHorizon",
+        meaning: "the last tick that is drawn is past the end of the run.",
+        wanted: "--to no later than --horizon",
+        example: Some(Example {
+            line: 0,
+            faulty: "nullsim draw --bench circuit.bench --horizon 60 --to 70\n",
+            mended: "nullsim draw --bench circuit.bench --horizon 70 --to 70\n",
+        }),
+    },
+    Explanation {
+        name: "TooManyColumns",
+        meaning: "there would be more than 1,000 columns.",
+        wanted: "fewer ticks by --from and --to, or more of them in a column by --step",
+        example: Some(Example {
+            line: 0,
+            faulty: "nullsim draw --bench circuit.bench --horizon 5000\n",
+            mended: "nullsim draw --bench circuit.bench --horizon 5000 --step 10\n",
+        }),
+    },
+];
+
+pub(crate) static DRIVES: [Explanation; 6] = [
+    Explanation {
+        name: "BadEvery",
+        meaning: "0 ticks would lie between drawn values.",
+        wanted: "--every of at least 1",
+        example: Some(Example {
+            line: 0,
+            faulty: "nullsim stimuli --bench circuit.bench --horizon 60 --every 0\n",
+            mended: "nullsim stimuli --bench circuit.bench --horizon 60 --every 1\n",
+        }),
+    },
+    Explanation {
+        name: "NotAnInput",
+        meaning: "no input has the name that an option gives.",
+        wanted: "the name of an input, which the .bench text defines by INPUT(NAME)",
+        example: Some(Example {
+            line: 0,
+            faulty: "nullsim stimuli --bench circuit.bench --horizon 60 --clock y=5\n",
+            mended: "nullsim stimuli --bench circuit.bench --horizon 60 --clock a=5\n",
+        }),
+    },
+    Explanation {
+        name: "Twice",
+        meaning: "an earlier option is of the same input.",
+        wanted: "only one of the two options",
+        example: Some(Example {
+            line: 0,
+            faulty: "nullsim stimuli --bench circuit.bench --horizon 60 --clock a=5 --hold a=1\n",
+            mended: "nullsim stimuli --bench circuit.bench --horizon 60 --clock a=5\n",
+        }),
+    },
+    Explanation {
+        name: "BadHalf",
+        meaning: "a clock would change every 0 ticks.",
+        wanted: "--clock NAME=HALF with a HALF of at least 1, such as --clock a=5",
+        example: Some(Example {
+            line: 0,
+            faulty: "nullsim stimuli --bench circuit.bench --horizon 60 --clock a=0\n",
+            mended: "nullsim stimuli --bench circuit.bench --horizon 60 --clock a=5\n",
+        }),
+    },
+    Explanation {
+        name: "BadPulse",
+        meaning: "a pulse would end where it begins, or before.",
+        wanted: "--pulse NAME=FROM..TO with TO past FROM, such as --pulse a=0..12",
+        example: Some(Example {
+            line: 0,
+            faulty: "nullsim stimuli --bench circuit.bench --horizon 60 --pulse a=12..12\n",
+            mended: "nullsim stimuli --bench circuit.bench --horizon 60 --pulse a=0..12\n",
+        }),
+    },
+    Explanation {
+        name: "TooLong",
+        meaning: "the text would have more than 16,777,216 bytes.",
+        wanted: "an earlier horizon, or more ticks between drawn values by --every",
+        example: None,
+    },
+];
+
+pub(crate) static TICKS: [Explanation; 2] = [
+    Explanation {
+        name: "BadEvery",
+        meaning: "only multiples of 0 ticks would be compared.",
+        wanted: "--every of at least 1",
+        example: Some(Example {
+            line: 0,
+            faulty: "nullsim diff --first circuit.bench --second circuit.bench --horizon 60 --every 0\n",
+            mended: "nullsim diff --first circuit.bench --second circuit.bench --horizon 60 --every 1\n",
+        }),
+    },
+    Explanation {
+        name: "PastHorizon",
+        meaning: "the first tick that is compared is past the end of the runs.",
+        wanted: "--from no later than --horizon",
+        example: Some(Example {
+            line: 0,
+            faulty: "nullsim diff --first circuit.bench --second circuit.bench --horizon 60 --from 70\n",
+            mended: "nullsim diff --first circuit.bench --second circuit.bench --horizon 70 --from 70\n",
+        }),
+    },
+];
+
+pub(crate) static NAMES: [Explanation; 1] = [Explanation {
+    name: "UnknownNet",
+    meaning: "no net of the circuit has a name that the words give.",
+    wanted: "the name of a net that the .bench text defines, byte for byte",
+    example: Some(Example {
+        line: 0,
+        faulty: "nullsim cone --bench circuit.bench z\n",
+        mended: "nullsim cone --bench circuit.bench y\n",
+    }),
+}];

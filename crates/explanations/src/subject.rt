@@ -1,0 +1,77 @@
+//! What a fault may be of.
+ghost use Rattle.std.specs.Prelude.{◌≡◌};
+ghost use Rattle.explanations.specs.AtHand.{number_of};
+ghost use Rattle.explanations.specs.Explained.{circuit_of, title_of};
+
+/// What a fault may be of: a text, or what the words of a command line ask for.
+#[derive(Clone, Copy, Debug, PartialEq, Eq)]
+pub enum Subject {
+    Bench,
+    Delays,
+    Stimuli,
+    Schedule,
+    Deck,
+    /// The default delay, the period and the horizon.
+    Settings,
+    /// The columns of a timing diagram.
+    Columns,
+    /// What is to drive inputs.
+    Drives,
+    /// The ticks at which runs are compared.
+    Ticks,
+    /// The nets that a command is asked for.
+    Names,
+    /// Reading, writing and memory.
+    Program,
+}
+
+impl Subject {
+    /// Subjects by number.
+    pub(crate) fn number(self) -> u64
+        ensures { result ≡ number_of self }
+    {
+        match self {
+            Subject::Bench => 0,
+            Subject::Delays => 1,
+            Subject::Stimuli => 2,
+            Subject::Schedule => 3,
+            Subject::Deck => 4,
+            Subject::Settings => 5,
+            Subject::Columns => 6,
+            Subject::Drives => 7,
+            Subject::Ticks => 8,
+            Subject::Names => 9,
+            Subject::Program => 10,
+        }
+    }
+
+    /// What it is called.
+    pub fn title(self) -> &'static str
+        ensures { result.now ≡ title_of self }
+    {
+        match self {
+            Subject::Bench => "a .bench text",
+            Subject::Delays => "a delay text",
+            Subject::Stimuli => "a stimulus text",
+            Subject::Schedule => "a schedule text",
+            Subject::Deck => "a deck",
+            Subject::Settings => "the settings",
+            Subject::Columns => "the columns of draw",
+            Subject::Drives => "the drives of stimuli",
+            Subject::Ticks => "the ticks of diff",
+            Subject::Names => "nets asked for by name",
+            Subject::Program => "reading and writing",
+        }
+    }
+
+    /// The circuit that its examples are for, where they are for one.
+    pub fn circuit(self) -> &'static str
+        ensures { result.now ≡ circuit_of self }
+    {
+        match self {
+            Subject::Delays | Subject::Stimuli | Subject::Schedule =>
+                " for INPUT(a), y = NAND(a, q), q = DFF(y)",
+            _ => "",
+        }
+    }
+}

@@ -1,0 +1,41 @@
+//! The explanations of each subject.
+use crate::bench::BENCH;
+use crate::deck::DECK;
+use crate::delays::DELAYS;
+use crate::explanation::Explanation;
+use crate::options::{COLUMNS, DRIVES, NAMES, SETTINGS, TICKS};
+use crate::program::PROGRAM;
+use crate::schedule::SCHEDULE;
+use crate::stimuli::STIMULI;
+use crate::subject::Subject;
+
+/// The explanations of the faults of a subject, in the order of its rules.
+#[derive(Clone, Copy, Debug)]
+pub struct Table {
+    pub subject: Subject,
+    pub explanations: &'static [Explanation],
+}
+
+/// All tables. What stands in them is in no contract, and tested.
+pub fn tables() -> [Table; 11] {
+    [
+        table_of(Subject::Bench, &BENCH),
+        table_of(Subject::Delays, &DELAYS),
+        table_of(Subject::Stimuli, &STIMULI),
+        table_of(Subject::Schedule, &SCHEDULE),
+        table_of(Subject::Deck, &DECK),
+        table_of(Subject::Settings, &SETTINGS),
+        table_of(Subject::Columns, &COLUMNS),
+        table_of(Subject::Drives, &DRIVES),
+        table_of(Subject::Ticks, &TICKS),
+        table_of(Subject::Names, &NAMES),
+        table_of(Subject::Program, &PROGRAM),
+    ]
+}
+
+fn table_of(subject: Subject, explanations: &'static [Explanation]) -> Table {
+    Table {
+        subject,
+        explanations,
+    }
+}

@@ -1,0 +1,16 @@
+//! Tests of what is told of mistakes: of each fault that is explained, and of the mistakes that are made
+//! most.
+#![tactic(auto)]
+
+#[cfg(test)]
+mod circuits;
+#[cfg(test)]
+mod examples;
+#[cfg(test)]
+mod mistakes;
+#[cfg(test)]
+mod questions;
+#[cfg(test)]
+mod shelf;
+#[cfg(test)]
+mod texts;

@@ -1,0 +1,6 @@
+use Rattle.program_io.proofs.CallerLemmas.{AppendsPrefix-either}
+use Rattle.nullsim.proofs.verbose.write_told.Goals as goal
+
+pub returns : goal.returns
+returns g c =
+    AppendsPrefix-either c.write_all_bytes.result _ _ _ c.write_all_bytes.ensures.ok c.write_all_bytes.ensures.err
