@@ -56,10 +56,7 @@ pub(super) fn order_given<'a>(
     })
 }
 
-fn view_given<'a>(
-    alloc: Global,
-    options: &ArgMatches<'a>,
-) -> Result<DiagramView<'a>, AllocError> {
+fn view_given<'a>(alloc: Global, options: &ArgMatches<'a>) -> Result<DiagramView<'a>, AllocError> {
     let horizon = number_given(options, "horizon");
     Ok(DiagramView {
         show: show_given(alloc, options)?,

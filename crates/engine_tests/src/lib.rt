@@ -15,6 +15,8 @@ mod dumps;
 #[cfg(test)]
 mod kernels;
 #[cfg(test)]
+mod parts;
+#[cfg(test)]
 mod plain_engine;
 #[cfg(test)]
 mod processes;

@@ -153,9 +153,143 @@ fn wrong_words(rt: HostRuntime) -> Result<(), Fail> {
     Ok(())
 }
 
+const LOWER_CASE: &str = "commands are in lower case, as in nullsim run";
+
+const REDIRECT: &str = "what goes to standard output is put into a file by > FILE";
+
+const DIGITS: &str =
+    "a number is a whole one, in digits alone, such as 1000000; ticks have no unit";
+
+// Words that are wrong as other tools would take them, and the tip that they get.
+static TIPS: [(&str, &str); 24] = [
+    ("RUN --bench inv.bench --horizon 5", LOWER_CASE),
+    ("Help", LOWER_CASE),
+    (
+        "inverter.deck",
+        "a deck is read from standard input: nullsim < inverter.deck",
+    ),
+    (
+        "decks/inverter --counts",
+        "a deck is read from standard input: nullsim < decks/inverter",
+    ),
+    (
+        "run -bench inv.bench --horizon 5",
+        "options have two dashes: --bench",
+    ),
+    (
+        "twin -first-delays=a --horizon x",
+        "options have two dashes: --first-delays",
+    ),
+    // `clap` takes this as a wish for help, which nobody has.
+    (
+        "run --bench inv.bench -horizon 5",
+        "options have two dashes: --horizon",
+    ),
+    ("run --bench inv.bench --horizon 5 -o inv.vcd", REDIRECT),
+    ("run --bench inv.bench --horizon 5 -oinv.vcd", REDIRECT),
+    (
+        "run --bench inv.bench --horizon 5 --output inv.vcd",
+        REDIRECT,
+    ),
+    ("draw --bench inv.bench --horizon 5 --out=inv.svg", REDIRECT),
+    ("run --bench inv.bench --horizon 1e6", DIGITS),
+    ("run --bench inv.bench --horizon=10ns", DIGITS),
+    ("plain --bench inv.bench --horizon 5 --delay 1.5", DIGITS),
+    ("why --bench inv.bench --net y --at -1", DIGITS),
+    ("draw --bench inv.bench --horizon 5 --step x", DIGITS),
+    (
+        "plain --bench inv.bench --horizon 18446744073709551616",
+        "--horizon takes 0 to 10000000",
+    ),
+    (
+        "plain --bench inv.bench --delay=18446744073709551616 --horizon 5",
+        "--delay takes 1 to 1000000",
+    ),
+    (
+        "diff --first a --second b --horizon 5 --second-period 99999999999999999999",
+        "--second-period takes 1 to 10000000",
+    ),
+    (
+        "run --bench a --horizon 5 --picks 18446744073709551616",
+        "--picks takes 0 to 10000000",
+    ),
+    (
+        "run --bench a --horizon 5 --seed 18446744073709551616",
+        "--seed takes 0 to 18446744073709551615",
+    ),
+    (
+        "why --bench a --net y --at 99999999999999999999",
+        "--at takes 0 to 10000000",
+    ),
+    (
+        "draw --bench a --horizon 5 --to 99999999999999999999",
+        "--to takes 0 up to the horizon",
+    ),
+    (
+        "stimuli --bench a --horizon 5 --every 99999999999999999999",
+        "--every takes 1 to 18446744073709551615",
+    ),
+];
+
+// Wrong words that get none: of these `clap` has none either.
+static NO_TIPS: [&str; 7] = [
+    "",
+    "run",
+    "plain --bench inv.bench --horizon",
+    "plain --bench inv.bench --horizon --delay 3",
+    "plain --bench inv.bench --horizon 5 inv.stim",
+    "plain --bench inv.bench --horizon 5 -hx",
+    "info --bench inv.bench --bench one.bench",
+];
+
+// What is told ends with a line that has the tip.
+fn ends_with_tip(told: &[u8], tip: &str) -> bool {
+    let Some(told) = told.strip_suffix(b"\n") else {
+        return false;
+    };
+    match told.strip_suffix(tip.as_bytes()) {
+        Some(told) => told.ends_with(b"\n\n  tip: "),
+        None => false,
+    }
+}
+
+#[test]
+fn tips(rt: HostRuntime) -> Result<(), Fail> {
+    for &(line, tip) in &TIPS {
+        let answer = answer_to(rt.alloc(), line, "")?;
+        is_misuse(&rt, &answer, line);
+        assert!(&rt; ends_with_tip(answer.err.as_slice(), tip), "at {line}");
+    }
+    for line in &NO_TIPS {
+        let answer = answer_to(rt.alloc(), line, "")?;
+        is_misuse(&rt, &answer, line);
+        assert!(&rt; !contains(answer.err.as_slice(), b"  tip: "), "at {line}");
+    }
+    Ok(())
+}
+
+// The version is all there is where nothing else is asked for; beside other words it is a mistake.
+#[test]
+fn version(rt: HostRuntime) -> Result<(), Fail> {
+    for line in ["--version", "-V"] {
+        let answer = answer_to(rt.alloc(), line, "")?;
+        is_help(&rt, &answer, line);
+        assert!(&rt;
+            answer.out.as_slice() == b"nullsim 1\n".as_slice(),
+            "at {line}"
+        );
+    }
+    for line in ["--version run", "run --version", "-V -V", "version", "-Vx"] {
+        let answer = answer_to(rt.alloc(), line, "")?;
+        is_misuse(&rt, &answer, line);
+    }
+    Ok(())
+}
+
 // The commands, which the help of the program lists.
-static COMMANDS: [&str; 15] = [
+static COMMANDS: [&str; 16] = [
     "\nUsage: nullsim <COMMAND> [OPTIONS]\n",
+    "\n       nullsim --version\n",
     "\n  run ",
     "\n  plain ",
     "\n  draw ",

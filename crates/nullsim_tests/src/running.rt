@@ -204,7 +204,7 @@ pub(crate) static REFUSED_RUNS: [Refused; 14] = [
         2,
     ),
     (
-        "--bench inv.bench --stimuli inv.stim --horizon 5 --show some --counts",
+        "--bench inv.bench --stimuli inv.stim --horizon 5 --show some",
         1,
         "inv.bench:0: UnknownNet\n",
         2,

@@ -1,4 +1,4 @@
-use Rattle.std.proofs.Common.{Ok, refl}
+use Rattle.std.proofs.Common.{refl}
 use Rattle.runs.proofs.info_run.info.Goals as goal
 
 pub returns-clause-info : goal.returns-clause-info
