@@ -14,6 +14,7 @@ mod LeftAlone
 mod Measure
 mod Mixed
 mod Moved
+mod Order
 mod PinPlaces
 mod Refused
 mod Rises

@@ -18,7 +18,7 @@ use Rattle.gate_process.proofs.CallerLemmas.{get_below}
 use Rattle.cmb_kernel.specs.declared.counts.Counts.{Counts}
 use Rattle.cmb_kernel.specs.State.{State, KernelView, nets_of, frontier_at, floor_at, IsUndrained, received_of, received_at, IsComplete, waves_in}
 use Rattle.cmb_kernel.specs.Running.{state_of, IsRunning}
-use Rattle.cmb_kernel.specs.Sound.{waves_kept}
+use Rattle.cmb_kernel.specs.Sound.{IsSound, waves_kept}
 use Rattle.cmb_kernel.proofs.Soundness.{net_at}
 use Rattle.cmb_kernel.proofs.LeastFrontier.{net_count}
 use Rattle.cmb_kernel.proofs.PinPlaces.{received_there}
@@ -221,23 +221,26 @@ map-numbered view at (x ∷ xs) from same =
     same (suc place) y e ∙ ap at (let e : from + suc place ≡ from + 1 + place = omega arith in e)) in
     λ i. first i ∷ rest i
 
-pub waves_are : {design : DesignView} {end : ℕ} {processes : List ProcessView} {sources : List ℕ} {nets : ℕ} {state : State} →
-    IsRunning design end processes sources nets state → IsComplete state → waves_in state ≡ waves_kept design.circuit end state
-waves_are {design} {end} {state = state} all complete =
-    map-numbered (λ (p : ProcessState). p.known.wave) (λ net. wave_of (value_of design.circuit net) (floor_at state net) end) state.processes 0 known
-    ∙ ap (λ n. map (λ net. wave_of (value_of design.circuit net) (floor_at state net) end) (range_with_len 0 n))
-    (net_count design.circuit end state all.sound)
+pub waves_complete : (circuit : Circuit) (end : ℕ) (state : State) → IsSound circuit end state → IsComplete state →
+    waves_in state ≡ waves_kept circuit end state
+waves_complete circuit end state sound complete =
+    map-numbered (λ (p : ProcessState). p.known.wave) (λ net. wave_of (value_of circuit net) (floor_at state net) end) state.processes 0 known
+    ∙ ap (λ n. map (λ net. wave_of (value_of circuit net) (floor_at state net) end) (range_with_len 0 n)) (net_count circuit end state sound)
   where
     known : (number : ℕ) (process : ProcessState) → slice_get state.processes number ≡ Some process →
-        process.known.wave ≡ wave_of (value_of design.circuit (0 + number)) (floor_at state (0 + number)) end
+        process.known.wave ≡ wave_of (value_of circuit (0 + number)) (floor_at state (0 + number)) end
     known number process at =
-        let knows = knows_net design.circuit end state all.sound number process at in
+        let knows = knows_net circuit end state sound number process at in
         let floor = sym (view_at (λ (p : ProcessState). p.floor) state.processes number process at) in
         let done = All-slice_get (λ (p : ProcessState). p.known.frontier ≡ p.end) state.processes number process complete at in
-        let last = all.sound.ends number process at in
-        knows.wave ∙ ap (λ from. wave_of (value_of design.circuit number) from process.known.frontier) floor
-        ∙ ap (wave_of (value_of design.circuit number) (floor_at state number)) (done ∙ last)
-        ∙ ap (λ n. wave_of (value_of design.circuit n) (floor_at state n) end) (sym (zero-add number))
+        let last = sound.ends number process at in
+        knows.wave ∙ ap (λ from. wave_of (value_of circuit number) from process.known.frontier) floor
+        ∙ ap (wave_of (value_of circuit number) (floor_at state number)) (done ∙ last)
+        ∙ ap (λ n. wave_of (value_of circuit n) (floor_at state n) end) (sym (zero-add number))
+
+pub waves_are : {design : DesignView} {end : ℕ} {processes : List ProcessView} {sources : List ℕ} {nets : ℕ} {state : State} →
+    IsRunning design end processes sources nets state → IsComplete state → waves_in state ≡ waves_kept design.circuit end state
+waves_are {design} {end} {state = state} all complete = waves_complete design.circuit end state all.sound complete
 
 -- where no changes were taken out they are whole
 pub waves_whole : (circuit : Circuit) (end : ℕ) (state : State) → IsUndrained state → waves_kept circuit end state ≡ waves_of circuit end

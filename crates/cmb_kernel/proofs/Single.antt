@@ -102,6 +102,26 @@ module _ (circuit : Circuit) (ok : IsCircuit circuit) (last : ℕ) where
           let useless = advance_useless state net process at (omega (arith, more, ahead)) in
           absurd (let both = sym useful ∙ useless in cc)
 
+  -- so it can be told without the event
+  pub delivery_use : (state : State) → IsSound circuit last state → (pin : ℕ) → pin < pin_count circuit →
+      nat_lt 0 (length (slice_index_or state.lists pin [])) ≡ is_useful state (Deliver pin)
+  delivery_use state sound pin exists = go (slice_index_or state.lists pin []) refl
+    where
+      go : (messages : List Message) → slice_index_or state.lists pin [] ≡ messages → nat_lt 0 (length messages) ≡ is_useful state (Deliver pin)
+      go [] e = sym (deliver_useless state pin e)
+      go (message ∷ messages) e =
+          lt-ltb 0 (length (message ∷ messages)) (omega arith)
+          ∙ sym (waiting_useful circuit ok last state sound pin exists (let long = ap length e in omega (arith, long)))
+
+  pub advance_use : (state : State) (net : ℕ) (process : ProcessState) → slice_get state.processes net ≡ Some process →
+      nat_lt process.known.frontier (next_frontier process) ≡ is_useful state (Advance net)
+  advance_use state net process at = go (cases_lt process.known.frontier (next_frontier process))
+    where
+      go : (process.known.frontier < next_frontier process) ⊎ (next_frontier process ≤ process.known.frontier) →
+          nat_lt process.known.frontier (next_frontier process) ≡ is_useful state (Advance net)
+      go (inl farther) = lt-ltb process.known.frontier (next_frontier process) farther ∙ sym (advance_useful state net process at farther)
+      go (inr stays) = le-ltb process.known.frontier (next_frontier process) stays ∙ sym (advance_not_farther state net process at stays)
+
   -- ---- what events leave of the use of others
 
   pub advance_beside : (state : State) → IsSound circuit last state → (net other : ℕ) → other < length circuit → (other ≡ net → ⊥) →

@@ -1,5 +1,5 @@
 -- Runs in which nets are drained between the events.
-use Rattle.std.specs.Prelude.{ℕ, ◌==◌, if◌then◌else◌, List, [], ◌∷◌, ◌++◌, map, slice_get}
+use Rattle.std.specs.Prelude.{◌≡◌, ℕ, ◌==◌, if◌then◌else◌, List, [], ◌∷◌, ◌++◌, map, slice_get}
 use Rattle.std.specs.Option.{option_map_or}
 use Rattle.logic3.specs.declared.value.Value.TheVariants.{Unknown}
 use Rattle.logic3.specs.declared.change.Change.{Change}
@@ -7,9 +7,9 @@ use Rattle.design.specs.Circuit.{Circuit}
 use Rattle.gate_process.specs.Step.{ProcessState, drained_changes}
 use Rattle.cmb_events.specs.declared.event.Event.{Event}
 use Rattle.cmb_events.specs.Schedule.{Exists}
-use Rattle.cmb_kernel.specs.State.{State}
+use Rattle.cmb_kernel.specs.State.{State, started, IsComplete}
 use Rattle.cmb_kernel.specs.Step.{step, after_drain}
-use Rattle.cmb_kernel.specs.Sound.{CanDrain}
+use Rattle.cmb_kernel.specs.Sound.{EachNet, CanDrain, IsSound}
 
 -- what is done to a run: an event happens, or the changes of a net before a tick are taken out
 pub data Action : Type 0 where
@@ -53,6 +53,16 @@ abbrev pub handed_out : ℕ → State → List Action → List Change
 handed_out net state [] = []
 handed_out net state (action ∷ actions) = given_out net state action ++ handed_out net (acted state action) actions
 
+-- what some actions hand out of each net, and what is left of it behind them, are these changes, one behind the other
+abbrev pub AllComesOut : State → List Action → (ℕ → ProcessState → List Change) → Type 0
+AllComesOut state actions changes =
+    EachNet (all_acted state actions) (λ net process. handed_out net state actions ++ process.known.wave.changes ≡ changes net process)
+
+-- some actions complete a run from its beginning
+pub record CompleteRun (circuit : Circuit) (last : ℕ) (actions : List Action) : Type 0 where
+  pub allowed : CanAct circuit (started circuit last) actions
+  pub complete : IsComplete (all_acted (started circuit last) actions)
+
 -- a process but for what its net shows, and from which tick on
 abbrev pub apart_from_wave : ProcessState → ProcessState
 apart_from_wave process =
@@ -61,3 +71,9 @@ apart_from_wave process =
 -- a state but for what its nets show, and from which tick on
 abbrev pub apart_from_waves : State → State
 apart_from_waves state = record state { processes = map apart_from_wave state.processes }
+
+-- two states of one run that differ in what was drained alone
+pub record AreAlike (circuit : Circuit) (last : ℕ) (one other : State) : Type 0 where
+  pub one_sound : IsSound circuit last one
+  pub other_sound : IsSound circuit last other
+  pub alike : apart_from_waves one ≡ apart_from_waves other

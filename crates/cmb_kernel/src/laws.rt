@@ -7,13 +7,13 @@ ghost use Rattle.design.specs.Pins.{sources_of, net_of_pin};
 ghost use Rattle.gate_process.specs.Step.{kept_from, next_frontier};
 ghost use Rattle.cmb_events.specs.declared.event.Event.{Event};
 ghost use Rattle.cmb_events.specs.declared.event.Event.TheVariants.{Deliver, Advance};
-ghost use Rattle.cmb_kernel.specs.State.{State, started, frontier_at, received_at, floor_at, least_frontier, least_delay, IsComplete};
-ghost use Rattle.cmb_kernel.specs.Step.{counted, news_at, step, steps, after_drain, round_of, rounds};
+ghost use Rattle.cmb_kernel.specs.State.{State, started, frontier_at, received_at, floor_at, least_frontier, least_delay, most_rounds, IsComplete, waves_in};
+ghost use Rattle.cmb_kernel.specs.Step.{counted, news_at, step, steps, after_drain, round_of, rounds, completed_within};
 ghost use Rattle.cmb_kernel.specs.Sweeps.{swept, HoldsAll, EventsLead};
 ghost use Rattle.cmb_kernel.specs.Useful.{NoneFalls, SomeRises, is_useful, IsUnheard, progress, remaining, useful_count, useful_advances};
 ghost use Rattle.cmb_events.specs.Schedule.{Exists};
 ghost use Rattle.cmb_kernel.specs.Sound.{EachNet, EachPin, coming_to, CanDrain, IsSound, ForSound, KnowsNet, HearsSource};
-ghost use Rattle.cmb_kernel.specs.Drains.{Action, all_acted, events_among, CanAct, handed_out, apart_from_waves};
+ghost use Rattle.cmb_kernel.specs.Drains.{Action, all_acted, events_among, AllComesOut, AreAlike, CanAct, CompleteRun, apart_from_waves};
 
 /// Whatever happens in whatever order, nets and pins know the truth: Chandy and Misra's safety, by the
 /// defining equations of the circuit.
@@ -62,6 +62,21 @@ pub fn progress_left()
         remaining circuit last (step state event) ≤ remaining circuit last state) }
     ensures raises { (state : State) (event : Event) →
         is_useful state event ≡ true → progress state + 1 ≤ progress (step state event) }
+{}
+
+/// The order plays no part in what a run shows in the end: whatever events complete it, in whatever order,
+/// it shows what rounds show, as [`Kernel::complete`](crate::Kernel::complete) does them, and so the same
+/// as after any other events that complete it.
+pub fn order_plays_no_part()
+    ensures sound { ForSound (λ circuit last state. (count : ℕ) → IsSound circuit last (completed_within count state)) }
+    ensures complete { ForSound (λ circuit last state. IsComplete (completed_within (most_rounds last circuit) state)) }
+    ensures rounds { ForSound (λ circuit last state. (events : List Event) → All (Exists circuit) events →
+        IsComplete (steps state events) →
+        waves_in (steps state events) ≡ waves_in (completed_within (most_rounds last circuit) state)) }
+    ensures agree { ForSound (λ circuit last state. (one other : List Event) →
+        All (Exists circuit) one → All (Exists circuit) other →
+        IsComplete (steps state one) → IsComplete (steps state other) →
+        waves_in (steps state one) ≡ waves_in (steps state other)) }
 {}
 
 /// An event that isn't useful is counted, and changes nothing else.
@@ -131,19 +146,15 @@ pub fn drains_play_no_part()
         apart_from_waves (all_acted state actions) ≡ apart_from_waves (steps state (events_among actions))) }
     ensures sound { ForSound (λ circuit last state. (actions : List Action) → CanAct circuit state actions →
         IsSound circuit last (all_acted state actions)) }
-    ensures sweeps { (circuit : Circuit) → IsCircuit circuit → (last : ℕ) (one other : State) →
-        IsSound circuit last one → IsSound circuit last other → apart_from_waves one ≡ apart_from_waves other →
+    ensures sweeps { (circuit : Circuit) → IsCircuit circuit → (last : ℕ) (one other : State) → AreAlike circuit last one other →
         (tick : ℕ) (order : List ℕ) → All (λ net. net < length circuit) order →
         apart_from_waves (swept tick order one) ≡ apart_from_waves (swept tick order other) }
     // Drains alone move floors.
     ensures floors { (state : State) (events : List Event) (net : ℕ) → floor_at (steps state events) net ≡ floor_at state net }
     ensures values { ForSound (λ circuit last state. (actions : List Action) → CanAct circuit state actions →
-        EachNet (all_acted state actions) (λ net process.
-        handed_out net state actions ++ process.known.wave.changes
-        ≡ changes_between (value_of circuit net) (floor_at state net) process.known.frontier)) }
+        AllComesOut state actions (λ net process.
+        changes_between (value_of circuit net) (floor_at state net) process.known.frontier)) }
     ensures complete { (circuit : Circuit) → IsCircuit circuit → (last : ℕ) (actions : List Action) →
-        CanAct circuit (started circuit last) actions → IsComplete (all_acted (started circuit last) actions) →
-        EachNet (all_acted (started circuit last) actions) (λ net process.
-        handed_out net (started circuit last) actions ++ process.known.wave.changes
-        ≡ (wave_of (value_of circuit net) 0 last).changes) }
+        CompleteRun circuit last actions →
+        AllComesOut (started circuit last) actions (λ net process. (wave_of (value_of circuit net) 0 last).changes) }
 {}

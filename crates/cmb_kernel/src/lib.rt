@@ -6,9 +6,11 @@
 //! to say. [`Kernel`] has some drivers built in: one event ([`Kernel::apply`]), a list, a round, a sweep
 //! through nets, or rounds to the end ([`Kernel::complete`]). To write your own, three laws are enough:
 //!
-//! - whatever events come, what nets and pins know is true ([`laws::truth`]);
-//! - a run that isn't complete has a useful event ([`laws::no_deadlock`]; [`Kernel::useful`] names one, and
-//!   [`laws::deliveries`] and [`laws::advances`] say which events are useful and what they leave as it is);
+//! - whatever events come, what nets and pins know is true ([`laws::truth`]), so that runs which events
+//!   complete show the same, whatever their order ([`laws::order_plays_no_part`]);
+//! - a run that isn't complete has a useful event ([`laws::no_deadlock`]; [`Kernel::useful`] names one,
+//!   [`Kernel::is_useful`] tells whether an event is, and [`laws::deliveries`] and [`laws::advances`] say
+//!   which events are useful and what they leave as it is);
 //! - useful events come to an end, and what is left of a run's progress is a measure for a driver's loop
 //!   ([`laws::progress_left`]).
 //!

@@ -19,6 +19,8 @@ mod parts;
 #[cfg(test)]
 mod plain_engine;
 #[cfg(test)]
+mod probe;
+#[cfg(test)]
 mod processes;
 #[cfg(test)]
 mod rationed;

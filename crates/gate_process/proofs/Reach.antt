@@ -1,6 +1,6 @@
 -- How far what is known of its pins leads a net.
-use Rattle.std.proofs.Common.{◌≡◌, ◌≢◌, ℕ, zero, suc, ◌+◌, ◌-◌, ◌<◌, ◌≤◌, min, max, Bool, true, false, cond, None, Some, refl, ap, sym, subst, ◌∙◌, arith, ltb-false, ◌⊎◌, inl, inr}
-use Rattle.std.proofs.lemmas.Bool.{cases_lt}
+use Rattle.std.proofs.Common.{◌≡◌, ◌≢◌, ℕ, zero, suc, ◌+◌, ◌-◌, ◌<◌, ◌≤◌, min, max, Bool, true, false, not, cond, None, Some, refl, ap, sym, subst, ◌∙◌, arith, ltb-false, ◌⊎◌, inl, inr}
+use Rattle.std.proofs.lemmas.Bool.{cases_lt, lt-ltb, le-ltb}
 use Rattle.std.proofs.lemmas.Option.{none-some, same_Some}
 use Rattle.std.specs.Prelude.{nat_lt}
 use Rattle.logic3.specs.declared.value.Value.{Value}
@@ -170,6 +170,18 @@ module _ (signal : ℕ → Value) where
             let here : reach_of_part (Gate kind) signal end from sure ≡ from = omega (arith, near, back) in
             absurd (known (subst (λ t. signal t ≡ Unknown) here (reach-waits kind (omega (arith, low)) (omega (arith, near, low)))))
     reach-moves Flop low way = low
+
+    -- so whether it stays tells whether it goes on
+    pub reach-goes_on : (part : Part) → from ≤ reach_of_part part signal end from sure → (stays : Bool) →
+        (stays ≡ true → (most_of_part part end sure ≤ from) ⊎ ((sure ≤ from) × (signal from ≡ Unknown))) →
+        (stays ≡ false → (from < most_of_part part end sure) × ((from < sure) ⊎ (signal from ≢ Unknown))) →
+        not stays ≡ nat_lt from (reach_of_part part signal end from sure)
+    reach-goes_on part low true halts moves =
+        let same = reach-stays part low (halts refl) in
+        sym (le-ltb from (reach_of_part part signal end from sure) (omega (arith, same)))
+    reach-goes_on part low false halts moves =
+        let way = moves refl in
+        sym (lt-ltb from (reach_of_part part signal end from sure) (reach-moves part way.0 way.1))
 
 -- where it shows X it stays
 pub reach-again : (one other : ℕ → Value) (part : Part) (end from sure : ℕ) → sure ≤ end → from ≤ end →

@@ -64,6 +64,20 @@ pub fn extend(
     reckon(net, received, span, most, wave, messages)
 }
 
+/// Whether [`extend`] would carry a net on. Takes no memory.
+pub fn goes_on(net: &OwnNet<'_>, received: &[Received], span: Span) -> bool
+    requires pins { length received.now ≡ length net.now.pins }
+    requires sure { span.sure ≤ span.end }
+    requires inputs { net.now.part ≡ Input → span.sure ≡ span.end }
+    requires ahead { span.from ≤ reach_of_part net.now.part
+        (equation net.now (signals_of (seen_pins net.now.wires received.now))) span.end span.from span.sure }
+    ensures { result ≡ nat_lt span.from (reach_of_part net.now.part
+        (equation net.now (signals_of (seen_pins net.now.wires received.now))) span.end span.from span.sure) }
+{
+    let most = net.most(span.end, span.sure);
+    !stays(net, received, span, most)
+}
+
 /// Carries a net's waveform on by its equation, and puts the messages that tell of it into the list.
 /// Answers how far that is: to the first tick of X, where not all pins are known.
 fn reckon(

@@ -1,10 +1,10 @@
-ghost use Rattle.std.specs.Prelude.{◌≡◌, ℕ, ◌+◌, ◌++◌, ◌<◌, ◌≤◌, Bool, true, false, length, slice_get, Some, IfOk, IfSome, OnOk, OnErr};
+ghost use Rattle.std.specs.Prelude.{◌≡◌, ℕ, ◌+◌, ◌++◌, ◌<◌, ◌≤◌, nat_lt, Bool, true, false, length, slice_get, Some, IfOk, IfSome, OnOk, OnErr};
 ghost use Rattle.cmb_channels.specs.Kinds.{is_change};
 ghost use Rattle.gate_process.specs.Step.{running, started_process, pin_frontier, pin_last, heard, safe_of, next_frontier, advanced, news, drained, drained_changes};
 ghost use Rattle.gate_process.specs.Quiet.{IsQuiet};
 ghost use Rattle.gate_process.specs.Truth.{IsProcess, CanHear};
 
-use crate::advance::{Span, extend, keep_all};
+use crate::advance::{Span, extend, goes_on, keep_all};
 use crate::own_net::OwnNet;
 use crate::received::{Received, least_frontier, nothing_received};
 use cmb_channels::Message;
@@ -150,6 +150,18 @@ impl<'d> Process<'d> {
         keep_all(&self.net, self.received.as_mut_slice(), to);
         self.failed = false;
         Ok(())
+    }
+
+    /// Whether [`advance`](Self::advance) would reckon the net farther, and so tell something. It looks at
+    /// each pin once, and takes no memory.
+    pub fn can_advance(&self) -> bool
+        requires running { self.now.failed ≡ false }
+        ensures { result ≡ nat_lt self.now.state.known.frontier (next_frontier self.now.state) }
+    {
+        let safe = least_frontier(self.end, self.received.as_slice(), self.net.wires());
+        let sure = self.net.sure_frontier(self.end, safe);
+        let (from, end) = (self.frontier, self.end);
+        goes_on(&self.net, self.received.as_slice(), Span { from, sure, end })
     }
 
     /// Takes out the net's changes before a tick up to which it is known, adds them in order to the end

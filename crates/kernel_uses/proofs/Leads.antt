@@ -5,19 +5,19 @@ use Rattle.std.proofs.lemmas.List.Elements.{All-nil, All-cons, All-append}
 use Rattle.std.proofs.Math.Nat.{add-mul, mul_comm, mul-le-mul}
 use Rattle.timing_text.specs.Ranges.{most_ticks}
 use Rattle.netlist.specs.Netlist.{most_nets, most_pins}
-use Rattle.design.specs.Circuit.{Circuit, pin_count}
+use Rattle.design.specs.Circuit.{Circuit, IsCircuit, pin_count}
 use Rattle.design.specs.Equations.{waves_of}
 use Rattle.cmb_channels.specs.declared.message.Message.{Message}
 use Rattle.cmb_events.specs.declared.event.Event.{Event}
 use Rattle.cmb_events.specs.declared.event.Event.TheVariants.{Deliver, Advance}
 use Rattle.cmb_events.specs.Schedule.{Exists}
-use Rattle.cmb_kernel.specs.State.{KernelView, State, IsComplete, IsUndrained, floor_at, frontier_at, waves_in}
+use Rattle.cmb_kernel.specs.State.{KernelView, State, IsComplete, IsUndrained, floor_at, frontier_at, most_rounds, waves_in}
 use Rattle.cmb_kernel.specs.declared.counts.Counts.{Counts}
-use Rattle.cmb_kernel.specs.Step.{after_deliver, step, steps}
+use Rattle.cmb_kernel.specs.Step.{after_deliver, completed_within, step, steps}
 use Rattle.cmb_kernel.specs.Sound.{IsSound, waves_kept}
 use Rattle.cmb_kernel.specs.Sweeps.{EventsLead}
 use Rattle.cmb_kernel.specs.Useful.{is_useful, progress, useful_count}
-use Rattle.cmb_kernel.proofs.CallerLemmas.{steps_floor}
+use Rattle.cmb_kernel.proofs.CallerLemmas.{shows_as_rounds, steps_floor}
 use Rattle.kernel_uses.specs.Runs.{IsCompleted, IsLed, UsefulEventsLead}
 
 -- ---- one event more
@@ -96,10 +96,10 @@ module _ {old now : KernelView} (led : IsLed old now) where
         (useful_leads_more old.circuit event so_far (led_exists event exists) useful)
 
   -- a run that no event can lead on is complete
-  pub completed : IsComplete now.state → ((net : ℕ) → net < length now.circuit → frontier_at now.state net ≡ now.end) →
+  pub completed : IsCircuit old.circuit → IsSound old.circuit old.end old.state → IsComplete now.state → ((net : ℕ) → net < length now.circuit → frontier_at now.state net ≡ now.end) →
       waves_in now.state ≡ waves_kept now.circuit now.end now.state →
       (IsUndrained now.state → waves_in now.state ≡ waves_of now.circuit now.end) → IsCompleted old now
-  completed complete frontiers waves undrained = record {
+  completed ok began complete frontiers waves undrained = record {
     run = led.run;
     events = led.events;
     sound = led.sound;
@@ -110,15 +110,13 @@ module _ {old now : KernelView} (led : IsLed old now) where
     undrained = λ undrained_before.
         subst (λ (k : KernelView). waves_in now.state ≡ waves_of k.circuit k.end) led.run
         (undrained (λ net. floors net ∙ undrained_before net));
+    as_rounds = subst (λ s. waves_in s ≡ waves_in (completed_within (most_rounds old.end old.circuit) old.state)) led.events.leads
+        (shows_as_rounds old.circuit ok old.end old.state led.events.events began led.events.exist
+        (subst IsComplete (sym led.events.leads) complete));
   }
     where
       floors : (net : ℕ) → floor_at now.state net ≡ floor_at old.state net
       floors net = sym (ap (λ s. floor_at s net) led.events.leads) ∙ steps_floor old.state led.events.events net
-
--- what is there stays there
-pub exists_on : {old now next : KernelView} → IsLed old now → IsLed old next → (event : Event) → Exists now.circuit event → Exists next.circuit event
-exists_on {old} {now} {next} here there event exists =
-    subst (λ c. Exists c event) (sym (led_circuit there)) (led_exists here event exists)
 
 -- one run of events behind another
 steps-append : (state : State) (first later : List Event) → steps state (first ++ later) ≡ steps (steps state first) later
@@ -168,12 +166,6 @@ counts_play_no_part state counts (Deliver pin) = go (slice_index_or state.lists 
         ≡ nat_lt (progress state) (progress (after_deliver state pin messages))
     go [] = refl
     go (message ∷ messages) = refl
-
--- so what was useful before it is useful after it
-pub still_useful : (now next : KernelView) (counts : Counts) (idle event : Event) → next ≡ record now { state = step now.state idle } →
-    step now.state idle ≡ record now.state { counts = counts } → is_useful now.state event ≡ true → is_useful next.state event ≡ true
-still_useful now next counts idle event goes same useful =
-    ap (λ (k : KernelView). is_useful k.state event) goes ∙ ap (λ s. is_useful s event) same ∙ counts_play_no_part now.state counts event ∙ useful
 
 pub less_in_all : (last middle first : ℕ) → last < middle → middle ≤ first → last < first
 less_in_all last middle first less most = omega arith

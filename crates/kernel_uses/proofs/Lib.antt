@@ -3,5 +3,6 @@ mod EndsOf
 mod Histories
 mod Leads
 mod Listed
+mod Numbered
 mod Takes
 mod Visits

@@ -4,8 +4,8 @@ use Rattle.design.specs.Circuit.{Circuit}
 use Rattle.design.specs.Equations.{waves_of}
 use Rattle.cmb_events.specs.Schedule.{Exists}
 use Rattle.cmb_events.specs.declared.event.Event.{Event}
-use Rattle.cmb_kernel.specs.State.{KernelView, State, IsComplete, IsUndrained, frontier_at, floor_at, waves_in}
-use Rattle.cmb_kernel.specs.Step.{steps}
+use Rattle.cmb_kernel.specs.State.{KernelView, State, IsComplete, IsUndrained, frontier_at, floor_at, most_rounds, waves_in}
+use Rattle.cmb_kernel.specs.Step.{steps, completed_within}
 use Rattle.cmb_kernel.specs.Sound.{IsSound, waves_kept}
 use Rattle.cmb_kernel.specs.Sweeps.{EventsLead}
 use Rattle.cmb_kernel.specs.Useful.{useful_count}
@@ -25,7 +25,7 @@ pub record UsefulEventsLead (circuit : Circuit) (old new : State) (count : ℕ) 
   pub all : length events ≡ count
 
 -- events and nothing else led a kernel to the end of its run: each net is known to the end, and shows what the equations give,
--- from its floor on, and from tick 0 on where nothing was taken out
+-- from its floor on, and from tick 0 on where nothing was taken out; so it shows what it would after rounds
 pub record IsCompleted (old new : KernelView) : Type 0 where
   pub run : new ≡ record old { state = new.state }
   pub events : EventsLead old.circuit old.state new.state
@@ -35,3 +35,4 @@ pub record IsCompleted (old new : KernelView) : Type 0 where
   pub floors : (net : ℕ) → floor_at new.state net ≡ floor_at old.state net
   pub waves : waves_in new.state ≡ waves_kept old.circuit old.end new.state
   pub undrained : IsUndrained old.state → waves_in new.state ≡ waves_of old.circuit old.end
+  pub as_rounds : waves_in new.state ≡ waves_in (completed_within (most_rounds old.end old.circuit) old.state)

@@ -1,11 +1,16 @@
--- What a driver with a work list keeps.
-use Rattle.std.specs.Prelude.{◌≡◌, ◌≢◌, ℕ, ◌<◌, ◌≤◌, false, [], length, slice_index_or}
+-- What there is to do, and what a driver with a work list keeps.
+use Rattle.std.specs.Prelude.{◌≡◌, ◌≢◌, ℕ, ◌-◌, ◌<◌, ◌≤◌, nat_lt, if◌then◌else◌, false, [], length, slice_index_or}
 use Rattle.design.specs.Circuit.{Circuit, pin_count}
 use Rattle.design.specs.Pins.{net_of_pin}
-use Rattle.cmb_events.specs.declared.event.Event.TheVariants.{Advance}
+use Rattle.cmb_events.specs.declared.event.Event.{Event}
+use Rattle.cmb_events.specs.declared.event.Event.TheVariants.{Deliver, Advance}
 use Rattle.cmb_kernel.specs.State.{KernelView, State}
 use Rattle.cmb_kernel.specs.Useful.{is_useful, remaining}
 use Rattle.kernel_uses.specs.Runs.{IsLed}
+
+-- events by number: first the deliveries to all pins, then the advances of all nets
+abbrev pub event_numbered : Circuit → ℕ → Event
+event_numbered circuit number = if nat_lt number (pin_count circuit) then Deliver number else Advance (number - pin_count circuit)
 
 -- a net has nothing to do: it has nothing to tell, and nothing waits at its pins
 pub record IsIdle (circuit : Circuit) (state : State) (net : ℕ) : Type 0 where

@@ -1,18 +1,22 @@
 //! A driver that draws what to do.
-ghost use Rattle.std.specs.Prelude.{◌≡◌, if◌then◌else◌, true, IfErr, OnErr, OnOk};
+ghost use Rattle.std.specs.Prelude.{◌≡◌, ℕ, ◌+◌, ◌<◌, if◌then◌else◌, true, false, length, IfSome, IfNone, IfErr, OnErr, OnOk};
+ghost use Rattle.design.specs.Circuit.{pin_count};
+ghost use Rattle.cmb_events.specs.declared.event.Event.{Event};
 ghost use Rattle.cmb_events.specs.Schedule.{Exists};
-ghost use Rattle.kernel_uses.specs.Runs.{IsCompleted};
+ghost use Rattle.cmb_kernel.specs.Useful.{is_useful};
+ghost use Rattle.kernel_uses.specs.Runs.{IsCompleted, UsefulEventsLead};
+ghost use Rattle.kernel_uses.specs.Work.{event_numbered};
 
 use cmb_channels::Fabric;
 use cmb_events::Event;
-use cmb_kernel::laws::{progress_left, useless_events};
+use cmb_kernel::laws::progress_left;
 use cmb_kernel::{Kernel, KernelFault};
 use rand_core::SeedableRng;
 use rand_core::utils::NextWord;
 use rand_pcg::Lcg64Xsh32;
 
-/// Applies events that are drawn by a seed, until each net is known up to the horizon. Where a drawn event
-/// turns out useless, one that the kernel calls useful comes behind it.
+/// Applies events that are drawn by a seed among those that are useful, one after another, until there is
+/// none.
 ///
 /// Whatever is drawn, each net shows at the end what it shows after rounds.
 ///
@@ -20,6 +24,8 @@ use rand_pcg::Lcg64Xsh32;
 /// [`KernelFault::Failed`]; nothing changed. [`KernelFault::Memory`]; the kernel has failed from then on.
 pub fn drive_by_draws<F: Fabric>(kernel: &mut Kernel<'_, F>, seed: u64) -> Result<(), KernelFault>
     ensures ok { OnOk result (IsCompleted kernel.old kernel.new) }
+    ensures useful { OnOk result ((count : ℕ)
+        × UsefulEventsLead kernel.old.circuit kernel.old.state kernel.new.state count) }
     ensures fault { IfErr result (λ fault.
         fault ≡ (if kernel.old.failed then KernelFault.Failed else KernelFault.Memory)) }
     ensures failed { OnErr result (kernel.new.failed ≡ true) }
@@ -29,27 +35,49 @@ pub fn drive_by_draws<F: Fabric>(kernel: &mut Kernel<'_, F>, seed: u64) -> Resul
         return Err(KernelFault::Failed);
     }
     progress_left();
-    useless_events();
     let mut words = Lcg64Xsh32::seed_from_u64(seed);
-    while let Some(event) = kernel.useful() {
-        let drawn = event_of(kernel, words.next_word());
-        if kernel.apply(drawn)? {
-            continue;
-        }
+    while let Some(event) = draw(kernel, &mut words) {
         kernel.apply(event)?;
     }
+    // Where no event is useful the kernel names none either.
+    prove!(kernel.useful().is_none());
     Ok(())
 }
 
-/// The event that a word picks: first stand the deliveries to all pins, and then the advances of all nets.
-fn event_of<F: Fabric>(kernel: &Kernel<'_, F>, word: u32) -> Event
-    ensures { Exists kernel.now.circuit result }
+/// A useful event, each as likely as any other, or `None` where no event is useful. It looks at each pin
+/// and each net once.
+fn draw<F: Fabric>(kernel: &Kernel<'_, F>, words: &mut Lcg64Xsh32) -> Option<Event>
+    requires { kernel.now.failed ≡ false }
+    ensures some { IfSome result (λ event.
+        Exists kernel.now.circuit event × (is_useful kernel.now.state event ≡ true)) }
+    ensures none { IfNone result ((event : Event) →
+        Exists kernel.now.circuit event → is_useful kernel.now.state event ≡ false) }
+{
+    let mut drawn = None;
+    let mut found = 0;
+    for number in 0..kernel.nets() + kernel.pins() {
+        let event = event_numbered(kernel, number);
+        if kernel.is_useful(event) {
+            found += 1;
+            // Of so many that were found, each stays with the same likelihood.
+            if drawn.is_none() || words.next_word() % found == 0 {
+                drawn = Some(event);
+            }
+        }
+    }
+    drawn
+}
+
+/// The event of a number: first stand the deliveries to all pins, and then the advances of all nets.
+fn event_numbered<F: Fabric>(kernel: &Kernel<'_, F>, number: u32) -> Event
+    requires { number < length kernel.now.circuit + pin_count kernel.now.circuit }
+    ensures event { result ≡ event_numbered kernel.now.circuit number }
+    ensures exists { Exists kernel.now.circuit result }
 {
     let pins = kernel.pins();
-    let place = word % (kernel.nets() + pins);
-    if place < pins {
-        Event::Deliver(place)
+    if number < pins {
+        Event::Deliver(number)
     } else {
-        Event::Advance(place - pins)
+        Event::Advance(number - pins)
     }
 }

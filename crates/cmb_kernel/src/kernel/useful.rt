@@ -1,6 +1,7 @@
 ghost use Rattle.std.specs.Prelude.{◌≡◌, ℕ, ◌<◌, ◌↔◌, true, false, length, slice_index_or, [], IsNone, IfSome, IfNone};
 ghost use Rattle.design.specs.Circuit.{pin_count};
 ghost use Rattle.design.specs.Equations.{waves_of};
+ghost use Rattle.cmb_events.specs.declared.event.Event.TheVariants.{Deliver, Advance};
 ghost use Rattle.cmb_kernel.specs.State.{frontier_at, IsComplete, IsUndrained, waves_in};
 ghost use Rattle.cmb_kernel.specs.Sound.{waves_kept};
 ghost use Rattle.cmb_kernel.specs.Useful.{is_useful};
@@ -36,6 +37,35 @@ impl<'d, F: Fabric> Kernel<'d, F> {
             Some(pin) => Some(Event::Deliver(pin)),
             None => Some(Event::Advance(net)),
         }
+    }
+
+    /// Whether an event would raise a frontier: a delivery where a message waits at the pin, an advance where
+    /// the net can be reckoned farther. It looks at each pin of one net at most, and takes no memory.
+    pub fn is_useful(&self, event: Event) -> bool
+        requires running { self.now.failed ≡ false }
+        requires exists { Exists self.now.circuit event }
+        ensures { result ≡ is_useful self.now.state event }
+    {
+        match event {
+            Event::Deliver(pin) => self.can_deliver(pin),
+            Event::Advance(net) => self.can_advance(net),
+        }
+    }
+
+    fn can_deliver(&self, pin: u32) -> bool
+        requires running { self.now.failed ≡ false }
+        requires exists { pin < pin_count self.now.circuit }
+        ensures { result ≡ is_useful self.now.state (Deliver pin) }
+    {
+        self.fabric.waiting(pin) > 0
+    }
+
+    fn can_advance(&self, net: u32) -> bool
+        requires running { self.now.failed ≡ false }
+        requires exists { net < length self.now.circuit }
+        ensures { result ≡ is_useful self.now.state (Advance net) }
+    {
+        self.processes.of_net(net).can_advance()
     }
 
     /// The first pin where a message waits.

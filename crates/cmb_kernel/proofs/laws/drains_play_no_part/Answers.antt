@@ -10,8 +10,8 @@ pub returns-clause-sound : goal.returns-clause-sound
 returns-clause-sound c circuit ok last state sound actions = all_acted_sound circuit ok last state actions sound
 
 pub returns-clause-sweeps : goal.returns-clause-sweeps
-returns-clause-sweeps c circuit ok last one other sound_one sound_other alike tick order exist =
-    alike_sweep circuit ok last tick order one other sound_one sound_other exist alike
+returns-clause-sweeps c circuit ok last one other both tick order exist =
+    alike_sweep circuit ok last tick order one other both.one_sound both.other_sound exist both.alike
 
 pub returns-clause-floors : goal.returns-clause-floors
 returns-clause-floors c = steps_floor
@@ -21,4 +21,4 @@ returns-clause-values c circuit ok last state sound actions allowed net process 
     λ at. (nothing_lost circuit ok last net process state actions sound allowed at).changes
 
 pub returns-clause-complete : goal.returns-clause-complete
-returns-clause-complete c circuit ok last actions allowed complete net process = all_given_out circuit ok last net process actions allowed complete
+returns-clause-complete c circuit ok last actions run net process = all_given_out circuit ok last net process actions run.allowed run.complete

@@ -1,69 +1,75 @@
-use Rattle.std.proofs.Common.{◌≡◌, ◌<◌, ◌≤◌, [], false, cond, refl, subst, sym, ap, ◌∙◌}
+use Rattle.std.proofs.Common.{◌≡◌, ◌+◌, ◌<◌, not, false, cond, subst, sym, ap, ◌∙◌}
+use Rattle.std.specs.Option.{is_some}
 use Rattle.std.proofs.lemmas.Result.{err_from_is_err_and}
 use Rattle.logic3.proofs.CallerLemmas.{OnErr_always}
 use Rattle.cmb_kernel.specs.declared.fault.KernelFault.TheVariants.{Memory, Failed}
-use Rattle.cmb_kernel.specs.Step.{counted}
-use Rattle.cmb_kernel.specs.Useful.{is_useful, remaining}
+use Rattle.cmb_kernel.specs.Useful.{remaining}
 use Rattle.kernel_uses.proofs.Applied.{has_failed, only_memory}
-use Rattle.kernel_uses.specs.Runs.{IsLed}
-use Rattle.kernel_uses.proofs.Leads.{completed, exists_on, led_event, led_exists, led_running, less_in_all, next_state, still_useful}
+use Rattle.kernel_uses.proofs.Leads.{completed, led_event, led_exists, led_nowhere, led_running, next_state, useful_event, useful_nowhere}
+use Rattle.kernel_uses.proofs.Visits.{at_none, names_none}
 use Rattle.kernel_uses.proofs.drawing.drive_by_draws.Goals as goal
-use Rattle.kernel_uses.proofs.drawing.drive_by_draws.Goals.{In_ok-apply}
 
--- the drawn event leads on
-drawn : (g : _) (c : In_ok-apply g) → IsLed c.args.kernel.now c.apply.new.self
-drawn g c =
-    led_event c.loop-event.invariant c.apply.new.self c.event_of-drawn.result c.in_ok-apply.ensures.ok c.event_of-drawn.ensures
-    (sym c.is_failed.ensures.failed ∙ c.if-is_failed.false) c.in_ok-apply.ensures.outcome.sound
+pub loop-event-init : goal.loop-event-init
+loop-event-init g c =
+    let running = sym c.is_failed.ensures.failed ∙ c.if-is_failed.false in
+    record {
+      led = led_nowhere c.args.kernel.now (c.is_failed.ensures.sound running);
+      useful = (0, useful_nowhere c.args.kernel.now.circuit c.args.kernel.now.state);
+    }
 
-pub loop-event-preserved-then-branch : goal.loop-event-preserved-then-branch
-loop-event-preserved-then-branch g c = drawn g (goal.at.loop-event-preserved-then-branch g c).In_ok-apply
+pub draw-requires : goal.draw-requires
+draw-requires g c = led_running c.loop-event.invariant.led (sym c.is_failed.ensures.failed ∙ c.if-is_failed.false)
+
+pub returns-in_err-apply-clause-fault : goal.returns-in_err-apply-clause-fault
+returns-in_err-apply-clause-fault g c =
+    let began = sym c.is_failed.ensures.failed ∙ c.if-is_failed.false in
+    let running = led_running c.loop-event.invariant.led began in
+    let p = err_from_is_err_and c.from_residual.result c.from_residual.ensures.1 in
+    rw (p.1, p.2)
+    (only_memory c.loop-event.kernel c.apply.new.self c.in-Some.event _ _ running c.in-Some.ensures.some.0 _ c.in_err-apply.ensures.outcome
+    ∙ sym (ap (λ b. cond b Failed Memory) began))
+
+pub returns-in_err-apply-clause-failed : goal.returns-in_err-apply-clause-failed
+returns-in_err-apply-clause-failed g c =
+    let running = led_running c.loop-event.invariant.led (sym c.is_failed.ensures.failed ∙ c.if-is_failed.false) in
+    OnErr_always c.from_residual.result
+    (has_failed c.loop-event.kernel c.apply.new.self c.in-Some.event _ _ running c.in-Some.ensures.some.0 _ c.in_err-apply.ensures.outcome)
 
 pub loop-event-smaller : goal.loop-event-smaller
 loop-event-smaller g c =
     let start = c.args.kernel.now in
     let now = c.loop-event.kernel in
-    let ok = c.is_failed.ensures.circuit (sym c.is_failed.ensures.failed ∙ c.if-is_failed.false) in
-    let led = c.loop-event.invariant in
-    let mid = drawn g (goal.at.loop-event-smaller g c).In_ok-apply in
-    let drawn_there = led_exists led c.event_of-drawn.result c.event_of-drawn.ensures in
-    let idle : is_useful now.state c.event_of-drawn.result ≡ false = sym c.in_ok-apply.ensures.useful ∙ c.if-branch.false in
-    let useful = still_useful now c.apply.new.self (counted now.state.counts []) c.event_of-drawn.result c.in-Some.event c.in_ok-apply.ensures.ok
-    (c.useless_events.ensures start.circuit ok start.end now.state led.sound c.event_of-drawn.result drawn_there idle) c.in-Some.ensures.some.1 in
-    less_in_all (remaining start.circuit start.end c.apply-in-Some.new.self.state) (remaining start.circuit start.end c.apply.new.self.state)
-    (remaining start.circuit start.end now.state)
-    (subst (λ s. remaining start.circuit start.end s < remaining start.circuit start.end c.apply.new.self.state)
-    (next_state mid c.apply-in-Some.new.self c.in-Some.event c.in_ok-apply-2.ensures.ok c.in_ok-apply-2.ensures.exists)
-    (c.progress_left.ensures.useful start.circuit ok start.end c.apply.new.self.state mid.sound c.in-Some.event
-    (led_exists mid c.in-Some.event c.in_ok-apply-2.ensures.exists) useful))
-    (subst (λ s. remaining start.circuit start.end s ≤ remaining start.circuit start.end now.state)
-    (next_state led c.apply.new.self c.event_of-drawn.result c.in_ok-apply.ensures.ok c.event_of-drawn.ensures)
-    (c.progress_left.ensures.any start.circuit ok start.end now.state led.sound c.event_of-drawn.result drawn_there))
+    let running = sym c.is_failed.ensures.failed ∙ c.if-is_failed.false in
+    let led = c.loop-event.invariant.led in
+    subst (λ s. remaining start.circuit start.end s < remaining start.circuit start.end now.state)
+    (next_state led c.apply.new.self c.in-Some.event c.in_ok-apply.ensures.ok c.in-Some.ensures.some.0)
+    (c.progress_left.ensures.useful start.circuit (c.is_failed.ensures.circuit running) start.end now.state led.sound c.in-Some.event
+    (led_exists led c.in-Some.event c.in-Some.ensures.some.0) c.in-Some.ensures.some.1)
 
 pub loop-event-preserved : goal.loop-event-preserved
 loop-event-preserved g c =
-    led_event (drawn g (goal.at.loop-event-preserved g c).In_ok-apply) c.apply-in-Some.new.self c.in-Some.event c.in_ok-apply-2.ensures.ok
-    c.in_ok-apply-2.ensures.exists (sym c.is_failed.ensures.failed ∙ c.if-is_failed.false) c.in_ok-apply-2.ensures.outcome.sound
+    let running = sym c.is_failed.ensures.failed ∙ c.if-is_failed.false in
+    let led = c.loop-event.invariant.led in
+    let so_far = c.loop-event.invariant.useful in
+    record {
+      led = led_event led c.apply.new.self c.in-Some.event c.in_ok-apply.ensures.ok c.in-Some.ensures.some.0 running c.in_ok-apply.ensures.outcome.sound;
+      useful = (
+        so_far.0 + 1,
+        useful_event led c.apply.new.self c.in-Some.event c.in_ok-apply.ensures.ok c.in-Some.ensures.some.0 so_far.1 c.in-Some.ensures.some.1,
+      );
+    }
 
-pub returns-in_err-apply-2-clause-fault : goal.returns-in_err-apply-2-clause-fault
-returns-in_err-apply-2-clause-fault g c =
-    let began = sym c.is_failed.ensures.failed ∙ c.if-is_failed.false in
-    let mid = drawn g (goal.at.returns-in_err-apply-2-clause-fault g c).In_ok-apply in
-    let p = err_from_is_err_and c.from_residual-in_err-apply-2.result c.from_residual-in_err-apply-2.ensures.1 in
-    rw (p.1, p.2)
-    (only_memory c.apply.new.self c.apply-in-Some.new.self c.in-Some.event _ _ (led_running mid began)
-    (exists_on c.loop-event.invariant mid c.in-Some.event c.in-Some.ensures.some.0) _ c.in_err-apply-2.ensures.outcome
-    ∙ sym (ap (λ b. cond b Failed Memory) began))
-
-pub returns-in_err-apply-2-clause-failed : goal.returns-in_err-apply-2-clause-failed
-returns-in_err-apply-2-clause-failed g c =
-    let began = sym c.is_failed.ensures.failed ∙ c.if-is_failed.false in
-    let mid = drawn g (goal.at.returns-in_err-apply-2-clause-failed g c).In_ok-apply in
-    OnErr_always c.from_residual-in_err-apply-2.result
-    (has_failed c.apply.new.self c.apply-in-Some.new.self c.in-Some.event _ _ (led_running mid began)
-    (exists_on c.loop-event.invariant mid c.in-Some.event c.in-Some.ensures.some.0) _ c.in_err-apply-2.ensures.outcome)
+-- an event that the kernel names is useful, so it would have been drawn
+pub prove-unreachable-requires : goal.prove-unreachable-requires
+prove-unreachable-requires g c =
+    names_none c.useful.result _ c.useful.ensures.some
+    (λ event holds. let both = sym holds.1 ∙ c.in_default.ensures.none event holds.0 in cc)
+    c.if-prove.ensures
 
 pub returns-clause-ok : goal.returns-clause-ok
 returns-clause-ok g c =
-    completed c.loop-event.invariant (c.in_default.ensures.none.0 refl) c.in_default.ensures.frontiers c.in_default.ensures.waves
-    c.in_default.ensures.undrained
+    let running = sym c.is_failed.ensures.failed ∙ c.if-is_failed.false in
+    let none : is_some c.useful.result ≡ false = c.is_none.ensures ∙ ap not c.if-prove.false in
+    completed c.loop-event.invariant.led (c.is_failed.ensures.circuit running) (c.is_failed.ensures.sound running) (c.useful.ensures.none.0 none)
+    (at_none c.useful.result none c.useful.ensures.frontiers) (at_none c.useful.result none c.useful.ensures.waves)
+    (λ undrained. at_none c.useful.result none (c.useful.ensures.undrained undrained))

@@ -90,7 +90,8 @@ loop-event-preserved g c =
 
 pub returns-clause-ok : goal.returns-clause-ok
 returns-clause-ok g c =
-    completed c.loop-event.invariant.led (c.in_default.ensures.none.0 refl) c.in_default.ensures.frontiers c.in_default.ensures.waves
+    let running = sym c.is_failed.ensures.failed ∙ c.if-is_failed.false in
+    completed c.loop-event.invariant.led (c.is_failed.ensures.circuit running) (c.is_failed.ensures.sound running) (c.in_default.ensures.none.0 refl) c.in_default.ensures.frontiers c.in_default.ensures.waves
     c.in_default.ensures.undrained
 
 pub returns-clause-useful : goal.returns-clause-useful

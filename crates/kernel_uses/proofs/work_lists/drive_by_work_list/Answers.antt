@@ -121,6 +121,7 @@ prove-unreachable-requires g c =
 pub returns-clause-ok : goal.returns-clause-ok
 returns-clause-ok g c =
     let none : is_some c.useful.result ≡ false = c.is_none.ensures ∙ ap not c.if-prove.false in
-    completed c.loop-net.invariant.led (c.useful.ensures.none.0 none) (at_none c.useful.result none c.useful.ensures.frontiers)
+    let running = sym c.is_failed.ensures.failed ∙ c.if-is_failed.false in
+    completed c.loop-net.invariant.led (c.is_failed.ensures.circuit running) (c.is_failed.ensures.sound running) (c.useful.ensures.none.0 none) (at_none c.useful.result none c.useful.ensures.frontiers)
     (at_none c.useful.result none c.useful.ensures.waves)
     (λ undrained. at_none c.useful.result none (c.useful.ensures.undrained undrained))

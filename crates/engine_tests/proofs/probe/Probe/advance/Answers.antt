@@ -1,6 +1,6 @@
 use Rattle.std.proofs.Common.{◌≡◌, ◌∙◌, false, rules}
 use Rattle.engine_tests.proofs.Probes.{advances}
-use Rattle.engine_tests.proofs.processes.Probe.advance.Goals as goal
+use Rattle.engine_tests.proofs.probe.Probe.advance.Goals as goal
 
 pub invariant_of-self : goal.invariant_of-self
 invariant_of-self g c =

@@ -2,7 +2,7 @@ use Rattle.std.proofs.Common.{◌≡◌, ◌∙◌, false, arith, rules}
 use Rattle.cmb_channels.specs.declared.message.Message.TheVariants.{Null}
 use Rattle.gate_process.proofs.CallerLemmas.{can_hear_null}
 use Rattle.engine_tests.proofs.Probes.{stays}
-use Rattle.engine_tests.proofs.processes.Probe.hear_null.Goals as goal
+use Rattle.engine_tests.proofs.probe.Probe.hear_null.Goals as goal
 
 pub receive-requires-clause-can_hear : goal.receive-requires-clause-can_hear
 receive-requires-clause-can_hear g c =

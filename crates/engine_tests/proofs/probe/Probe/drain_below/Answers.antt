@@ -1,6 +1,6 @@
 use Rattle.std.proofs.Common.{◌≡◌, ◌∙◌, false, rules}
 use Rattle.engine_tests.proofs.Probes.{drains}
-use Rattle.engine_tests.proofs.processes.Probe.drain_below.Goals as goal
+use Rattle.engine_tests.proofs.probe.Probe.drain_below.Goals as goal
 
 pub invariant_of-self : goal.invariant_of-self
 invariant_of-self g c =
