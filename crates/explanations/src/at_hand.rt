@@ -1,7 +1,9 @@
 //! What is told of a fault at hand.
 ghost use Rattle.std.specs.Prelude.{◌≡◌, ◌++◌, flat_map, option_and_then, option_map, string_bytes, IfOk, OnOk};
-ghost use Rattle.explanations.specs.AtHand.{hint_if_called, hint_of, hints_in, line_at, told_at_hand};
+ghost use Rattle.explanations.specs.AtHand.{hint_if_called, hint_of, hints_in, told_at_hand};
+ghost use Rattle.explanations.specs.Excerpt.{line_at};
 
+use crate::at_fault::push_at_fault;
 use crate::excerpt::{line_at, push_excerpt};
 use crate::explanation::Explanation;
 use crate::subject::Subject;
@@ -21,8 +23,9 @@ pub struct AtHand<'a> {
     pub text: Option<&'a [u8]>,
 }
 
-/// What is told of a fault: the line of its text, where the text is known, what it means, and what is
-/// wanted. Of a long line the first 100 bytes are shown, and a byte that isn't printable as `?`.
+/// What is told of a fault: the line of its text, where the text is known, the word at fault, or the
+/// earlier line that is of the same, where the lines alone tell it, what it means, and what is wanted. Of
+/// a long line the first 100 bytes are shown, and a byte that isn't printable as `?`.
 pub fn fault_text(alloc: Global, tables: &[Table], fault: AtHand<'_>) -> Result<Vec<u8>, AllocError>
     ensures { IfOk result (λ told. told.items ≡ told_at_hand tables.now fault.entry.subject fault.entry.name.now
         fault.entry.line (option_map (λ text. text.now) fault.entry.text)) }
@@ -33,6 +36,14 @@ pub fn fault_text(alloc: Global, tables: &[Table], fault: AtHand<'_>) -> Result<
         &mut told,
         fault.line,
         line_of(fault.line, fault.text),
+    )?;
+    push_at_fault(
+        alloc,
+        &mut told,
+        fault.subject,
+        fault.name,
+        fault.line,
+        fault.text,
     )?;
     let hints = hints_text(alloc, tables, fault.subject, fault.name)?;
     told.extend_from_slice(hints.as_str().as_bytes())?;

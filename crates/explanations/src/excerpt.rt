@@ -1,6 +1,6 @@
 //! The line of a text at fault, as it is shown.
 ghost use Rattle.std.specs.Prelude.{◌≡◌, ◌++◌, OnOk, option_map, slice_get, take};
-ghost use Rattle.explanations.specs.AtHand.{cut_mark, excerpt, line_at, shown_byte, shown_line};
+ghost use Rattle.explanations.specs.Excerpt.{cut_mark, excerpt, line_at, line_told, shown_byte, shown_line};
 ghost use Rattle.text_lines.specs.Text.{lines_of};
 
 use std::alloc::{AllocError, Global};
@@ -35,10 +35,24 @@ pub(crate) fn push_excerpt(
 ) -> Result<(), AllocError>
     ensures { OnOk result (told.new.items ≡ told.old.items ++ excerpt number (option_map (λ line. line.now) line.entry)) }
 {
+    push_line(alloc, told, " is: ", number, line)
+}
+
+/// Adds `line N`, what is said of it, and the line, if there is one, and a line feed.
+pub(crate) fn push_line(
+    alloc: Global,
+    told: &mut Vec<u8>,
+    said: &str,
+    number: u64,
+    line: Option<&[u8]>,
+) -> Result<(), AllocError>
+    ensures { OnOk result (told.new.items ≡ told.old.items
+        ++ line_told said.now number (option_map (λ line. line.now) line.entry)) }
+{
     let Some(line) = line else {
         return Ok(());
     };
-    let head = format!(in alloc; "line {number} is: ")?;
+    let head = format!(in alloc; "line {number}{said}")?;
     told.extend_from_slice(head.as_str().as_bytes())?;
     push_shown(told, line)?;
     told.push(b'\n')?;
@@ -46,7 +60,7 @@ pub(crate) fn push_excerpt(
 }
 
 /// Adds a line: its first bytes where it is long, and `?` for each that isn't printable.
-fn push_shown(told: &mut Vec<u8>, line: &[u8]) -> Result<(), AllocError>
+pub(crate) fn push_shown(told: &mut Vec<u8>, line: &[u8]) -> Result<(), AllocError>
     ensures { OnOk result (told.new.items ≡ told.old.items ++ shown_line line.now) }
 {
     for byte in head_of(line) {

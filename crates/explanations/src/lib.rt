@@ -2,8 +2,11 @@
 //! hand.
 #![tactic(auto)]
 
+mod above;
+mod at_fault;
 mod at_hand;
 mod bench;
+mod bench_lines;
 mod deck;
 mod delays;
 mod excerpt;
@@ -15,6 +18,8 @@ mod stimuli;
 mod subject;
 mod table;
 mod telling;
+mod topic;
+mod undefined;
 
 pub use at_hand::{AtHand, fault_text};
 pub use explanation::{Example, Explanation};

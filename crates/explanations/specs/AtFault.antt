@@ -1,0 +1,168 @@
+-- What is told of the word at fault, by what the lines of its text say alone.
+use Rattle.std.specs.Prelude.{ℕ, ◌==◌, ◌||◌, ◌&&◌, not, nat_lt, Bool, false, if◌then◌else◌, List, [], ◌∷◌, ◌++◌, drop, filter, slice_get, codes, bytes_eq, Option, None, Some, unwrap_or}
+use Rattle.std.specs.List.{find, last_or, list_any, prefix_len, slice_split}
+use Rattle.std.specs.Option.{option_map_or}
+use Rattle.std.specs.Str.{str_eq_ignore_ascii_case}
+use Rattle.explanations.specs.declared.subject.Subject.{Subject}
+use Rattle.explanations.specs.declared.subject.Subject.TheVariants.{Bench, Delays, Stimuli, Schedule}
+use Rattle.explanations.specs.Excerpt.{line_at, line_told, shown_line}
+use Rattle.text_lines.specs.Text.{code_lines, code_of, is_empty, is_white, words_of}
+
+-- ---- the words of a line without its comment
+
+abbrev pub word_at : ℕ → List ℕ → Option (List ℕ)
+word_at place code = slice_get (words_of code) place
+
+-- white space, or a mark of a .bench line
+abbrev pub is_gap : ℕ → Bool
+is_gap byte = is_white byte || list_any (λ mark. mark == byte) (codes "(),=")
+
+-- what stands between them in a .bench line: names, and words such as NAND
+abbrev pub names_in : List ℕ → List (List ℕ)
+names_in code = filter (λ name. not (is_empty name)) (slice_split is_gap code)
+
+abbrev pub name_at : ℕ → List ℕ → Option (List ℕ)
+name_at place code = slice_get (names_in code) place
+
+-- ---- the nets that a .bench line defines and uses
+
+-- `NAME = GATE(NAME, NAME)`, and neither `INPUT(NAME)` nor `OUTPUT(NAME)`
+abbrev pub is_assignment : List ℕ → Bool
+is_assignment code = list_any (λ byte. byte == 61) code
+
+-- the word INPUT, in any case of its letters
+abbrev pub is_input_word : List ℕ → Bool
+is_input_word word = str_eq_ignore_ascii_case word (codes "INPUT")
+
+abbrev pub begins_with_input : List ℕ → Bool
+begins_with_input code = option_map_or is_input_word (name_at 0 code) false
+
+-- the net that the line defines
+abbrev pub defined_by : List ℕ → Option (List ℕ)
+defined_by code =
+    if is_assignment code then name_at 0 code
+    else if begins_with_input code then name_at 1 code
+    else None
+
+-- the nets that it uses: the pins of a gate, or an output
+abbrev pub used_by : List ℕ → List (List ℕ)
+used_by code = drop (if is_assignment code then 2 else 1) (names_in code)
+
+-- ---- what a line is of
+
+-- its net; of a delay text in the second version also its first word, and of wires the place of the pin. Each is empty where it isn't there
+pub record Topic : Type 0 where
+  pub net : List ℕ
+  pub form : List ℕ
+  pub pin : List ℕ
+
+abbrev pub of_net : Option (List ℕ) → Topic
+of_net net = record { net = unwrap_or net []; form = []; pin = [] }
+
+-- 00 is the place 0
+abbrev pub without_zeros : List ℕ → List ℕ
+without_zeros digits = drop (prefix_len (λ digit. digit == 48) digits) digits
+
+abbrev pub pin_of : List ℕ → List ℕ → List ℕ
+pin_of form place = (if bytes_eq form (codes "wire") then without_zeros place else [])
+
+-- `NAME TICKS`, or a form, a name and more
+abbrev pub delay_topic : List (List ℕ) → Topic
+delay_topic (net ∷ ticks ∷ []) = of_net (Some net)
+delay_topic (form ∷ net ∷ third ∷ more) = record { net = net; form = form; pin = pin_of form third }
+delay_topic _ = of_net None
+
+abbrev pub topic_of : Subject → List ℕ → Topic
+topic_of Bench code = of_net (defined_by code)
+topic_of Delays code = delay_topic (words_of code)
+topic_of Stimuli code = of_net (word_at 1 code)
+topic_of Schedule code = of_net (word_at 1 code)
+topic_of other code = of_net None
+
+abbrev pub is_same : Topic → Topic → Bool
+is_same one other = not (is_empty one.net) && (bytes_eq one.net other.net && (bytes_eq one.form other.form && bytes_eq one.pin other.pin))
+
+-- ---- the earlier line that is of the same
+
+abbrev pub is_above : Subject → ℕ → Topic → ℕ × List ℕ → Bool
+is_above subject number topic line = nat_lt line.0 number && is_same topic (topic_of subject line.1)
+
+-- the number of a line, and 0 for none
+abbrev pub number_or_none : Option (ℕ × List ℕ) → ℕ
+number_or_none line = option_map_or (λ (line : ℕ × List ℕ). line.0) line 0
+
+-- the number of the last line above this one that is of the same
+abbrev pub line_above : Subject → ℕ → Topic → List ℕ → ℕ
+line_above subject number topic text = number_or_none (last_or None (filter (is_above subject number topic) (code_lines text)))
+
+-- what is said of it
+abbrev pub too : Subject → List ℕ
+too Bench = codes " defines it too: "
+too Stimuli = codes " is of this input too: "
+too other = codes " says it too: "
+
+abbrev pub earlier_line : Subject → ℕ → Topic → List ℕ → List ℕ
+earlier_line subject number topic text =
+    let other = line_above subject number topic text in
+    line_told (too subject) other (line_at other text)
+
+-- ---- the name that no line defines
+
+abbrev pub is_net : Option (List ℕ) → List ℕ → Bool
+is_net net name = option_map_or (bytes_eq name) net false
+
+abbrev pub defines : List ℕ → ℕ × List ℕ → Bool
+defines name line = is_net (defined_by line.1) name
+
+abbrev pub is_undefined : List ℕ → List ℕ → Bool
+is_undefined text name = not (list_any (defines name) (code_lines text))
+
+-- the first that the line uses
+abbrev pub undefined_in : List ℕ → List ℕ → Option (List ℕ)
+undefined_in code text = find (is_undefined text) (used_by code)
+
+-- ---- the word at fault, by its place in the line
+
+abbrev pub is_among : List (List ℕ) → List ℕ → Bool
+is_among names name = list_any (bytes_eq name) names
+
+-- the faults of a net that isn't there, or isn't of the kind that is wanted
+abbrev pub of_nets : List (List ℕ)
+of_nets = codes "UnknownNet" ∷ codes "IsInput" ∷ codes "NotAFlop" ∷ codes "NotAnInput" ∷ []
+
+-- the faults of the third word
+abbrev pub of_thirds : List (List ℕ)
+of_thirds = codes "BadPin" ∷ codes "BadPeriod" ∷ codes "BadValue" ∷ []
+
+abbrev pub word_at_fault : Subject → List ℕ → List ℕ → Option (List ℕ)
+word_at_fault subject name code =
+    if is_among of_nets name then Some (topic_of subject code).net
+    else if is_among of_thirds name then word_at 2 code
+    else if bytes_eq name (codes "BadPhase") then word_at 3 code
+    else if bytes_eq name (codes "BadTicks") then last_or None (words_of code)
+    else if bytes_eq name (codes "TickTooLarge") then word_at 0 code
+    else if bytes_eq name (codes "UnknownGate") then name_at 1 code
+    else None
+
+-- ---- what is told of it
+
+abbrev pub word_told : List ℕ → Option (List ℕ) → List ℕ
+word_told said None = []
+word_told said (Some word) = said ++ shown_line word ++ codes "\n"
+
+-- the faults of a line that is of the same as an earlier one
+abbrev pub of_repeats : List (List ℕ)
+of_repeats = codes "DefinedTwice" ∷ codes "Twice" ∷ codes "NotRising" ∷ []
+
+-- of a line without its comment, in a text
+abbrev pub at_fault_in : Subject → List ℕ → ℕ → List ℕ → List ℕ → List ℕ
+at_fault_in subject name number text code =
+    if is_among of_repeats name then earlier_line subject number (topic_of subject code) text
+    else if bytes_eq name (codes "Undefined") then word_told (codes "no line defines ") (undefined_in code text)
+    else word_told (codes "the word is: ") (word_at_fault subject name code)
+
+-- of the line of this number, if the text is known and has it
+abbrev pub at_fault : Subject → List ℕ → ℕ → Option (List ℕ) → List ℕ
+at_fault subject name number None = []
+at_fault subject name number (Some text) =
+    option_map_or (λ line. at_fault_in subject name number text (code_of line)) (line_at number text) []

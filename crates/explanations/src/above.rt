@@ -1,0 +1,37 @@
+//! The earlier line that is of the same as a line.
+ghost use Rattle.std.specs.Prelude.{◌≡◌, option_map};
+ghost use Rattle.explanations.specs.AtFault.{is_above, line_above, number_or_none};
+ghost use Rattle.explanations.specs.Seen.{seen_topic};
+
+use crate::subject::Subject;
+use crate::topic::{Topic, is_same, topic_of};
+use text_lines::code_lines;
+
+/// The number of the last line above the one of this number that is of the same, and 0 for none. Goes
+/// through the text once.
+pub(crate) fn line_above(subject: Subject, number: u64, topic: Topic<'_>, text: &[u8]) -> u64
+    ensures { result ≡ line_above subject number (seen_topic topic.entry) text.now }
+{
+    number_of(
+        code_lines(text)
+            .filter(|line| is_above(subject, number, &topic, line.0, line.1))
+            .last(),
+    )
+}
+
+/// The number of a line, and 0 for none.
+fn number_of(line: Option<(u64, &[u8])>) -> u64
+    ensures { result ≡ number_or_none (option_map (λ line. (line.0, line.1.now)) line.entry) }
+{
+    match line {
+        Some((number, _)) => number,
+        None => 0,
+    }
+}
+
+/// Whether a line, without its comment, is above the one of this number and of the same.
+fn is_above(subject: Subject, number: u64, topic: &Topic<'_>, other: u64, code: &[u8]) -> bool
+    ensures { result ≡ is_above subject number (seen_topic topic.now) (other, code.now) }
+{
+    other < number && is_same(topic, &topic_of(subject, code))
+}

@@ -1,0 +1,154 @@
+//! What is told of the word at fault.
+ghost use Rattle.std.specs.Prelude.{◌≡◌, ◌++◌, option_map, codes, None, OnOk};
+ghost use Rattle.std.specs.List.{last_or};
+ghost use Rattle.explanations.specs.AtFault.{at_fault, at_fault_in, earlier_line, is_among, of_nets, of_repeats, of_thirds, too, topic_of, word_at_fault, word_told};
+ghost use Rattle.text_lines.specs.Text.{code_of, words_of};
+
+use crate::above::line_above;
+use crate::bench_lines::name_at;
+use crate::excerpt::{line_at, push_line, push_shown};
+use crate::subject::Subject;
+use crate::topic::{topic_of, word_at};
+use crate::undefined::undefined_in;
+use std::alloc::{AllocError, Global};
+use text_lines::{first_place, words_of};
+
+/// Adds what is told of the word at fault, where the text is known and has the line of this number.
+pub(crate) fn push_at_fault(
+    alloc: Global,
+    told: &mut Vec<u8>,
+    subject: Subject,
+    name: &str,
+    number: u64,
+    text: Option<&[u8]>,
+) -> Result<(), AllocError>
+    ensures { OnOk result (told.new.items ≡ told.old.items
+        ++ at_fault subject name.now number (option_map (λ text. text.now) text.entry)) }
+{
+    let Some(text) = text else {
+        return Ok(());
+    };
+    let Some(line) = line_at(text, number) else {
+        return Ok(());
+    };
+    push_at_fault_in(alloc, told, subject, name, number, text, code_of(line))
+}
+
+/// A line without its comment.
+fn code_of(line: &[u8]) -> &[u8]
+    ensures { result.now ≡ code_of line.now }
+{
+    &line[..first_place(line, b'#')]
+}
+
+/// Adds what is told of the word at fault in a line, without its comment, of a text.
+fn push_at_fault_in(
+    alloc: Global,
+    told: &mut Vec<u8>,
+    subject: Subject,
+    name: &str,
+    number: u64,
+    text: &[u8],
+    code: &[u8],
+) -> Result<(), AllocError>
+    ensures { OnOk result (told.new.items ≡ told.old.items
+        ++ at_fault_in subject name.now number text.now code.now) }
+{
+    if is_of_repeats(name) {
+        push_earlier(alloc, told, subject, number, text, code)
+    } else if name == "Undefined" {
+        push_word(told, b"no line defines ", undefined_in(alloc, code, text)?)
+    } else {
+        push_word(told, b"the word is: ", word_at_fault(subject, name, code))
+    }
+}
+
+/// Adds the earlier line that is of the same, if there is one.
+fn push_earlier(
+    alloc: Global,
+    told: &mut Vec<u8>,
+    subject: Subject,
+    number: u64,
+    text: &[u8],
+    code: &[u8],
+) -> Result<(), AllocError>
+    ensures { OnOk result (told.new.items ≡ told.old.items
+        ++ earlier_line subject number (topic_of subject code.now) text.now) }
+{
+    let other = line_above(subject, number, topic_of(subject, code), text);
+    push_line(alloc, told, too(subject), other, line_at(text, other))
+}
+
+/// What is said of a line that is of the same.
+fn too(subject: Subject) -> &'static str
+    ensures { result.now ≡ too subject }
+{
+    match subject {
+        Subject::Bench => " defines it too: ",
+        Subject::Stimuli => " is of this input too: ",
+        _ => " says it too: ",
+    }
+}
+
+/// Whether a fault is of a line that is of the same as an earlier one.
+fn is_of_repeats(name: &str) -> bool
+    ensures { result ≡ is_among of_repeats name.now }
+{
+    name == "DefinedTwice" || name == "Twice" || name == "NotRising"
+}
+
+/// Whether a fault is of a net that isn't there, or isn't of the kind that is wanted.
+fn is_of_nets(name: &str) -> bool
+    ensures { result ≡ is_among of_nets name.now }
+{
+    name == "UnknownNet" || name == "IsInput" || name == "NotAFlop" || name == "NotAnInput"
+}
+
+/// Whether a fault is of the third word of its line.
+fn is_of_thirds(name: &str) -> bool
+    ensures { result ≡ is_among of_thirds name.now }
+{
+    name == "BadPin" || name == "BadPeriod" || name == "BadValue"
+}
+
+/// The word at fault, by its place in a line without its comment.
+fn word_at_fault<'a>(subject: Subject, name: &str, code: &'a [u8]) -> Option<&'a [u8]>
+    ensures { option_map (λ word. word.now) result ≡ word_at_fault subject name.now code.now }
+{
+    if is_of_nets(name) {
+        Some(topic_of(subject, code).net)
+    } else if is_of_thirds(name) {
+        word_at(code, 2)
+    } else if name == "BadPhase" {
+        word_at(code, 3)
+    } else if name == "BadTicks" {
+        last_word(code)
+    } else if name == "TickTooLarge" {
+        word_at(code, 0)
+    } else if name == "UnknownGate" {
+        name_at(code, 1)
+    } else {
+        None
+    }
+}
+
+/// The last word of a line.
+fn last_word(code: &[u8]) -> Option<&[u8]>
+    ensures { option_map (λ word. word.now) result ≡ last_or None (words_of code.now) }
+{
+    words_of(code).last()
+}
+
+/// Adds a word behind what is said of it, and a line feed, if there is one.
+fn push_word(told: &mut Vec<u8>, said: &[u8], word: Option<&[u8]>) -> Result<(), AllocError>
+    ensures { OnOk result (told.new.items ≡ told.old.items
+        ++ word_told said.now (option_map (λ word. word.now) word.entry)) }
+{
+    let Some(word) = word else {
+        return Ok(());
+    };
+    told.extend_from_slice(said)?;
+    push_shown(told, word)?;
+    told.push(b'\n')?;
+    Ok(())
+}

@@ -1,0 +1,74 @@
+//! The nets that a line of a .bench text defines and uses.
+ghost use Rattle.std.specs.Prelude.{◌≡◌, if◌then◌else◌, drop, map, option_map, IfOk};
+ghost use Rattle.explanations.specs.AtFault.{begins_with_input, defined_by, is_assignment, is_gap, is_input_word, name_at, names_in, used_by};
+
+use std::alloc::{AllocError, Global};
+use text_lines::is_white;
+
+/// The net that a line without its comment defines.
+pub(crate) fn defined_by(code: &[u8]) -> Option<&[u8]>
+    ensures { option_map (λ net. net.now) result ≡ defined_by code.now }
+{
+    if is_assignment(code) {
+        name_at(code, 0)
+    } else if begins_with_input(code) {
+        name_at(code, 1)
+    } else {
+        None
+    }
+}
+
+/// The nets that a line without its comment uses.
+pub(crate) fn used_by(alloc: Global, code: &[u8]) -> Result<Vec<&[u8]>, AllocError>
+    ensures { IfOk result (λ nets. map (λ net. net.now) nets.items ≡ used_by code.now) }
+{
+    names_behind(alloc, code, before_nets(code))
+}
+
+/// How many names come before those that are used.
+fn before_nets(code: &[u8]) -> usize
+    ensures { result ≡ (if is_assignment code.now then 2 else 1) }
+{
+    if is_assignment(code) { 2 } else { 1 }
+}
+
+/// The names of a line behind so many.
+fn names_behind(alloc: Global, code: &[u8], count: usize) -> Result<Vec<&[u8]>, AllocError>
+    ensures { IfOk result (λ names. map (λ name. name.now) names.items ≡ drop count (names_in code.now)) }
+{
+    code.split(|byte| is_gap(*byte))
+        .filter(|name| !name.is_empty())
+        .skip(count)
+        .collect(alloc)
+}
+
+/// The name at a place of a line, from 0.
+pub(crate) fn name_at(code: &[u8], place: usize) -> Option<&[u8]>
+    ensures { option_map (λ name. name.now) result ≡ name_at place code.now }
+{
+    code.split(|byte| is_gap(*byte))
+        .filter(|name| !name.is_empty())
+        .nth(place)
+}
+
+/// Whether a byte stands between names.
+fn is_gap(byte: u8) -> bool
+    ensures { result ≡ is_gap byte }
+{
+    is_white(byte) || b"(),=".contains(&byte)
+}
+
+fn is_assignment(code: &[u8]) -> bool
+    ensures { result ≡ is_assignment code.now }
+{
+    code.contains(&b'=')
+}
+
+fn begins_with_input(code: &[u8]) -> bool
+    ensures { result ≡ begins_with_input code.now }
+{
+    match name_at(code, 0) {
+        Some(word) => word.eq_ignore_ascii_case(b"INPUT"),
+        None => false,
+    }
+}

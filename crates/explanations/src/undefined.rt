@@ -1,0 +1,32 @@
+//! The name that no line of a .bench text defines.
+ghost use Rattle.std.specs.Prelude.{◌≡◌, filter, map, not, option_map, IfOk};
+ghost use Rattle.explanations.specs.AtFault.{is_net, undefined_in};
+
+use crate::bench_lines::{defined_by, used_by};
+use std::alloc::{AllocError, Global};
+use text_lines::code_lines;
+
+/// The first name that a line without its comment uses and no line of the text defines. Goes through the
+/// text once, whatever the number of names.
+pub(crate) fn undefined_in<'a>(
+    alloc: Global,
+    code: &'a [u8],
+    text: &[u8],
+) -> Result<Option<&'a [u8]>, AllocError>
+    ensures { IfOk result (λ name. option_map (λ name. name.now) name ≡ undefined_in code.now text.now) }
+{
+    let mut left = used_by(alloc, code)?;
+    for (_, code) in code_lines(text) {
+        take_out(&mut left, defined_by(code));
+    }
+    Ok(left.first().copied())
+}
+
+/// Takes a name that is defined out of those that may not be.
+fn take_out(left: &mut Vec<&[u8]>, defined: Option<&[u8]>)
+    ensures { map (λ name. name.now) left.new.items ≡ filter (λ name. not (is_net (option_map (λ net. net.now) defined.entry) name)) (map (λ name. name.now) left.old.items) }
+{
+    if let Some(defined) = defined {
+        left.retain(|name| *name != defined);
+    }
+}
