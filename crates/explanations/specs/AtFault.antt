@@ -1,12 +1,12 @@
 -- What is told of the word at fault, by what the lines of its text say alone.
-use Rattle.std.specs.Prelude.{ℕ, ◌==◌, ◌||◌, ◌&&◌, not, nat_lt, Bool, false, if◌then◌else◌, List, [], ◌∷◌, ◌++◌, drop, filter, slice_get, codes, bytes_eq, Option, None, Some, unwrap_or}
+use Rattle.std.specs.Prelude.{ℕ, ◌==◌, ◌||◌, ◌&&◌, not, nat_lt, Bool, false, if◌then◌else◌, List, [], ◌∷◌, ◌++◌, drop, filter, length, slice_get, codes, bytes_eq, Option, None, Some, unwrap_or}
 use Rattle.std.specs.List.{find, last_or, list_any, prefix_len, slice_split}
 use Rattle.std.specs.Option.{option_map_or}
 use Rattle.std.specs.Str.{str_eq_ignore_ascii_case}
 use Rattle.explanations.specs.declared.subject.Subject.{Subject}
 use Rattle.explanations.specs.declared.subject.Subject.TheVariants.{Bench, Delays, Stimuli, Schedule}
 use Rattle.explanations.specs.Excerpt.{line_at, line_told, shown_line}
-use Rattle.text_lines.specs.Text.{code_lines, code_of, is_empty, is_white, words_of}
+use Rattle.text_lines.specs.Text.{code_lines, code_of, is_empty, is_plain, is_white, words_of}
 
 -- ---- the words of a line without its comment
 
@@ -134,6 +134,21 @@ of_nets = codes "UnknownNet" ∷ codes "IsInput" ∷ codes "NotAFlop" ∷ codes 
 abbrev pub of_thirds : List (List ℕ)
 of_thirds = codes "BadPin" ∷ codes "BadPeriod" ∷ codes "BadValue" ∷ []
 
+-- longer than a name may be
+abbrev pub is_long : List ℕ → Bool
+is_long name = nat_lt 255 (length name)
+
+abbrev pub is_unplain : List ℕ → Bool
+is_unplain word = not (is_plain word)
+
+-- of faults of .bench lines
+abbrev pub bench_word : List ℕ → List ℕ → Option (List ℕ)
+bench_word name code =
+    if bytes_eq name (codes "UnknownGate") then name_at 1 code
+    else if bytes_eq name (codes "NameTooLong") then find is_long (names_in code)
+    else if bytes_eq name (codes "BadByte") then find is_unplain (words_of code)
+    else None
+
 abbrev pub word_at_fault : Subject → List ℕ → List ℕ → Option (List ℕ)
 word_at_fault subject name code =
     if is_among of_nets name then Some (topic_of subject code).net
@@ -141,8 +156,7 @@ word_at_fault subject name code =
     else if bytes_eq name (codes "BadPhase") then word_at 3 code
     else if bytes_eq name (codes "BadTicks") then last_or None (words_of code)
     else if bytes_eq name (codes "TickTooLarge") then word_at 0 code
-    else if bytes_eq name (codes "UnknownGate") then name_at 1 code
-    else None
+    else bench_word name code
 
 -- ---- what is told of it
 

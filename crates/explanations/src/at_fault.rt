@@ -1,17 +1,17 @@
 //! What is told of the word at fault.
 ghost use Rattle.std.specs.Prelude.{◌≡◌, ◌++◌, option_map, codes, None, OnOk};
-ghost use Rattle.std.specs.List.{last_or};
-ghost use Rattle.explanations.specs.AtFault.{at_fault, at_fault_in, earlier_line, is_among, of_nets, of_repeats, of_thirds, too, topic_of, word_at_fault, word_told};
+ghost use Rattle.std.specs.List.{find, last_or};
+ghost use Rattle.explanations.specs.AtFault.{at_fault, at_fault_in, bench_word, earlier_line, is_among, is_unplain, of_nets, of_repeats, of_thirds, too, topic_of, word_at_fault, word_told};
 ghost use Rattle.text_lines.specs.Text.{code_of, words_of};
 
 use crate::above::line_above;
-use crate::bench_lines::name_at;
+use crate::bench_lines::{long_name, name_at};
 use crate::excerpt::{line_at, push_line, push_shown};
 use crate::subject::Subject;
 use crate::topic::{topic_of, word_at};
 use crate::undefined::undefined_in;
 use std::alloc::{AllocError, Global};
-use text_lines::{first_place, words_of};
+use text_lines::{first_place, is_plain, words_of};
 
 /// Adds what is told of the word at fault, where the text is known and has the line of this number.
 pub(crate) fn push_at_fault(
@@ -125,8 +125,21 @@ fn word_at_fault<'a>(subject: Subject, name: &str, code: &'a [u8]) -> Option<&'a
         last_word(code)
     } else if name == "TickTooLarge" {
         word_at(code, 0)
-    } else if name == "UnknownGate" {
+    } else {
+        bench_word(name, code)
+    }
+}
+
+/// The same for faults of .bench lines.
+fn bench_word<'a>(name: &str, code: &'a [u8]) -> Option<&'a [u8]>
+    ensures { option_map (λ word. word.now) result ≡ bench_word name.now code.now }
+{
+    if name == "UnknownGate" {
         name_at(code, 1)
+    } else if name == "NameTooLong" {
+        long_name(code)
+    } else if name == "BadByte" {
+        unplain_word(code)
     } else {
         None
     }
@@ -137,6 +150,13 @@ fn last_word(code: &[u8]) -> Option<&[u8]>
     ensures { option_map (λ word. word.now) result ≡ last_or None (words_of code.now) }
 {
     words_of(code).last()
+}
+
+/// The first word of a line that has a byte which isn't printable.
+fn unplain_word(code: &[u8]) -> Option<&[u8]>
+    ensures { option_map (λ word. word.now) result ≡ find is_unplain (words_of code.now) }
+{
+    words_of(code).find(|word| !is_plain(word))
 }
 
 /// Adds a word behind what is said of it, and a line feed, if there is one.

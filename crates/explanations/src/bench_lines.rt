@@ -1,9 +1,13 @@
 //! The nets that a line of a .bench text defines and uses.
 ghost use Rattle.std.specs.Prelude.{◌≡◌, if◌then◌else◌, drop, map, option_map, IfOk};
-ghost use Rattle.explanations.specs.AtFault.{begins_with_input, defined_by, is_assignment, is_gap, is_input_word, name_at, names_in, used_by};
+ghost use Rattle.std.specs.List.{find};
+ghost use Rattle.explanations.specs.AtFault.{begins_with_input, defined_by, is_assignment, is_gap, is_long, name_at, names_in, used_by};
 
 use std::alloc::{AllocError, Global};
 use text_lines::is_white;
+
+/// The most bytes that a name may have.
+const LONGEST_NAME: usize = 255;
 
 /// The net that a line without its comment defines.
 pub(crate) fn defined_by(code: &[u8]) -> Option<&[u8]>
@@ -49,6 +53,15 @@ pub(crate) fn name_at(code: &[u8], place: usize) -> Option<&[u8]>
     code.split(|byte| is_gap(*byte))
         .filter(|name| !name.is_empty())
         .nth(place)
+}
+
+/// The first name of a line that is longer than a name may be.
+pub(crate) fn long_name(code: &[u8]) -> Option<&[u8]>
+    ensures { option_map (λ name. name.now) result ≡ find is_long (names_in code.now) }
+{
+    code.split(|byte| is_gap(*byte))
+        .filter(|name| !name.is_empty())
+        .find(|name| name.len() > LONGEST_NAME)
 }
 
 /// Whether a byte stands between names.

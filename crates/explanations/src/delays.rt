@@ -55,7 +55,8 @@ pub(crate) static DELAYS: [Explanation; 11] = [
     Explanation {
         name: "BadPin",
         meaning: "the net of a wire has no pin at this place. Places count from 0, and an input has no pins.",
-        wanted: "wire NAME PLACE TICKS, such as wire y 1 2 for the second pin of y",
+        wanted: "wire NAME PLACE TICKS with a place below the number of the net's pins, such as wire y 1 2 for\n\
+                 the second pin of y",
         example: Some(Example {
             line: 2,
             faulty: "timing version 2\nwire y 2 5\n",

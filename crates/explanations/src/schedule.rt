@@ -32,7 +32,8 @@ pub(crate) static SCHEDULE: [Explanation; 5] = [
     Explanation {
         name: "BadPin",
         meaning: "the net has no pin at this place. Places count from 0, and an input has no pins.",
-        wanted: "deliver NAME PLACE, such as deliver y 0 for the first pin of y",
+        wanted: "deliver NAME PLACE with a place below the number of the net's pins, such as deliver y 0 for\n\
+                 the first pin of y",
         example: Some(Example {
             line: 1,
             faulty: "deliver y 2\n",

@@ -2,7 +2,7 @@
 use crate::mistakes::Mistake;
 
 // Each begins where the readers of .bench texts stop.
-pub(crate) static CIRCUITS: [Mistake; 21] = [
+pub(crate) static CIRCUITS: [Mistake; 24] = [
     // A typing mistake in a gate word.
     (
         "INPUT(a)\nINPUT(b)\nOUTPUT(y)\ny = NADN(a, b)\n",
@@ -10,6 +10,7 @@ pub(crate) static CIRCUITS: [Mistake; 21] = [
         1,
         "my.bench:4: UnknownGate\n",
         "line 4 is: y = NADN(a, b)\n\
+          the word is: NADN\n\
           UnknownGate of a .bench text: the word before the parenthesis is none of the gate words.\n\
           want one of AND, NAND, OR, NOR, XOR, XNOR, NOT, INV, BUF, BUFF and DFF, in any case\n",
     ),
@@ -20,6 +21,7 @@ pub(crate) static CIRCUITS: [Mistake; 21] = [
         1,
         "my.bench:4: UnknownGate\n",
         "line 4 is: y = MUX(a, b)\n\
+          the word is: MUX\n\
           UnknownGate of a .bench text: the word before the parenthesis is none of the gate words.\n\
           want one of AND, NAND, OR, NOR, XOR, XNOR, NOT, INV, BUF, BUFF and DFF, in any case\n",
     ),
@@ -118,6 +120,7 @@ pub(crate) static CIRCUITS: [Mistake; 21] = [
         1,
         "my.bench:4: Undefined\n",
         "line 4 is: y = NAND(a, c)\n\
+          no line defines c\n\
           Undefined of a .bench text: the line uses, as a pin or as an output, a net that no line defines. Names are compared\n\
           byte for byte, so A is not a.\n\
           want a line that defines the net, such as INPUT(b), or the name of one that is defined\n",
@@ -129,6 +132,7 @@ pub(crate) static CIRCUITS: [Mistake; 21] = [
         1,
         "my.bench:2: Undefined\n",
         "line 2 is: OUTPUT(z)\n\
+          no line defines z\n\
           Undefined of a .bench text: the line uses, as a pin or as an output, a net that no line defines. Names are compared\n\
           byte for byte, so A is not a.\n\
           want a line that defines the net, such as INPUT(b), or the name of one that is defined\n",
@@ -140,6 +144,7 @@ pub(crate) static CIRCUITS: [Mistake; 21] = [
         1,
         "my.bench:3: Undefined\n",
         "line 3 is: y = NOT(A)\n\
+          no line defines A\n\
           Undefined of a .bench text: the line uses, as a pin or as an output, a net that no line defines. Names are compared\n\
           byte for byte, so A is not a.\n\
           want a line that defines the net, such as INPUT(b), or the name of one that is defined\n",
@@ -151,6 +156,7 @@ pub(crate) static CIRCUITS: [Mistake; 21] = [
         1,
         "my.bench:5: DefinedTwice\n",
         "line 5 is: y = NOR(a, b)\n\
+          line 4 defines it too: y = NAND(a, b)\n\
           DefinedTwice of a .bench text: the line defines a net that an earlier line defines. INPUT(a) defines a, and y = NOT(a)\n\
           defines y.\n\
           want another name for one of the two nets, or only one of the two lines\n",
@@ -162,9 +168,50 @@ pub(crate) static CIRCUITS: [Mistake; 21] = [
         1,
         "my.bench:5: DefinedTwice\n",
         "line 5 is: a = NOT(y)\n\
+          line 1 defines it too: INPUT(a)\n\
           DefinedTwice of a .bench text: the line defines a net that an earlier line defines. INPUT(a) defines a, and y = NOT(a)\n\
           defines y.\n\
           want another name for one of the two nets, or only one of the two lines\n",
+    ),
+    // An input in another case of its word, with a comment, far above.
+    (
+        "input( a )\t# the first\nINPUT(ab)\nOUTPUT(a)\nb = NOT(a)\n# a = 1\n a=BUF(b)\n",
+        "info --bench my.bench",
+        1,
+        "my.bench:6: DefinedTwice\n",
+        "line 6 is:  a=BUF(b)\n\
+          line 1 defines it too: input( a ) # the first\n\
+          DefinedTwice of a .bench text: the line defines a net that an earlier line defines. INPUT(a) defines a, and y = NOT(a)\n\
+          defines y.\n\
+          want another name for one of the two nets, or only one of the two lines\n",
+    ),
+    // A pin that a comment alone defines, behind one that is defined below.
+    (
+        "INPUT(a)\ny = AND(a, b, c, d)\nb = NOT(a)\n# c = NOT(a)\nd = BUF(y)\n",
+        "info --bench my.bench",
+        1,
+        "my.bench:2: Undefined\n",
+        "line 2 is: y = AND(a, b, c, d)\n\
+          no line defines c\n\
+          Undefined of a .bench text: the line uses, as a pin or as an output, a net that no line defines. Names are compared\n\
+          byte for byte, so A is not a.\n\
+          want a line that defines the net, such as INPUT(b), or the name of one that is defined\n",
+    ),
+    // A name of 256 bytes.
+    (
+        "y=OR(a,0123456789012345678901234567890123456789012345678901234567890123\
+          4567890123456789012345678901234567890123456789012345678901234567\
+          8901234567890123456789012345678901234567890123456789012345678901\
+          2345678901234567890123456789012345678901234567890123456789012345)\n",
+        "info --bench my.bench",
+        1,
+        "my.bench:1: NameTooLong\n",
+        "line 1 is: y=OR(a,0123456789012345678901234567890123456789012345678901234567890123\
+          45678901234567890123456789012 ..\n\
+          the word is: 0123456789012345678901234567890123456789012345678901234567890123\
+          456789012345678901234567890123456789 ..\n\
+          NameTooLong of a .bench text: a net's name has more than 255 bytes.\n\
+          want a name of at most 255 bytes\n",
     ),
     // An inverter of two pins.
     (
@@ -203,6 +250,7 @@ pub(crate) static CIRCUITS: [Mistake; 21] = [
         1,
         "my.bench:2: BadByte\n",
         "line 2 is: y = NOT(??)\n\
+          the word is: NOT(??)\n\
           BadByte of a .bench text: outside comments there is a byte that is neither white space (space, tab, carriage return)\n\
           nor printable ASCII, such as a letter with an accent or a byte order mark.\n\
           want names of printable ASCII, and all else behind a #\n",
