@@ -138,6 +138,12 @@ of_thirds = codes "BadPin" ∷ codes "BadPeriod" ∷ codes "BadValue" ∷ []
 abbrev pub is_long : List ℕ → Bool
 is_long name = nat_lt 255 (length name)
 
+-- the first net that is: the one that an assignment defines, or else one that the line uses
+abbrev pub long_net : List ℕ → Option (List ℕ)
+long_net code =
+    if is_assignment code && is_long (unwrap_or (name_at 0 code) []) then name_at 0 code
+    else find is_long (used_by code)
+
 abbrev pub is_unplain : List ℕ → Bool
 is_unplain word = not (is_plain word)
 
@@ -145,7 +151,7 @@ is_unplain word = not (is_plain word)
 abbrev pub bench_word : List ℕ → List ℕ → Option (List ℕ)
 bench_word name code =
     if bytes_eq name (codes "UnknownGate") then name_at 1 code
-    else if bytes_eq name (codes "NameTooLong") then find is_long (names_in code)
+    else if bytes_eq name (codes "NameTooLong") then long_net code
     else if bytes_eq name (codes "BadByte") then find is_unplain (words_of code)
     else None
 

@@ -5,7 +5,7 @@ ghost use Rattle.explanations.specs.AtFault.{at_fault, at_fault_in, bench_word, 
 ghost use Rattle.text_lines.specs.Text.{code_of, words_of};
 
 use crate::above::line_above;
-use crate::bench_lines::{long_name, name_at};
+use crate::bench_lines::{long_net, name_at};
 use crate::excerpt::{line_at, push_line, push_shown};
 use crate::subject::Subject;
 use crate::topic::{topic_of, word_at};
@@ -137,7 +137,7 @@ fn bench_word<'a>(name: &str, code: &'a [u8]) -> Option<&'a [u8]>
     if name == "UnknownGate" {
         name_at(code, 1)
     } else if name == "NameTooLong" {
-        long_name(code)
+        long_net(code)
     } else if name == "BadByte" {
         unplain_word(code)
     } else {

@@ -1,7 +1,7 @@
 //! The nets that a line of a .bench text defines and uses.
 ghost use Rattle.std.specs.Prelude.{◌≡◌, if◌then◌else◌, drop, map, option_map, IfOk};
 ghost use Rattle.std.specs.List.{find};
-ghost use Rattle.explanations.specs.AtFault.{begins_with_input, defined_by, is_assignment, is_gap, is_long, name_at, names_in, used_by};
+ghost use Rattle.explanations.specs.AtFault.{begins_with_input, defined_by, is_assignment, is_gap, is_long, long_net, name_at, names_in, used_by};
 
 use std::alloc::{AllocError, Global};
 use text_lines::is_white;
@@ -55,13 +55,32 @@ pub(crate) fn name_at(code: &[u8], place: usize) -> Option<&[u8]>
         .nth(place)
 }
 
-/// The first name of a line that is longer than a name may be.
-pub(crate) fn long_name(code: &[u8]) -> Option<&[u8]>
-    ensures { option_map (λ name. name.now) result ≡ find is_long (names_in code.now) }
+/// The first net of a line whose name is longer than a name may be.
+pub(crate) fn long_net(code: &[u8]) -> Option<&[u8]>
+    ensures { option_map (λ net. net.now) result ≡ long_net code.now }
+{
+    let first = name_at(code, 0);
+    if is_assignment(code) && is_long(first.unwrap_or(b"")) {
+        first
+    } else {
+        long_name_behind(code, before_nets(code))
+    }
+}
+
+fn is_long(name: &[u8]) -> bool
+    ensures { result ≡ is_long name.now }
+{
+    name.len() > LONGEST_NAME
+}
+
+/// The first long one of the names of a line behind so many.
+fn long_name_behind(code: &[u8], count: usize) -> Option<&[u8]>
+    ensures { option_map (λ name. name.now) result ≡ find is_long (drop count (names_in code.now)) }
 {
     code.split(|byte| is_gap(*byte))
         .filter(|name| !name.is_empty())
-        .find(|name| name.len() > LONGEST_NAME)
+        .skip(count)
+        .find(|name| is_long(name))
 }
 
 /// Whether a byte stands between names.
