@@ -158,10 +158,11 @@ impl<'d> Process<'d> {
         requires running { self.now.failed ≡ false }
         ensures { result ≡ nat_lt self.now.state.known.frontier (next_frontier self.now.state) }
     {
-        let safe = least_frontier(self.end, self.received.as_slice(), self.net.wires());
+        let received = self.received.as_slice();
+        let safe = least_frontier(self.end, received, self.net.wires());
         let sure = self.net.sure_frontier(self.end, safe);
         let (from, end) = (self.frontier, self.end);
-        goes_on(&self.net, self.received.as_slice(), Span { from, sure, end })
+        goes_on(&self.net, received, Span { from, sure, end })
     }
 
     /// Takes out the net's changes before a tick up to which it is known, adds them in order to the end

@@ -31,7 +31,7 @@ unfolding before
 sure_is c =
     let safe : c.least_frontier-safe.result ≡ safe_of (before c) =
     c.least_frontier-safe.ensures.least
-    ∙ (λ i. least_or c.self.inside.end (map (λ (known : Knowledge). known.frontier) (seen_pins (c.wires.ensures.wires i) (c.as_slice.ensures.value i)))) in
+    ∙ (λ i. least_or c.self.inside.end (map (λ (known : Knowledge). known.frontier) (seen_pins (c.wires.ensures.wires i) (c.as_slice-received.ensures.value i)))) in
     c.sure_frontier-sure.ensures ∙ ap (frontier_of c.self.inside.net c.self.inside.end) safe
 
 -- how far it would be reckoned
@@ -59,7 +59,7 @@ pub goes_on-requires-clause-ahead : goal.goes_on-requires-clause-ahead
 unfolding before
 goes_on-requires-clause-ahead c =
     let at = (goal.at.goes_on-requires-clause-ahead c).After-sure_frontier-sure in
-    rw c.as_slice-2.ensures.value (subst (λ n. c.self.inside.frontier ≤ n) (sym (reached at)) (is_process at).ahead)
+    rw c.as_slice-received.ensures.value (subst (λ n. c.self.inside.frontier ≤ n) (sym (reached at)) (is_process at).ahead)
 
 pub returns : goal.returns
 unfolding before
@@ -68,6 +68,6 @@ returns c =
     c.goes_on.ensures
     ∙ ap (λ pins. nat_lt c.self.inside.frontier (reach_of_part c.self.inside.net.part
     (equation c.self.inside.net (signals_of (seen_pins c.self.inside.net.wires pins))) c.self.inside.end c.self.inside.frontier
-    c.sure_frontier-sure.result)) c.as_slice-2.ensures.value
+    c.sure_frontier-sure.result)) c.as_slice-received.ensures.value
     ∙ ap (nat_lt c.self.inside.frontier) (reached at)
     ∙ ap (λ (p : ProcessState). nat_lt p.known.frontier (next_frontier p)) (view_is at)
