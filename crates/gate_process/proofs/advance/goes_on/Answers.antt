@@ -1,4 +1,3 @@
-use Rattle.std.proofs.Common.{◌≡◌, not, nat_lt, ap, ◌∙◌}
 use Rattle.design.specs.Equations.{equation}
 use Rattle.gate_process.specs.Knowledge.{seen_pins}
 use Rattle.gate_process.specs.Step.{signals_of}

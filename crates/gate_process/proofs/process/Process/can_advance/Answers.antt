@@ -1,4 +1,4 @@
-use Rattle.std.proofs.Common.{◌≡◌, ◌≤◌, nat_lt, map, false, ap, sym, subst, ◌∙◌}
+use Rattle.std.proofs.Common.{◌≡◌, ◌≤◌, nat_lt, map, ap, sym, subst, ◌∙◌}
 use Rattle.design.specs.Equations.{equation}
 use Rattle.gate_process.specs.Knowledge.{Knowledge, seen_pins}
 use Rattle.gate_process.specs.Step.{ProcessState, ProcessView, least_or, safe_of, signals_of, frontier_of, reach_of_part, next_frontier}
