@@ -1,5 +1,5 @@
 //! What is told of the word at fault.
-ghost use Rattle.std.specs.Prelude.{◌≡◌, ◌++◌, option_map, codes, None, OnOk};
+ghost use Rattle.std.specs.Prelude.{◌≡◌, ◌++◌, option_map, None, OnOk};
 ghost use Rattle.std.specs.List.{find, last_or};
 ghost use Rattle.explanations.specs.AtFault.{at_fault, at_fault_in, bench_word, earlier_line, is_among, is_unplain, of_nets, of_repeats, of_thirds, too, topic_of, word_at_fault, word_told};
 ghost use Rattle.text_lines.specs.Text.{code_of, words_of};

@@ -15,8 +15,8 @@ use std::io::Write;
 use vcd_dump::write_all_bytes;
 
 /// Carries out an order and answers the exit status, as [`answer_order`](crate::answer_order) does.
-/// Where a fault is told, what it means goes to `err` behind its line: the line of the text at fault,
-/// where that text was kept, the meaning, and what is wanted in its place.
+/// Where a fault is told, what it means goes to `err` behind its line: the line of the text at fault and
+/// the word at fault, where that text was kept, the meaning, and what is wanted in its place.
 pub fn answer_verbosely<T: KeptTexts, W: Write, E: Write>(
     alloc: Global,
     order: &Order<'_>,
