@@ -5,7 +5,7 @@ mod design;
 mod fault;
 pub mod laws;
 mod order;
-mod plain;
+pub mod plain;
 mod samples;
 mod segments;
 

@@ -38,8 +38,11 @@ pub fn plain_waves(
     Ok(waves)
 }
 
-/// A waveform for each net, before any tick.
-fn unknown_waves(alloc: Global, design: &Design) -> Result<Vec<Waveform>, AllocError>
+/// A waveform for each net, in their order, before any tick: [`advance`] goes on from there.
+///
+/// # Errors
+/// An `AllocError` where a growth was refused.
+pub fn unknown_waves(alloc: Global, design: &Design) -> Result<Vec<Waveform>, AllocError>
     ensures { IfOk result (λ waves. waves.items ≡ waves_of design.now.circuit 0) }
 {
     let mut waves = Vec::new(alloc);
@@ -49,8 +52,12 @@ fn unknown_waves(alloc: Global, design: &Design) -> Result<Vec<Waveform>, AllocE
     Ok(waves)
 }
 
-/// Carries the waveforms of all nets one tick on.
-fn advance(
+/// Carries the waveforms of all nets one tick on: they are those of the ticks before it, and then those of
+/// this one too. `values` is room for what stands at a gate's pins, whatever it holds.
+///
+/// # Errors
+/// An `AllocError` where a growth was refused; the waveforms aren't those of any tick then.
+pub fn advance(
     design: &Design,
     tick: u64,
     waves: &mut [Waveform],
