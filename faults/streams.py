@@ -142,6 +142,26 @@ def with_full_error(program: Path, words: list, status: int) -> str | None:
     return None if ended == Ended(status, wanted.out, b"") else f"{ended}"
 
 
+def told_why(program: Path, words: list, fault: bytes, said: bytes, **how) -> str | None:
+    """With --verbose the second line on standard error is what the system says."""
+    ended = run([program, "-v", *words], **how)
+    wanted = fault + b"the system says: " + said + b"\n"
+    holds = ended.status == 3 and not ended.out and ended.err.startswith(wanted)
+    return None if holds else f"{ended}"
+
+
+def told_why_to(program: Path, file: str | int, said: bytes) -> str | None:
+    """The same of standard output that can't be written."""
+    with open(file, "wb") as out:
+        return told_why(program, INFO, NOT_WRITTEN, said, stdout=out)
+
+
+def told_why_to_closed_pipe(program: Path) -> str | None:
+    reading, writing = os.pipe()
+    os.close(reading)
+    return told_why_to(program, writing, b"Broken pipe (os error 32)")
+
+
 def cases(program: Path, folder: str, deck: bytes) -> list[tuple[str, Callable[[], str | None]]]:
     """All runs, each with its name."""
     found = [(case.name, lambda case=case: over_file(program, case)) for case in FILES]
@@ -154,6 +174,14 @@ def cases(program: Path, folder: str, deck: bytes) -> list[tuple[str, Callable[[
         ("a pipe that is closed after some bytes", lambda: to_pipe_that_closes(program, LONG)),
         ("a refusal to a full device", lambda: with_full_error(program, with_bench("none.bench"), 3)),
         ("wrong words to a full device", lambda: with_full_error(program, ["--halp"], 2)),
+        ("why a folder can't be read",
+         lambda: told_why(program, with_bench("/"), b"/:0: Read\n", b"Is a directory (os error 21)")),
+        ("why a file can't be opened",
+         lambda: told_why(program, with_bench("none.bench"), b"none.bench:0: Read\n",
+                          b"No such file or directory (os error 2)")),
+        ("why a full device takes nothing",
+         lambda: told_why_to(program, "/dev/full", b"No space left on device (os error 28)")),
+        ("why a closed pipe takes nothing", lambda: told_why_to_closed_pipe(program)),
         ("counts to a full device", lambda: with_full_error(program, COUNTED, 0)),
     ]
     for words in (RUN, COUNTED, PLAIN, DRAW, TRACE, WHY, STIMULI, CHECK, INFO, CONE, DIFF, TWIN, HELP, LONG):

@@ -1,12 +1,14 @@
 #!/usr/bin/env python3
-"""Wrong bodies that the contracts have to rule out: each stands in a file crates/NAME/must-fail/BUG.edit.
+"""Wrong bodies that the contracts have to rule out: each stands in a file wrong_bodies/NAME/BUG.edit, or in
+crates/NAME/must-fail/BUG.edit where `rt ci` tries it too, by itself.
 
 Those of a crate that stand in different functions are planted in one copy of it, which is then checked once: each
 function is proved by itself, over the contracts of those that it calls, so each of them has to be refused, and for
 the goal that its file names. A check costs some twenty seconds before it looks at a function, so this is quicker than
 a check for each, and it says more than that something was refused. The last line is 'N passed, M failed'.
 
-    check.py [NAME[/BUG]..]    only those of these crates, or these alone
+    check.py                   those in wrong_bodies/ alone, which `rt ci` doesn't try
+    check.py NAME[/BUG]..      all those of these crates, or these alone
 """
 import os
 import sys
@@ -16,6 +18,8 @@ from pathlib import Path
 
 from edits import Batch, WrongBody, batches_of, read
 from prover import CRATES, libraries, refused, words_of_check
+
+HERE = Path(__file__).resolve().parent
 
 
 def fault_of(body: WrongBody, goals: dict[str, set[str]]) -> str | None:
@@ -44,9 +48,15 @@ def tried(words: list[str], crate: Path, batch: Batch, kept: str) -> list[tuple[
     return found
 
 
-def tried_in(crate: Path, words: list[str], bugs: str) -> list[tuple[str, str | None]]:
-    """Each wrong body of a crate that has such a name, with what is wrong."""
-    bodies = [read(file) for file in sorted((crate / "must-fail").glob(f"{bugs}.edit"))]
+def files_of(crate: Path, bugs: str, alone: bool) -> list[Path]:
+    """The files of a crate's wrong bodies that have such a name, without those that `rt ci` tries where that is asked."""
+    folders = [HERE / crate.name, *([] if alone else [crate / "must-fail"])]
+    return sorted((file for folder in folders for file in folder.glob(f"{bugs}.edit")), key=lambda file: file.name)
+
+
+def tried_in(crate: Path, words: list[str], files: list[Path]) -> list[tuple[str, str | None]]:
+    """Each of these wrong bodies of a crate, with what is wrong."""
+    bodies = [read(file) for file in files]
     with tempfile.TemporaryDirectory(prefix="wrong-bodies-kept-") as kept:
         return [one for batch in batches_of(crate, bodies) for one in tried(words, crate, batch, kept)]
 
@@ -59,14 +69,16 @@ def lines_of(crate: Path) -> int:
 
 def main() -> int:
     used = libraries()
+    alone = len(sys.argv) == 1
     asked = [it.partition("/") for it in sys.argv[1:]]
-    asked = asked or [(name, "", "") for name in used if (CRATES / name / "must-fail").is_dir()]
+    asked = asked or [(name, "", "") for name in used if (HERE / name).is_dir()]
     asked.sort(key=lambda it: lines_of(CRATES / it[0]), reverse=True)
     crates = [CRATES / name for name, _, _ in asked]
     words = [words_of_check(crate.name, used) for crate in crates]
+    files = [files_of(CRATES / name, bug or "*", alone) for name, _, bug in asked]
     passed = failed = 0
     with ThreadPoolExecutor(len(os.sched_getaffinity(0))) as lanes:
-        for crate, found in zip(crates, lanes.map(tried_in, crates, words, [bug or "*" for _, _, bug in asked])):
+        for crate, found in zip(crates, lanes.map(tried_in, crates, words, files)):
             for name, fault in found:
                 passed, failed = passed + (fault is None), failed + (fault is not None)
                 print(f"wrong bodies: {crate.name}/{name}: {fault or 'refused'}", flush=True)

@@ -1,6 +1,6 @@
 """Wrong bodies as files describe them, and copies of a crate's text in which some of them stand.
 
-A file `crates/NAME/must-fail/BUG.edit` has the lines
+A file `BUG.edit` has the lines
 
     refused: sections::fill returns-clause-ok     the function that the prover has to refuse, and a goal that stays open there
     file: src/sections.rt                         the file that is edited

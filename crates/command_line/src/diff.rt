@@ -7,7 +7,7 @@ use crate::options::{
 };
 use clap::{ArgMatches, Command};
 use orders::Order;
-use runs::DiffTicks;
+use run_pairs::DiffTicks;
 use std::alloc::{AllocError, Global};
 
 const ABOUT: &str =

@@ -4,7 +4,7 @@ use crate::help::subcommand_named;
 use crate::options::{ALONE, LENGTH, SHOWN, SOURCE, number_given, show_given, source_given};
 use clap::{ArgMatches, Command};
 use orders::{Order, PickOptions};
-use runs::DiagramView;
+use plain_runs::DiagramView;
 use std::alloc::{AllocError, Global};
 use timing_diagram::Form;
 

@@ -23,7 +23,8 @@ const ENDS: &str =
      Example: nullsim run --bench adder.bench --stimuli adder.stimuli --horizon 500 > adder.vcd\n\
      With --verbose, the line at fault and what it means follow that line on standard error.";
 
-const VERBOSE: &str = "Behind the line of a fault, also tell what it means";
+const VERBOSE: &str =
+    "Also tell what a fault means, behind its line, or what to know of a run that is done";
 
 pub(super) fn program<'a>(alloc: Global) -> Result<Command<'a>, AllocError> {
     let mut subcommands = Vec::new(alloc);

@@ -2,7 +2,7 @@
 use crate::described::{Absent, Described, Takes};
 use clap::ArgMatches;
 use orders::{PickOptions, SourceOptions};
-use runs::{Show, View};
+use prepared_runs::{Show, View};
 use std::alloc::{AllocError, Global};
 use vcd_dump::TimeUnit;
 
@@ -74,6 +74,9 @@ const SHOW: &str = "The nets that are shown: all, outputs, or nets by their name
 
 const UNIT: &str = "What a tick of the dump stands for: s, ms, us, ns, ps or fs";
 
+const PROGRESS: &str = "Also write how many percent of the ticks are done on standard error,\n\
+     over and over on one line";
+
 /// The options of a run apart from its horizon and its picks.
 pub(super) static SOURCE: [Described; 5] = [
     Described("bench", Takes::File, Absent::Refused, BENCH),
@@ -130,6 +133,14 @@ pub(super) static UNITS: [Described; 1] = [Described(
     Takes::Word("UNIT", &["s", "ms", "us", "ns", "ps", "fs"]),
     Absent::Default("ns"),
     UNIT,
+)];
+
+/// Whether a run tells how far it is.
+pub(super) static TOLD: [Described; 1] = [Described(
+    "progress",
+    Takes::Nothing,
+    Absent::Nothing,
+    PROGRESS,
 )];
 
 pub(super) fn source_given<'a>(

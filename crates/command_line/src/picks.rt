@@ -22,18 +22,17 @@ pub(super) static PICKED: [Described; 3] = [
     Described("picks", Takes::Number, Absent::Default("0"), PICKS),
 ];
 
-/// What the options pick. A schedule beside events to be drawn is a mistake.
+/// What the options pick. A schedule beside events to be drawn is a mistake; a seed without such events
+/// is kept, so that it can be noted.
 pub(super) fn picks_given<'a>(
     alloc: Global,
     options: &ArgMatches<'a>,
 ) -> Result<PickOptions<'a>, Error> {
+    let seed = number_given(options, "seed");
     match (options.get_str("schedule"), number_given(options, "picks")) {
-        (None, 0) => Ok(PickOptions::Nothing),
+        (None, 0) if seed == 0 => Ok(PickOptions::Nothing),
         (Some(name), 0) => Ok(PickOptions::File(name)),
-        (None, picks) => Ok(PickOptions::Seeded {
-            seed: number_given(options, "seed"),
-            picks,
-        }),
+        (None, picks) => Ok(PickOptions::Seeded { seed, picks }),
         (Some(_), _) => Err(mistake(alloc, ErrorKind::ArgumentConflict, BOTH)?),
     }
 }

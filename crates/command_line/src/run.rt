@@ -1,7 +1,7 @@
 //! The subcommand `run`: what it takes, and the order that it is.
 use crate::described::{Absent, Described, Takes};
 use crate::help::subcommand_named;
-use crate::options::{ALONE, LENGTH, SHOWN, SOURCE, UNITS, source_given, view_given};
+use crate::options::{ALONE, LENGTH, SHOWN, SOURCE, TOLD, UNITS, source_given, view_given};
 use crate::picks::{PICKED, picks_given};
 use clap::{ArgMatches, Command, Error};
 use orders::Order;
@@ -32,6 +32,7 @@ pub(super) fn subcommand<'a>(alloc: Global) -> Result<Command<'a>, AllocError> {
             UNITS.as_slice(),
             PICKED.as_slice(),
             OPTIONS.as_slice(),
+            TOLD.as_slice(),
         ],
     )
 }

@@ -9,10 +9,16 @@ use std::alloc::Global;
 /// What words ask for.
 #[derive(Debug, Drop)]
 pub enum Asked<'a> {
-    /// An order over files, and whether its fault is to be explained.
-    Order { order: Order<'a>, verbose: bool },
+    /// An order over files, whether its fault is to be explained, and whether it tells how far it is.
+    Order {
+        order: Order<'a>,
+        verbose: bool,
+        progress: bool,
+    },
     /// What the faults of a name mean, which there are.
-    Explanation { name: &'a str },
+    Explanation {
+        name: &'a str,
+    },
     /// The names of all faults.
     FaultNames,
 }
@@ -59,7 +65,17 @@ fn read_asked<'a>(alloc: Global, words: &'a [String]) -> Result<Asked<'a>, Error
     Ok(Asked::Order {
         order: order_matched(alloc, &matches)?,
         verbose: matches.get_flag("verbose"),
+        progress: tells_progress(&matches),
     })
+}
+
+/// Whether a run tells how far it is: where that is asked for.
+fn tells_progress(matches: &ArgMatches<'_>) -> bool {
+    match matches.subcommand() {
+        Some(("run", options)) => options.get_flag("progress"),
+        Some(("plain", options)) => options.get_flag("progress"),
+        _ => false,
+    }
 }
 
 /// The order of the options of a subcommand.

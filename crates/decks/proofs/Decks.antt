@@ -6,8 +6,8 @@ use Rattle.text_lines.specs.Text.{◌>>=◌}
 use Rattle.timing_text.specs.Ranges.{most_ticks}
 use Rattle.timing_text.specs.Options.{horizon_of}
 use Rattle.vcd_dump.specs.Bytes.{AppendsPrefix}
-use Rattle.runs.specs.declared.fault.SimFault.{SimFault}
-use Rattle.runs.specs.declared.fault.SimFault.TheVariants.{Dump, Memory}
+use Rattle.prepared_runs.specs.declared.fault.SimFault.{SimFault}
+use Rattle.prepared_runs.specs.declared.fault.SimFault.TheVariants.{Dump, Memory}
 use Rattle.deck_text.specs.declared.fault.DeckTextFault.{DeckTextFault}
 use Rattle.deck_text.specs.declared.fault.DeckTextFault.TheVariants.{TooLong, BadDeck}
 use Rattle.decks.specs.declared.deck_run.DeckFault.{DeckFault}
@@ -15,11 +15,12 @@ use Rattle.decks.specs.declared.deck_run.DeckFault.TheVariants.{Sim}
 use Rattle.runs.specs.declared.simulation.Report.{Report}
 use Rattle.deck_text.specs.Deck.{Sections, ended_lines, sections_of, sections_of_lines}
 use Rattle.decks.specs.DeckRun.{DeckEndsBy, DeckMayWantMemory, deck_of_text, dump_of_deck, simulated_deck, source_of_deck, view_of_deck}
-use Rattle.runs.specs.Ends.{WritesPart, RunEndsBy}
-use Rattle.runs.specs.declared.view.View.{View}
-use Rattle.runs.specs.Source.{SourceView, MayWantMemory, design_of_source, or_fault, dump_of_design}
+use Rattle.prepared_runs.specs.Ends.{WritesPart, RunEndsBy}
+use Rattle.prepared_runs.specs.declared.view.View.{View}
+use Rattle.prepared_runs.specs.Source.{SourceView, MayWantMemory, design_of_source, or_fault, dump_of_design}
 use Rattle.deck_text.specs.Seen.{held, on_sections}
-use Rattle.runs.specs.Simulated.{dump_in, run_of_source, simulated}
+use Rattle.runs.specs.Simulated.{dump_in, simulated}
+use Rattle.prepared_runs.specs.Prepared.{run_of_source}
 use Rattle.program_io.proofs.CallerLemmas.{cut, limited-cut}
 
 -- a horizon past a `u64` is refused as the largest `u64` is

@@ -8,15 +8,15 @@ use Rattle.vcd_dump.specs.Faults.{IsFailedWrite}
 use Rattle.deck_text.specs.declared.fault.DeckTextFault.{DeckTextFault}
 use Rattle.deck_text.specs.declared.fault.DeckTextFault.TheVariants as no_deck
 use Rattle.deck_text.specs.Deck.{Sections, sections_of}
-use Rattle.runs.specs.declared.fault.SimFault.TheVariants.{Dump, Memory}
+use Rattle.prepared_runs.specs.declared.fault.SimFault.TheVariants.{Dump, Memory}
 use Rattle.runs.specs.declared.simulation.Report.{Report}
-use Rattle.runs.specs.declared.twin_run.Side.TheVariants.{First}
-use Rattle.runs.specs.declared.view.Show.TheVariants.{All}
-use Rattle.runs.specs.declared.view.View.{View}
-use Rattle.runs.specs.Ends.{WritesPart}
-use Rattle.runs.specs.Events.{text}
+use Rattle.run_pairs.specs.declared.twin_run.Side.TheVariants.{First}
+use Rattle.prepared_runs.specs.declared.view.Show.TheVariants.{All}
+use Rattle.prepared_runs.specs.declared.view.View.{View}
+use Rattle.prepared_runs.specs.Ends.{WritesPart}
+use Rattle.prepared_runs.specs.Events.{text}
 use Rattle.runs.specs.Simulated.{dump_in, simulated}
-use Rattle.runs.specs.Source.{SourceView, or_fault, MayWantMemory}
+use Rattle.prepared_runs.specs.Source.{SourceView, or_fault, MayWantMemory}
 use Rattle.program_io.specs.declared.program_fault.ProgramFault.{ProgramFault}
 use Rattle.program_io.specs.declared.program_fault.ProgramFault.TheVariants.{Deck}
 use Rattle.program_io.specs.ProgramFaults.{fault_of_run}

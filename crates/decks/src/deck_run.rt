@@ -2,14 +2,15 @@
 ghost use Rattle.std.specs.Prelude.{◌≡◌, Err, IfErr, IfOk, IsOkAnd, OnOk};
 ghost use Rattle.std.specs.Io.KnownBytes.{Appends};
 ghost use Rattle.deck_text.specs.Seen.{seen_sections};
-ghost use Rattle.runs.specs.Source.{seen_source};
-ghost use Rattle.runs.specs.declared.fault.SimFault.TheVariants.{Memory};
+ghost use Rattle.prepared_runs.specs.Source.{seen_source};
+ghost use Rattle.prepared_runs.specs.declared.fault.SimFault.TheVariants.{Memory};
 ghost use Rattle.decks.specs.declared.deck_run.DeckFault.TheVariants.{Sim};
 ghost use Rattle.decks.specs.DeckRun.{DeckEndsBy, DeckMayWantMemory, deck_of_text, dump_of_deck, fault_of_deck, simulated_deck, source_of_deck, view_of_deck};
 
 use deck_text::{DeckTextFault, Sections, read_sections};
+use prepared_runs::{Picks, Show, SimFault, Source, View};
 use program_io::ProgramFault;
-use runs::{Picks, Report, Show, SimFault, Source, View, simulate, sweep};
+use runs::{Report, simulate, sweep};
 use std::alloc::Global;
 use std::io::Write;
 use thiserror::Error;

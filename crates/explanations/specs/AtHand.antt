@@ -1,10 +1,10 @@
--- What is told of a fault at hand: the line of its text, the word at fault, what it means and what is wanted.
-use Rattle.std.specs.Prelude.{ℕ, ◌==◌, if◌then◌else◌, List, [], ◌++◌, flat_map, option_and_then, Option}
+-- What is told of a fault at hand: the line of its text, the word at fault, what the system says, what it means and what is wanted.
+use Rattle.std.specs.Prelude.{ℕ, ◌==◌, if◌then◌else◌, List, [], ◌++◌, flat_map, codes, decimal, option_and_then, Option, None, Some}
 use Rattle.explanations.specs.declared.explanation.Explanation.{Explanation}
 use Rattle.explanations.specs.declared.subject.Subject.{Subject}
 use Rattle.explanations.specs.declared.subject.Subject.TheVariants.{Bench, Delays, Stimuli, Schedule, Deck, Settings, Columns, Drives, Ticks, Names, Program}
 use Rattle.explanations.specs.declared.table.Table.{Table}
-use Rattle.explanations.specs.AtFault.{at_fault}
+use Rattle.explanations.specs.AtFault.{at_fault, word_told}
 use Rattle.explanations.specs.Excerpt.{excerpt, line_at}
 use Rattle.explanations.specs.Explained.{is_called, meaning_line, title_of, wanted_line}
 
@@ -36,7 +36,32 @@ abbrev pub hints_in : Subject → List ℕ → Table → List ℕ
 hints_in subject name table =
     (if number_of table.subject == number_of subject then flat_map (hint_if_called subject name) table.explanations.now else [])
 
--- all that is told of it, where this is the text, if it is known
-abbrev pub told_at_hand : List Table → Subject → List ℕ → ℕ → Option (List ℕ) → List ℕ
-told_at_hand tables subject name number text =
-    excerpt number (option_and_then (line_at number) text) ++ at_fault subject name number text ++ flat_map (hints_in subject name) tables
+-- what the system says of a read or a write that failed, if it says something
+abbrev pub reason_line : Option (List ℕ) → List ℕ
+reason_line reason = word_told (codes "the system says: ") reason
+
+-- a number that is out of its range, or at odds with another
+abbrev pub number_line : Option ℕ → List ℕ
+number_line None = []
+number_line (Some number) = codes "the number is: " ++ decimal number ++ codes "\n"
+
+-- a fault as it was met: what it is of, its name and its line, and where they are known the text at fault, the word and the number at
+-- fault that no text has, and what the system says
+pub record FaultView : Type 0 where
+  pub subject : Subject
+  pub name : List ℕ
+  pub line : ℕ
+  pub text : Option (List ℕ)
+  pub word : Option (List ℕ)
+  pub number : Option ℕ
+  pub reason : Option (List ℕ)
+
+-- all that is told of it
+abbrev pub told_at_hand : List Table → FaultView → List ℕ
+told_at_hand tables fault =
+    excerpt fault.line (option_and_then (line_at fault.line) fault.text)
+    ++ at_fault fault.subject fault.name fault.line fault.text
+    ++ word_told (codes "the word is: ") fault.word
+    ++ number_line fault.number
+    ++ reason_line fault.reason
+    ++ flat_map (hints_in fault.subject fault.name) tables

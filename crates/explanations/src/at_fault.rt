@@ -160,7 +160,11 @@ fn unplain_word(code: &[u8]) -> Option<&[u8]>
 }
 
 /// Adds a word behind what is said of it, and a line feed, if there is one.
-fn push_word(told: &mut Vec<u8>, said: &[u8], word: Option<&[u8]>) -> Result<(), AllocError>
+pub(crate) fn push_word(
+    told: &mut Vec<u8>,
+    said: &[u8],
+    word: Option<&[u8]>,
+) -> Result<(), AllocError>
     ensures { OnOk result (told.new.items ≡ told.old.items
         ++ word_told said.now (option_map (λ word. word.now) word.entry)) }
 {

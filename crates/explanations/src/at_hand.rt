@@ -1,9 +1,10 @@
 //! What is told of a fault at hand.
 ghost use Rattle.std.specs.Prelude.{◌≡◌, ◌++◌, flat_map, option_and_then, option_map, string_bytes, IfOk, OnOk};
-ghost use Rattle.explanations.specs.AtHand.{hint_if_called, hint_of, hints_in, told_at_hand};
+ghost use Rattle.explanations.specs.AtHand.{hint_if_called, hint_of, hints_in, number_line, told_at_hand};
 ghost use Rattle.explanations.specs.Excerpt.{line_at};
+ghost use Rattle.explanations.specs.Seen.{seen_fault};
 
-use crate::at_fault::push_at_fault;
+use crate::at_fault::{push_at_fault, push_word};
 use crate::excerpt::{line_at, push_excerpt};
 use crate::explanation::Explanation;
 use crate::subject::Subject;
@@ -21,14 +22,19 @@ pub struct AtHand<'a> {
     pub line: u64,
     /// The text at fault, where it is known.
     pub text: Option<&'a [u8]>,
+    /// The name at fault, where no text has it: one that the words of a command give.
+    pub word: Option<&'a [u8]>,
+    /// The number at fault, where no text has it.
+    pub number: Option<u64>,
+    /// What the system says of a read or a write that failed, where it says something.
+    pub reason: Option<&'a [u8]>,
 }
 
 /// What is told of a fault: the line of its text, where the text is known, the word at fault, or the
-/// earlier line that is of the same, where the lines alone tell it, what it means, and what is wanted. Of
-/// a long line the first 100 bytes are shown, and a byte that isn't printable as `?`.
+/// earlier line that is of the same, where the lines alone tell it, the word or the number at fault that no
+/// text has, what the system says, what it means, and what is wanted. Of a long line the first 100 bytes are shown, and a byte that isn't printable as `?`.
 pub fn fault_text(alloc: Global, tables: &[Table], fault: AtHand<'_>) -> Result<Vec<u8>, AllocError>
-    ensures { IfOk result (λ told. told.items ≡ told_at_hand tables.now fault.entry.subject fault.entry.name.now
-        fault.entry.line (option_map (λ text. text.now) fault.entry.text)) }
+    ensures { IfOk result (λ told. told.items ≡ told_at_hand tables.now (seen_fault fault.entry)) }
 {
     let mut told = Vec::new(alloc);
     push_excerpt(
@@ -45,9 +51,23 @@ pub fn fault_text(alloc: Global, tables: &[Table], fault: AtHand<'_>) -> Result<
         fault.line,
         fault.text,
     )?;
+    push_word(&mut told, b"the word is: ", fault.word)?;
+    push_number(alloc, &mut told, fault.number)?;
+    push_word(&mut told, b"the system says: ", fault.reason)?;
     let hints = hints_text(alloc, tables, fault.subject, fault.name)?;
     told.extend_from_slice(hints.as_str().as_bytes())?;
     Ok(told)
+}
+
+/// Adds a number behind what is said of it, and a line feed, if there is one.
+fn push_number(alloc: Global, told: &mut Vec<u8>, number: Option<u64>) -> Result<(), AllocError>
+    ensures { OnOk result (told.new.items ≡ told.old.items ++ number_line number) }
+{
+    let Some(number) = number else {
+        return Ok(());
+    };
+    let line = format!(in alloc; "the number is: {number}\n")?;
+    told.extend_from_slice(line.as_str().as_bytes())
 }
 
 fn line_of<'a>(number: u64, text: Option<&'a [u8]>) -> Option<&'a [u8]>

@@ -6,8 +6,10 @@ use crate::whole_runs::{
 };
 use command_line::parse_words;
 use nullsim::{
-    Asked, Keeping, Order, ReadFault, Texts, answer_order, asked_by_words, command, read_text,
+    Asked, Keeping, Order, ReadFault, Reasoned, Texts, WithReason, answer_order, asked_by_words,
+    command, read_text,
 };
+use run_progress::Silent;
 use std::alloc::{AllocError, Global};
 use std::io::Write;
 use worked_examples::dumps::OSCILLATOR_DUMP;
@@ -28,6 +30,12 @@ impl Texts for Shelf {
             _ => return Err(ReadFault::Read),
         };
         read_text(self.alloc, &mut text)
+    }
+}
+
+impl Reasoned for Shelf {
+    fn reason(&self) -> Option<&[u8]> {
+        None
     }
 }
 
@@ -103,7 +111,7 @@ fn carried_out<W: Write>(
 ) -> Option<()> {
     let mut shelf = Shelf { alloc };
     let mut out = Follower::of(text);
-    let answer = order.carry_out(alloc, &mut shelf, &mut out);
+    let answer = order.carry_out(alloc, &mut shelf, &mut out, &mut Silent);
     ended(teller, "Order::carry_out", answer, &out)
 }
 
@@ -115,7 +123,7 @@ fn told_orders<W: Write>(
 ) -> Option<()> {
     let mut shelf = Shelf { alloc };
     let (mut out, mut err) = (Follower::of(text), Follower::of(TOLD));
-    let status = answer_order(alloc, order, &mut shelf, &mut out, &mut err);
+    let status = answer_order(alloc, order, false, &mut shelf, &mut out, &mut err);
     answered(teller, "answer_order", status, &out, &err)
 }
 
@@ -126,7 +134,8 @@ fn commands<W: Write>(
     text: &'static [u8],
 ) -> Option<()> {
     let mut shelf = Keeping::new(alloc, Shelf { alloc });
-    let (mut out, mut err) = (Follower::of(text), Follower::of(TOLD));
+    let mut out = WithReason::new(alloc, Follower::of(text));
+    let mut err = Follower::of(TOLD);
     let status = command(alloc, words, &mut shelf, &mut out, &mut err);
-    answered(teller, "command", status, &out, &err)
+    answered(teller, "command", status, out.beneath(), &err)
 }

@@ -7,8 +7,9 @@ use decks::DeckFault;
 use design::BuildFault;
 use fanin_cone::ConeFault;
 use nullsim::NoOrder;
+use prepared_runs::SimFault;
 use program_io::{ProgramFault, ReadFault};
-use runs::{SimFault, TwinFault};
+use run_pairs::TwinFault;
 use timing_text::{DelayFault, StimulusFault};
 use vcd_dump::DumpFault;
 

@@ -1,14 +1,17 @@
 //! Whole runs: a first part of the text is out.
 use crate::following::Follower;
 use crate::telling::{Fault, Teller};
+use circuit_texts::{cone_text, info};
 use decks::{answer_deck, deck, tell};
+use plain_runs::{plain, plain_with_progress};
+use prepared_runs::{Picks, Show, Source, View};
 use program_io::{
     read_text, write_check, write_cone, write_diff, write_info, write_plain, write_run, write_twin,
 };
-use runs::{
-    DiffTicks, Picks, Show, Source, View, check, cone_text, diff, info, plain, simulate, sweep,
-    twin,
-};
+use run_notes::notes_text;
+use run_pairs::{DiffTicks, diff, twin};
+use run_progress::{Percents, Silent};
+use runs::{check, simulate, sweep};
 use std::alloc::{AllocError, Global};
 use std::io::Write;
 use vcd_dump::TimeUnit;
@@ -54,6 +57,9 @@ const DECK: &[u8] =
 /// What the program tells of want of memory.
 pub(crate) const TOLD: &[u8] = b"memory:0: Memory\n";
 
+/// The percents of the 13 ticks of the oscillator, one by one.
+const PERCENTS: &[u8] = b"\r0%\r7%\r15%\r23%\r30%\r38%\r46%\r53%\r61%\r69%\r76%\r84%\r92%\r100%\n";
+
 /// What goes out of the nets that the gate of the oscillator hangs on.
 pub(crate) const CONE: &[u8] = b"INPUT(e)\ny = NAND(e, y)\nOUTPUT(y)\n";
 
@@ -90,6 +96,7 @@ pub(crate) fn probe<W: Write>(alloc: Global, teller: &mut Teller<W>) -> Option<(
         dumps(alloc, teller, source, &view, dump)?;
         written_dumps(alloc, teller, source, &view, dump)?;
     }
+    progress(alloc, teller)?;
     comparisons(alloc, teller)?;
     written_comparisons(alloc, teller)?;
     decks(alloc, teller)?;
@@ -138,6 +145,30 @@ fn dumps<W: Write>(
     ended(teller, "runs::plain", answer, &out)
 }
 
+/// The oscillator by the plain engine. Where a growth is refused the line of percents ends early.
+fn progress<W: Write>(alloc: Global, teller: &mut Teller<W>) -> Option<()> {
+    let view = View {
+        horizon: 12,
+        show: Show::All,
+        unit: TimeUnit::Ns,
+    };
+    let (mut out, mut err) = (Follower::of(OSCILLATOR_DUMP), Follower::of(PERCENTS));
+    let mut percents = Percents::new(&mut err);
+    let answer = plain_with_progress(alloc, &OSCILLATOR, &view, &mut out, &mut percents);
+    percents.end();
+    match answer {
+        Ok(()) => teller.fine(
+            "runs::plain_with_progress",
+            out.is_whole() && err.is_whole(),
+        ),
+        Err(fault) => {
+            let told = fault.is_memory() && out.follows();
+            teller.refused("runs::plain_with_progress", told);
+            None
+        }
+    }
+}
+
 fn written_dumps<W: Write>(
     alloc: Global,
     teller: &mut Teller<W>,
@@ -147,11 +178,11 @@ fn written_dumps<W: Write>(
 ) -> Option<()> {
     for counts in [false, true] {
         let mut out = Follower::of(dump);
-        let answer = write_run(alloc, source, view, counts, &mut out);
+        let answer = write_run(alloc, source, view, counts, &mut out, &mut Silent);
         ended(teller, "write_run", answer, &out)?;
     }
     let mut out = Follower::of(dump);
-    let answer = write_plain(alloc, source, view, &mut out);
+    let answer = write_plain(alloc, source, view, &mut out, &mut Silent);
     ended(teller, "write_plain", answer, &out)
 }
 
@@ -164,6 +195,7 @@ fn comparisons<W: Write>(alloc: Global, teller: &mut Teller<W>) -> Option<()> {
     teller.told("runs::info", info(alloc, OSCILLATOR.bench))?;
     let answer = diff(alloc, &OSCILLATOR, &OSCILLATOR, &[], COUNTING);
     teller.told("runs::diff", answer)?;
+    teller.told("run_notes::notes_text", notes_text(alloc, &OSCILLATOR, 12))?;
     Some(())
 }
 

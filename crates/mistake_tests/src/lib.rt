@@ -1,5 +1,5 @@
 //! Tests of what is told of mistakes: of each fault that is explained, and of the mistakes that are made
-//! most.
+//! most; and of what is noted of runs that are done.
 #![tactic(auto)]
 
 #[cfg(test)]
@@ -9,8 +9,14 @@ mod examples;
 #[cfg(test)]
 mod mistakes;
 #[cfg(test)]
+mod noted;
+#[cfg(test)]
 mod questions;
 #[cfg(test)]
 mod shelf;
 #[cfg(test)]
 mod texts;
+#[cfg(test)]
+mod words;
+#[cfg(test)]
+mod writers;

@@ -1,7 +1,8 @@
 //! The mistakes that are made most: the status and the line of each, and what is told behind it.
 use crate::circuits::CIRCUITS;
 use crate::shelf::answer_to;
-use crate::texts::{ASKED, DELAYS, SCHEDULES, STIMULI};
+use crate::texts::{DELAYS, SCHEDULES, STIMULI};
+use crate::words::{ASKED, NAMES, NUMBERS};
 use std::alloc::Global;
 use std::process::Abort;
 use std::test::Fail;
@@ -67,4 +68,14 @@ fn schedules(rt: HostRuntime) -> Result<(), Fail> {
 #[test]
 fn asked(rt: HostRuntime) -> Result<(), Fail> {
     are_told(&rt, rt.alloc(), &ASKED)
+}
+
+#[test]
+fn names(rt: HostRuntime) -> Result<(), Fail> {
+    are_told(&rt, rt.alloc(), &NAMES)
+}
+
+#[test]
+fn numbers(rt: HostRuntime) -> Result<(), Fail> {
+    are_told(&rt, rt.alloc(), &NUMBERS)
 }

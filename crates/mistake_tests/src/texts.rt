@@ -1,4 +1,4 @@
-//! Mistakes in stimuli, delays and schedules, and in what words ask for; and what is told of each.
+//! Mistakes in stimuli, delays and schedules; and what is told of each.
 use crate::mistakes::Mistake;
 
 // The circuit has the input a, the gate y and the flip-flop q.
@@ -339,72 +339,5 @@ pub(crate) static SCHEDULES: [Mistake; 4] = [
           BadPin of a schedule text: the net has no pin at this place. Places count from 0, and an input has no pins.\n\
           want deliver NAME PLACE with a place below the number of the net's pins, such as deliver y 0 for\n\
           the first pin of y\n",
-    ),
-];
-
-// No text is at fault.
-pub(crate) static ASKED: [Mistake; 7] = [
-    // A file that isn't there.
-    (
-        "",
-        "info --bench god.bench",
-        3,
-        "god.bench:0: Read\n",
-        "Read of reading and writing: a file isn't there, may not be read, or broke off; at stdin, standard input did.\n\
-          want the path of a file that can be read, as seen from the folder where nullsim runs\n",
-    ),
-    // A horizon that is too large.
-    (
-        "",
-        "run --bench good.bench --horizon 20000000",
-        1,
-        "options:0: BadHorizon\n",
-        "BadHorizon of the settings: the last tick of the run is above 10,000,000.\n\
-          want --horizon 0 to 10000000; of why it is --at\n",
-    ),
-    // A delay of 0.
-    (
-        "",
-        "run --bench good.bench --horizon 20 --delay 0",
-        1,
-        "options:0: BadDelay\n",
-        "BadDelay of the settings: the default delay is 0 or above 1,000,000.\n\
-          want --delay 1 to 1000000\n",
-    ),
-    // A name that no net has.
-    (
-        "",
-        "why --bench good.bench --net z --at 5",
-        1,
-        "good.bench:0: UnknownNet\n",
-        "UnknownNet of nets asked for by name: no net of the circuit has a name that the words give.\n\
-          want the name of a net that the .bench text defines, byte for byte\n",
-    ),
-    // Too long a diagram.
-    (
-        "",
-        "draw --bench good.bench --horizon 5000",
-        1,
-        "options:0: TooManyColumns\n",
-        "TooManyColumns of the columns of draw: there would be more than 1,000 columns.\n\
-          want fewer ticks by --from and --to, or more of them in a column by --step\n",
-    ),
-    // A clock for a gate.
-    (
-        "",
-        "stimuli --bench good.bench --horizon 20 --clock y=5",
-        1,
-        "options:0: NotAnInput\n",
-        "NotAnInput of the drives of stimuli: no input has the name that an option gives.\n\
-          want the name of an input, which the .bench text defines by INPUT(NAME)\n",
-    ),
-    // Every 0 ticks.
-    (
-        "",
-        "diff --first good.bench --second good.bench --horizon 20 --every 0",
-        1,
-        "options:0: BadEvery\n",
-        "BadEvery of the ticks of diff: only multiples of 0 ticks would be compared.\n\
-          want --every of at least 1\n",
     ),
 ];

@@ -1,1 +1,3 @@
 mod CountsLine
+mod Firsts
+mod Noting

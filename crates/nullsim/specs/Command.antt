@@ -61,9 +61,6 @@ OrderBroken known order old new status =
     (fault : ProgramFault) × ReadsUntil (files_of order) old.readings new.readings fault × OrderEndsBy known order old.out new.out fault
     × Reports (names_of order (side_of fault)) fault old.err new.err status
 
-abbrev pub OrderTold : KnownTexts → Order → Streams → Streams → ℕ → Type 0
-OrderTold known order old new status = OrderDone known order old new status ⊎ OrderBroken known order old new status
-
 -- ---- words that are no order
 
 -- help is asked for by one of these words

@@ -1,5 +1,8 @@
 pub mod Asked
+pub mod AtFault
 pub mod Command
 pub mod Kept
+pub mod Noted
+pub mod Progress
 pub mod Verbose
 pub mod Version

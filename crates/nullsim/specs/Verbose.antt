@@ -1,15 +1,15 @@
 -- What is told of a fault behind its line.
-use Rattle.std.specs.Prelude.{◌≡◌, ◌⊎◌, ℕ, List, Option}
+use Rattle.std.specs.Prelude.{ℕ, List, Option, None}
 use Rattle.explanations.specs.declared.subject.Subject.{Subject}
 use Rattle.explanations.specs.declared.subject.Subject.TheVariants as of
 use Rattle.explanations.specs.declared.table.Table.{Table}
 use Rattle.explanations.specs.AtHand.{told_at_hand}
 use Rattle.vcd_dump.specs.Bytes.{AppendsPrefix}
-use Rattle.runs.specs.declared.fault.SimFault.{SimFault}
-use Rattle.runs.specs.declared.fault.SimFault.TheVariants as sim
+use Rattle.prepared_runs.specs.declared.fault.SimFault.{SimFault}
+use Rattle.prepared_runs.specs.declared.fault.SimFault.TheVariants as sim
 use Rattle.program_io.specs.declared.program_fault.ProgramFault.{ProgramFault}
 use Rattle.program_io.specs.declared.program_fault.ProgramFault.TheVariants.{Read, Deck, Run, Output, Memory, Flush}
-use Rattle.program_io.specs.Place.{Names, place_of}
+use Rattle.program_io.specs.Place.{place_of}
 use Rattle.program_io.specs.ProgramFaults.{line_of, name_of, side_of}
 use Rattle.program_io.specs.Report.{Reports}
 use Rattle.orders.specs.declared.order.Order.{Order}
@@ -17,7 +17,8 @@ use Rattle.orders.specs.Options.{KnownTexts}
 use Rattle.orders.specs.OrderAnswer.{OrderEndsBy}
 use Rattle.orders.specs.FileNames.{names_of}
 use Rattle.orders.specs.Readings.{ReadsUntil, files_of}
-use Rattle.nullsim.specs.Command.{OrderDone, Streams}
+use Rattle.nullsim.specs.AtFault.{name_at_fault, number_at_fault}
+use Rattle.nullsim.specs.Command.{Streams}
 
 -- what a fault of a run is of
 abbrev pub subject_of_run : SimFault → Subject
@@ -41,21 +42,44 @@ subject_of (Output fault) = of.Program
 subject_of Memory = of.Program
 subject_of Flush = of.Program
 
--- what is told of a fault, where this is the text at fault, if it is known
-abbrev pub explanation : List Table → ProgramFault → Option (List ℕ) → List ℕ
-explanation tables fault text = told_at_hand tables (subject_of fault) (name_of fault) (line_of fault) text
+-- what is known at the end: the texts that are kept, by their names, and what the system said of a read and of a write that failed
+pub record Remembered : Type 0 where
+  pub held : KnownTexts
+  pub read : Option (List ℕ)
+  pub written : Option (List ℕ)
+
+-- what the system said of this fault, if it said something
+abbrev pub reason_of : Remembered → ProgramFault → Option (List ℕ)
+reason_of remembered (Read name) = remembered.read
+reason_of remembered (Output fault) = remembered.written
+reason_of remembered Flush = remembered.written
+reason_of remembered other = None
+
+-- the text at fault is the one that is kept under the name of the place at fault
+abbrev pub text_of : Remembered → Order → ProgramFault → Option (List ℕ)
+text_of remembered order fault = remembered.held (place_of (names_of order (side_of fault)) fault)
+
+-- what is told of the fault of an order, by what is remembered
+abbrev pub explanation : List Table → Remembered → Order → ProgramFault → List ℕ
+explanation tables remembered order fault = told_at_hand tables (record {
+  subject = subject_of fault;
+  name = name_of fault;
+  line = line_of fault;
+  text = text_of remembered order fault;
+  word = name_at_fault remembered.held order fault;
+  number = number_at_fault order fault;
+  reason = reason_of remembered fault;
+})
 
 -- the line of a fault, and behind it what is told of it, or a first part of each
-abbrev pub ReportsVerbosely : List Table → Names → ProgramFault → Option (List ℕ) → Option (List ℕ) → Option (List ℕ) → ℕ → Type 0
-ReportsVerbosely tables names fault text old new status =
-    (mid : Option (List ℕ)) × Reports names fault old mid status × AppendsPrefix mid new (explanation tables fault text)
+abbrev pub ReportsVerbosely : List Table → Remembered → Order → ProgramFault → Option (List ℕ) → Option (List ℕ) → ℕ → Type 0
+ReportsVerbosely tables remembered order fault old new status =
+    (mid : Option (List ℕ)) × Reports (names_of order (side_of fault)) fault old mid status
+    × AppendsPrefix mid new (explanation tables remembered order fault)
 
-module _ (tables : List Table) (held known : KnownTexts) (order : Order) (old new : Streams) (status : ℕ) where
-  -- it ended by a fault, which was told and explained; its text is the one that is held under the name of the place at fault
+module _ (tables : List Table) (remembered : Remembered) (known : KnownTexts) (order : Order) (old new : Streams) (status : ℕ) where
+  -- it ended by a fault, which was told and explained by what is remembered
   abbrev pub OrderBrokenVerbosely : Type 0
   OrderBrokenVerbosely =
       (fault : ProgramFault) × ReadsUntil (files_of order) old.readings new.readings fault × OrderEndsBy known order old.out new.out fault
-      × ReportsVerbosely tables (names_of order (side_of fault)) fault (held (place_of (names_of order (side_of fault)) fault)) old.err new.err status
-
-  abbrev pub OrderToldVerbosely : Type 0
-  OrderToldVerbosely = OrderDone known order old new status ⊎ OrderBrokenVerbosely
+      × ReportsVerbosely tables remembered order fault old.err new.err status

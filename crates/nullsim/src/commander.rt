@@ -6,10 +6,13 @@ ghost use Rattle.vcd_dump.specs.Faults.{IsFailedWrite};
 ghost use Rattle.event_trace.specs.Lines.{counts_line};
 ghost use Rattle.explanations.specs.Explained.{all_names, explained};
 ghost use Rattle.nullsim.specs.Asked.{CommandEnds, OrderEnds};
-ghost use Rattle.nullsim.specs.Command.{Explains, OrderTold, TextGiven, TextMade, VersionGiven, line_of_numbers, outcome_text, status_of_outcome};
+ghost use Rattle.nullsim.specs.Command.{Explains, TextGiven, TextMade, VersionGiven, line_of_numbers, outcome_text, status_of_outcome};
+ghost use Rattle.nullsim.specs.Progress.{OrderTold};
 ghost use Rattle.nullsim.specs.Version.{asks_for_version};
 
 use crate::kept::KeptTexts;
+use crate::reasons::Reasoned;
+use crate::telling::carry_out;
 use crate::verbose::answer_verbosely;
 use crate::version::{asks_for_version, give_version};
 use crate::words::asked_by_words;
@@ -33,14 +36,16 @@ use vcd_dump::{DumpFault, write_all_bytes};
 /// Where the words are just `--version` or `-V` the version goes to `out`, and where a word asks for help
 /// that does; the status is 0 then. Where the words are wrong the
 /// status is 2, and some lines that say so go to `err`; then no text is asked for.
-pub fn command<T: KeptTexts, W: Write, E: Write>(
+pub fn command<T: KeptTexts, W: Write + Reasoned, E: Write>(
     alloc: Global,
     words: &[String],
     texts: &mut T,
     out: &mut W,
     err: &mut E,
 ) -> u8
-    ensures ends { CommandEnds words.now (T.held texts.new) (T.known texts.old)
+    ensures ends { CommandEnds words.now
+        (record { held = T.held texts.new; read = T.said texts.new; written = W.said out.new })
+        (T.known texts.old)
         (record { readings = T.readings texts.old; out = W.contents out.old; err = E.contents err.old })
         (record { readings = T.readings texts.new; out = W.contents out.new; err = E.contents err.new }) result }
     ensures version { IsTrue (asks_for_version words.now) → VersionGiven
@@ -53,9 +58,13 @@ pub fn command<T: KeptTexts, W: Write, E: Write>(
         return give_version(out, err);
     }
     match asked_by_words(alloc, words) {
-        Ok(Asked::Order { order, verbose }) => {
-            answer_as_asked(alloc, &order, verbose, texts, out, err)
-        }
+        Ok(
+            Asked::Order {
+                order,
+                verbose,
+                progress,
+            },
+        ) => answer_as_asked(alloc, &order, verbose, progress, texts, out, err),
         Ok(Asked::Explanation { name }) => tell_fault(alloc, &tables(), name, out, err),
         Ok(Asked::FaultNames) => tell_names(alloc, &tables(), out, err),
         Err(no_order) => explain(no_order, out, err),
@@ -63,23 +72,26 @@ pub fn command<T: KeptTexts, W: Write, E: Write>(
 }
 
 /// Carries out an order, verbosely or not, and answers the exit status.
-fn answer_as_asked<T: KeptTexts, W: Write, E: Write>(
+fn answer_as_asked<T: KeptTexts, W: Write + Reasoned, E: Write>(
     alloc: Global,
     order: &Order<'_>,
     verbose: bool,
+    progress: bool,
     texts: &mut T,
     out: &mut W,
     err: &mut E,
 ) -> u8
-    ensures told { OrderEnds verbose (T.held texts.new) (T.known texts.old) order.now
+    ensures told { OrderEnds verbose progress
+        (record { held = T.held texts.new; read = T.said texts.new; written = W.said out.new })
+        (T.known texts.old) order.now
         (record { readings = T.readings texts.old; out = W.contents out.old; err = E.contents err.old })
         (record { readings = T.readings texts.new; out = W.contents out.new; err = E.contents err.new }) result }
     ensures no_usage { result ≢ 2 }
 {
     if verbose {
-        answer_verbosely(alloc, order, &tables(), texts, out, err)
+        answer_verbosely(alloc, order, &tables(), progress, texts, out, err)
     } else {
-        answer_order(alloc, order, texts, out, err)
+        answer_order(alloc, order, progress, texts, out, err)
     }
 }
 
@@ -87,21 +99,24 @@ fn answer_as_asked<T: KeptTexts, W: Write, E: Write>(
 ///
 /// 0 says that this is done, 1 that an input is refused, 3 that a read or a write failed, 4 that
 /// memory was wanting, and 5 that it is done and what was compared differs. For 1, 3 and 4 one line
-/// `WHERE:LINE: NAME` goes to `err`, and for 0 the line of the counts where they are asked for; a fault
+/// `WHERE:LINE: NAME` goes to `err`, and for 0 the line of the counts where they are asked for. Where that
+/// is asked for, a run whose dump is written tells how far it is on `err` before that: the percent of the
+/// ticks that are known, each time it is greater, over what stood there, and a line feed at last. A fault
 /// of `err` is ignored.
 pub fn answer_order<T: Texts, W: Write, E: Write>(
     alloc: Global,
     order: &Order<'_>,
+    progress: bool,
     texts: &mut T,
     out: &mut W,
     err: &mut E,
 ) -> u8
-    ensures told { OrderTold (T.known texts.old) order.now
+    ensures told { OrderTold progress (T.known texts.old) order.now
         (record { readings = T.readings texts.old; out = W.contents out.old; err = E.contents err.old })
         (record { readings = T.readings texts.new; out = W.contents out.new; err = E.contents err.new }) result }
     ensures no_usage { result ≢ 2 }
 {
-    match order.carry_out(alloc, texts, out) {
+    match carry_out(alloc, order, progress, texts, out, err) {
         Ok(outcome) => tell_outcome(err, outcome),
         Err(fault) => report(err, fault, order.text_names(fault.side())),
     }

@@ -1,10 +1,11 @@
 //! Texts that are kept as they are read, so that a fault of one can be explained.
+use crate::reasons::Reasoned;
 use orders::Texts;
 use program_io::ReadFault;
 use std::alloc::{AllocError, Global};
 
-/// Texts that are kept as they are read, once that is asked for.
-pub trait KeptTexts: Texts {
+/// Texts that are kept as they are read, once that is asked for, and that know why one could not be read.
+pub trait KeptTexts: Texts + Reasoned {
     ghost use Rattle.std.specs.Prelude.{◌≡◌, ℕ, List, Option, None, option_map};
 
     // The texts that are kept, by their names.
@@ -72,7 +73,15 @@ impl<T: Texts + Drop> Texts for Keeping<T> {
     }
 }
 
-impl<T: Texts + Drop> KeptTexts for Keeping<T> {
+impl<T: Reasoned + Drop> Reasoned for Keeping<T> {
+    ghost said = { λ keeping. T.said keeping.texts };
+
+    fn reason(&self) -> Option<&[u8]> {
+        self.texts.reason()
+    }
+}
+
+impl<T: Texts + Reasoned + Drop> KeptTexts for Keeping<T> {
     ghost use Rattle.nullsim.specs.Kept.{kept_under};
 
     ghost held = { λ keeping. kept_under keeping.kept.items };

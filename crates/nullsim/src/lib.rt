@@ -4,20 +4,27 @@
 mod commander;
 mod kept;
 pub mod laws;
+mod names;
+mod notes;
+mod numbers;
+mod reasons;
+mod telling;
 mod verbose;
 mod version;
 mod words;
 
+pub use circuit_texts::{cone_text, info};
 pub use command_line::{Asked, NoOrder};
 pub use commander::{answer_order, command, write_counts_line};
 pub use deck_text::{DeckTextFault, Sections, read_sections};
 pub use decks::{DeckFault, answer_deck, deck, tell};
 pub use kept::{Keeping, KeptTexts};
 pub use orders::{Order, PickOptions, SourceOptions, Texts};
+pub use plain_runs::{DiagramView, diagram, plain};
+pub use prepared_runs::{Picks, Show, SimFault, Source, View};
 pub use program_io::{Outcome, ProgramFault, ReadFault, read_text};
-pub use runs::{
-    CheckAnswer, DiagramView, DiffAnswer, DiffTicks, Picks, Report, Show, Side, SimFault, Source,
-    TwinAnswer, TwinFault, View, check, cone_text, diagram, diff, info, plain, simulate, twin,
-};
+pub use reasons::{Reasoned, WithReason, said_of};
+pub use run_pairs::{DiffAnswer, DiffTicks, Side, TwinAnswer, TwinFault, diff, twin};
+pub use runs::{CheckAnswer, Report, check, simulate};
 pub use verbose::answer_verbosely;
 pub use words::asked_by_words;

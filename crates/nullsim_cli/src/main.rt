@@ -2,7 +2,7 @@
 //! it carries out a command over files.
 #![tactic(auto)]
 
-use nullsim::{Keeping, ReadFault, Texts, command, read_text, tell};
+use nullsim::{Keeping, ReadFault, Reasoned, Texts, WithReason, command, read_text, said_of, tell};
 use std::fs::File;
 use std::io::{self, ErrorKind, Write};
 use std::process::ExitCode;
@@ -12,14 +12,36 @@ use std::rt::Files;
 #[derive(Drop)]
 struct Folder<'a, R> {
     rt: &'a R,
+    /// What the system says of the file that was read last.
+    said: Option<String>,
 }
 
 impl<R: Files + AllocGlobal> Texts for Folder<'_, R> {
     fn text(&mut self, name: &str) -> Result<Vec<u8>, ReadFault> {
+        let alloc = self.rt.alloc();
         match File::open(self.rt, name) {
-            Ok(mut file) => read_text(self.rt.alloc(), &mut file),
-            Err(_) => Err(ReadFault::Read),
+            Ok(file) => {
+                let mut file = WithReason::new(alloc, file);
+                let text = read_text(alloc, &mut file);
+                self.said = file.into_said();
+                text
+            }
+            Err(error) => {
+                self.said = said_of(alloc, error);
+                Err(ReadFault::Read)
+            }
         }
+    }
+}
+
+impl<R> Reasoned for Folder<'_, R> {
+    ghost use Rattle.std.specs.Prelude.{option_map, string_bytes};
+
+    ghost said = { λ folder. option_map string_bytes folder.said };
+
+    fn reason(&self) -> Option<&[u8]> {
+        let said = self.said.as_ref()?;
+        Some(said.as_str().as_bytes())
     }
 }
 
@@ -34,7 +56,12 @@ fn main(rt: HostRuntime) -> ExitCode {
     let status = match words_given(&rt) {
         Ok(words) if words.is_empty() => tell(alloc, &mut rt.stdin(), &mut out, &mut err),
         Ok(words) => {
-            let mut files = Keeping::new(alloc, Folder { rt: &rt });
+            let folder = Folder {
+                rt: &rt,
+                said: None,
+            };
+            let mut files = Keeping::new(alloc, folder);
+            let mut out = WithReason::new(alloc, out);
             command(alloc, words.as_slice(), &mut files, &mut out, &mut err)
         }
         Err(fault) if fault.kind() == ErrorKind::OutOfMemory => {

@@ -17,7 +17,7 @@ use crate::drawing::{DRAWINGS, REFUSED_DRAWINGS};
 use crate::files::{FILES, Named};
 use crate::plainly::{DUMPS, FAULTY_TIMINGS, NAMED_DUMPS, REFUSED_PLAIN};
 use crate::running::{COUNTED_RUNS, EDGE_RUNS, REFUSED_RUNS, RUNS_WITHOUT_TEXTS};
-use nullsim::{KeptTexts, ReadFault, Texts, command};
+use nullsim::{KeptTexts, ReadFault, Reasoned, Texts, WithReason, command};
 use std::alloc::{AllocError, Global};
 use std::io::Write;
 use std::process::Abort;
@@ -55,6 +55,12 @@ impl Texts for Shelf {
             None if name == "too-big" => Err(ReadFault::Memory),
             None => Err(ReadFault::Read),
         }
+    }
+}
+
+impl Reasoned for Shelf {
+    fn reason(&self) -> Option<&[u8]> {
+        None
     }
 }
 
@@ -111,7 +117,8 @@ pub(crate) fn end_of<W: Write, E: Write>(
 ) -> Result<(u8, u32), AllocError> {
     let words = words_of(alloc, start, rest)?;
     let mut shelf = Shelf::new(alloc);
-    let status = command(alloc, words.as_slice(), &mut shelf, out, err);
+    let mut out = WithReason::new(alloc, out);
+    let status = command(alloc, words.as_slice(), &mut shelf, &mut out, err);
     Ok((status, shelf.asked))
 }
 
@@ -127,7 +134,7 @@ pub(crate) fn answer_to(alloc: Global, start: &str, rest: &str) -> Result<Answer
 }
 
 // The answer to the line has this status, and these bytes on the two streams.
-fn is_answer(
+pub(crate) fn is_answer(
     rt: &impl Abort,
     answer: &Answer,
     line: (&str, &str),

@@ -5,7 +5,7 @@ ghost use Rattle.nullsim_tests.specs.Ledger.{seen_notes};
 ghost use Rattle.nullsim_tests.specs.Shelf.{text_under};
 
 use crate::commanding::{Shelf, words_of};
-use nullsim::{KeptTexts, ReadFault, Texts, command};
+use nullsim::{KeptTexts, ReadFault, Reasoned, Texts, WithReason, command};
 use std::alloc::Global;
 use std::process::Abort;
 use std::test::Fail;
@@ -38,6 +38,12 @@ impl Texts for Ledger {
                 Err(fault)
             }
         }
+    }
+}
+
+impl Reasoned for Ledger {
+    fn reason(&self) -> Option<&[u8]> {
+        None
     }
 }
 
@@ -74,7 +80,7 @@ fn names_asked(alloc: Global, line: &str) -> Result<Vec<u8>, Fail> {
         shelf: Shelf::new(alloc),
         notes: Some(Vec::new(alloc)),
     };
-    let (mut out, mut err) = (Vec::new(alloc), Vec::new(alloc));
+    let (mut out, mut err) = (WithReason::new(alloc, Vec::new(alloc)), Vec::new(alloc));
     let _ = command(alloc, words.as_slice(), &mut ledger, &mut out, &mut err);
     let mut names = Vec::new(alloc);
     if let Some(notes) = &ledger.notes {

@@ -24,6 +24,8 @@ mod ledger;
 #[cfg(test)]
 mod plainly;
 #[cfg(test)]
+mod progressing;
+#[cfg(test)]
 mod refusals;
 #[cfg(test)]
 mod running;

@@ -14,24 +14,25 @@ use Rattle.drawn_stimuli.specs.declared.drive.Driven.{Driven}
 use Rattle.drawn_stimuli.specs.Inputs.{seen_drive}
 use Rattle.fanin_cone.specs.Cone.{IsConeOf}
 use Rattle.fanin_cone.specs.Extract.{IsExtract, first_unknown}
-use Rattle.runs.specs.declared.fault.SimFault.{SimFault}
+use Rattle.prepared_runs.specs.declared.fault.SimFault.{SimFault}
 use Rattle.orders.specs.declared.order.Order.{Order}
 use Rattle.orders.specs.declared.order.Order.TheVariants.{Run, Plain, Draw, Trace, Why, Stimuli, Info, Cone, Diff, Twin, Check}
 use Rattle.orders.specs.declared.order.SourceOptions.{SourceOptions}
-use Rattle.runs.specs.declared.twin_run.TwinAnswer.{TwinAnswer}
-use Rattle.runs.specs.declared.twin_run.TwinFault.{TwinFault}
+use Rattle.run_pairs.specs.declared.twin_run.TwinAnswer.{TwinAnswer}
+use Rattle.run_pairs.specs.declared.twin_run.TwinFault.{TwinFault}
 use Rattle.program_io.specs.AnswerText.{twin_text}
 use Rattle.program_io.specs.Answers.{Answer, IsDiffAnswer, IsTwinAnswer, answered, compared, just, stimuli_answer}
 use Rattle.orders.specs.OrderAnswer.{ForSource, IsAnswer}
-use Rattle.runs.specs.ConeText.{IsConeAnswer, IsConeOfNetlist, IsExtractText}
-use Rattle.runs.specs.Diffs.{Pair, pair_of}
-use Rattle.runs.specs.Faults.{sim_of_bench}
-use Rattle.runs.specs.InfoText.{IsInfoAnswer}
-use Rattle.runs.proofs.CallerLemmas.{one_diff, one_info_answer, same_from_members}
+use Rattle.circuit_texts.specs.ConeText.{IsConeAnswer, IsConeOfNetlist, IsExtractText}
+use Rattle.run_pairs.specs.Diffs.{Pair, pair_of}
+use Rattle.prepared_runs.specs.Faults.{sim_of_bench}
+use Rattle.circuit_texts.specs.InfoText.{IsInfoAnswer}
+use Rattle.run_pairs.proofs.CallerLemmas.{one_diff}
+use Rattle.circuit_texts.proofs.CallerLemmas.{one_info_answer, same_from_members}
 use Rattle.program_io.specs.declared.program_fault.ProgramFault.{ProgramFault}
 use Rattle.orders.specs.Options.{IsSourceOf, KnownTexts, all_known, picks_of_options, schedule_file, text_named}
-use Rattle.runs.specs.Source.{SourceView, or_fault}
-use Rattle.runs.specs.Twins.{IsComparison, Twins, twins_of}
+use Rattle.prepared_runs.specs.Source.{SourceView, or_fault}
+use Rattle.run_pairs.specs.Twins.{IsComparison, Twins, twins_of}
 
 -- ---- cones
 

@@ -5,16 +5,16 @@ use Rattle.netlist.specs.Names.{seen_names}
 use Rattle.drawn_stimuli.specs.declared.drive.Draws.{Draws}
 use Rattle.drawn_stimuli.specs.declared.drive.Driven.{Driven}
 use Rattle.drawn_stimuli.specs.Inputs.{seen_drive}
-use Rattle.runs.specs.declared.diagram_run.DiagramView.{DiagramView}
-use Rattle.runs.specs.declared.diff_run.DiffTicks.{DiffTicks}
-use Rattle.runs.specs.declared.fault.SimFault.{SimFault}
-use Rattle.runs.specs.declared.view.View.{View}
+use Rattle.plain_runs.specs.declared.diagram_run.DiagramView.{DiagramView}
+use Rattle.run_pairs.specs.declared.diff_run.DiffTicks.{DiffTicks}
+use Rattle.prepared_runs.specs.declared.fault.SimFault.{SimFault}
+use Rattle.prepared_runs.specs.declared.view.View.{View}
 use Rattle.runs.specs.Checked.{checked}
-use Rattle.runs.specs.ConeText.{IsConeAnswer}
-use Rattle.runs.specs.Diffs.{pair_of}
-use Rattle.runs.specs.InfoText.{IsInfoAnswer}
-use Rattle.runs.specs.Source.{SourceView}
-use Rattle.runs.specs.Twins.{twins_of}
+use Rattle.circuit_texts.specs.ConeText.{IsConeAnswer}
+use Rattle.run_pairs.specs.Diffs.{pair_of}
+use Rattle.circuit_texts.specs.InfoText.{IsInfoAnswer}
+use Rattle.prepared_runs.specs.Source.{SourceView}
+use Rattle.run_pairs.specs.Twins.{twins_of}
 use Rattle.orders.specs.declared.order.Order.TheVariants as orders
 use Rattle.orders.specs.declared.order.PickOptions.{PickOptions}
 use Rattle.orders.specs.declared.order.PickOptions.TheVariants.{Nothing, File, Seeded}

@@ -1,8 +1,8 @@
 -- What the texts of an order's runs are called where one is at fault: by the names of their files.
 use Rattle.std.specs.Prelude.{ℕ, List, Option, None, Some, codes}
 use denote.Ref.{Bor}
-use Rattle.runs.specs.declared.twin_run.Side.{Side}
-use Rattle.runs.specs.declared.twin_run.Side.TheVariants.{First, Second}
+use Rattle.run_pairs.specs.declared.twin_run.Side.{Side}
+use Rattle.run_pairs.specs.declared.twin_run.Side.TheVariants.{First, Second}
 use Rattle.program_io.specs.Place.{Names, section_names}
 use Rattle.orders.specs.declared.order.Order.{Order}
 use Rattle.orders.specs.declared.order.Order.TheVariants as order

@@ -1,4 +1,5 @@
 pub mod FileNames
 pub mod Options
+pub mod Progress
 pub mod OrderAnswer
 pub mod Readings

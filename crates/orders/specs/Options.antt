@@ -6,8 +6,8 @@ use Rattle.orders.specs.declared.order.PickOptions.{PickOptions}
 use Rattle.orders.specs.declared.order.PickOptions.TheVariants.{Nothing, File, Seeded}
 use Rattle.orders.specs.declared.order.SourceOptions.{SourceOptions}
 use Rattle.orders.specs.declared.source_texts.SourceTexts.{SourceTexts}
-use Rattle.runs.specs.Events.{PicksView, nothing, text, seeded}
-use Rattle.runs.specs.Source.{SourceView}
+use Rattle.prepared_runs.specs.Events.{PicksView, nothing, text, seeded}
+use Rattle.prepared_runs.specs.Source.{SourceView}
 
 -- the text under each name, where it is known
 abbrev pub KnownTexts : Type 0

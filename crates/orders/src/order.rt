@@ -5,8 +5,10 @@ ghost use Rattle.program_io.specs.Place.{called, section_names};
 ghost use Rattle.orders.specs.FileNames.{file_names, names_of};
 
 use drawn_stimuli::{Draws, Driven};
+use plain_runs::DiagramView;
+use prepared_runs::View;
 use program_io::{SECTIONS, TextNames};
-use runs::{DiagramView, DiffTicks, Side, View};
+use run_pairs::{DiffTicks, Side};
 
 /// The files of a run, by their names, and the numbers that go with them.
 #[derive(Clone, Copy, Debug)]

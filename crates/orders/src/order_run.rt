@@ -1,36 +1,42 @@
 //! An order carried out.
-ghost use Rattle.std.specs.Prelude.{◌≡◌, IfErr, IfOk, OnOk, None};
+ghost use Rattle.std.specs.Prelude.{◌≡◌, IfErr, IfOk, OnErr, OnOk, None};
 ghost use Rattle.orders.specs.declared.order.Order.TheVariants as order;
 ghost use Rattle.orders.specs.OrderAnswer.{Answered, OrderEndsBy};
+ghost use Rattle.orders.specs.Progress.{BrokenTicks, DoneTicks, horizon_told};
 ghost use Rattle.orders.specs.Readings.{ReadsAll, ReadsUntil, files_of};
+ghost use Rattle.run_progress.specs.Told.{IsProgress, IsTickByTick, Told};
 
 use crate::order::{Order, SourceOptions};
 use crate::source_texts::{SourceTexts, file_text};
 use crate::texts::Texts;
 use drawn_stimuli::{Draws, Driven};
+use plain_runs::DiagramView;
+use prepared_runs::View;
 use program_io::{
     Outcome, ProgramFault, write_check, write_cone, write_diagram, write_diff, write_info,
     write_plain, write_run, write_stimuli, write_trace, write_twin, write_why,
 };
-use runs::{DiagramView, DiffTicks, View};
+use run_pairs::DiffTicks;
+use run_progress::Progress;
 use std::alloc::Global;
 use std::io::Write;
 
 impl<'a> Order<'a> {
     /// Reads the order's files, writes its answer and flushes once. What is to be told beside the
     /// answer is its outcome: the counts at the end of a run, where they are asked for, or that what
-    /// was compared differs.
+    /// was compared differs. A run whose dump is written tells how far it is.
     ///
     /// # Errors
     /// All files are read, in the order netlist, delays, stimuli, schedule, those of a first run
     /// before those of a second, before a setting or a text is looked at; where one can't be read, or
     /// is refused, nothing is written. After a failed write or a want of memory a first part of the
     /// answer went out, and after a failed flush all of it.
-    pub fn carry_out<T: Texts, W: Write>(
+    pub fn carry_out<T: Texts, W: Write, P: Progress>(
         &self,
         alloc: Global,
         texts: &mut T,
         out: &mut W,
+        progress: &mut P,
     ) -> Result<Outcome, ProgramFault<'a>>
         ensures ok { IfOk result
             (Answered (T.known texts.old) self.now (W.contents out.old) (W.contents out.new)) }
@@ -40,14 +46,20 @@ impl<'a> Order<'a> {
             (ReadsAll (files_of self.now) (T.readings texts.old) (T.readings texts.new)) }
         ensures stopped { IfErr result
             (ReadsUntil (files_of self.now) (T.readings texts.old) (T.readings texts.new)) }
+        ensures told { OnOk result
+            (Told (P.tells (horizon_told self.now)) (DoneTicks self.now) progress.old progress.new) }
+        ensures told_until { OnErr result
+            (Told (P.tells (horizon_told self.now)) (BrokenTicks self.now) progress.old progress.new) }
     {
         match self {
             Order::Run {
                 source,
                 view,
                 counts,
-            } => carry_out_run(alloc, source, view, *counts, texts, out),
-            Order::Plain { source, view } => carry_out_plain(alloc, source, view, texts, out),
+            } => carry_out_run(alloc, source, view, *counts, texts, out, progress),
+            Order::Plain { source, view } => {
+                carry_out_plain(alloc, source, view, texts, out, progress)
+            }
             Order::Draw { source, view } => carry_out_diagram(alloc, source, view, texts, out),
             Order::Trace { source, horizon } => {
                 carry_out_trace(alloc, source, *horizon, texts, out)
@@ -82,13 +94,14 @@ impl<'a> Order<'a> {
     }
 }
 
-fn carry_out_run<'a, T: Texts, W: Write>(
+fn carry_out_run<'a, T: Texts, W: Write, P: Progress>(
     alloc: Global,
     options: &SourceOptions<'a>,
     view: &View<'a>,
     counts: bool,
     texts: &mut T,
     out: &mut W,
+    progress: &mut P,
 ) -> Result<Outcome, ProgramFault<'a>>
     ensures ok { IfOk result (Answered (T.known texts.old) (order.Run options.now view.now counts)
         (W.contents out.old) (W.contents out.new)) }
@@ -98,17 +111,19 @@ fn carry_out_run<'a, T: Texts, W: Write>(
         (ReadsAll (files_of (order.Run options.now view.now counts)) (T.readings texts.old) (T.readings texts.new)) }
     ensures stopped { IfErr result
         (ReadsUntil (files_of (order.Run options.now view.now counts)) (T.readings texts.old) (T.readings texts.new)) }
+    ensures told { Told (P.tells view.now.horizon) (IsProgress result view.now.horizon) progress.old progress.new }
 {
     let read = SourceTexts::read(alloc, options, texts)?;
-    write_run(alloc, &read.source(options), view, counts, out)
+    write_run(alloc, &read.source(options), view, counts, out, progress)
 }
 
-fn carry_out_plain<'a, T: Texts, W: Write>(
+fn carry_out_plain<'a, T: Texts, W: Write, P: Progress>(
     alloc: Global,
     options: &SourceOptions<'a>,
     view: &View<'a>,
     texts: &mut T,
     out: &mut W,
+    progress: &mut P,
 ) -> Result<Outcome, ProgramFault<'a>>
     ensures ok { IfOk result (Answered (T.known texts.old) (order.Plain options.now view.now)
         (W.contents out.old) (W.contents out.new)) }
@@ -118,9 +133,10 @@ fn carry_out_plain<'a, T: Texts, W: Write>(
         (ReadsAll (files_of (order.Plain options.now view.now)) (T.readings texts.old) (T.readings texts.new)) }
     ensures stopped { IfErr result
         (ReadsUntil (files_of (order.Plain options.now view.now)) (T.readings texts.old) (T.readings texts.new)) }
+    ensures told { Told (P.tells view.now.horizon) (IsTickByTick result view.now.horizon) progress.old progress.new }
 {
     let read = SourceTexts::read(alloc, options, texts)?;
-    write_plain(alloc, &read.source(options), view, out)
+    write_plain(alloc, &read.source(options), view, out, progress)
 }
 
 fn carry_out_diagram<'a, T: Texts, W: Write>(

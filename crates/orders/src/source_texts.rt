@@ -1,14 +1,14 @@
 //! The texts of a run's files.
 ghost use Rattle.std.specs.Prelude.{◌≡◌, IfErr, IfOk, OnOk};
 ghost use Rattle.orders.specs.Options.{IsRead, ReadsSource, picks_of_options, source_from, text_named};
-ghost use Rattle.runs.specs.Events.{seen_picks};
+ghost use Rattle.prepared_runs.specs.Events.{seen_picks};
 ghost use Rattle.orders.specs.Readings.{ReadsAll, StopsBy, files_of_options, if_named};
-ghost use Rattle.runs.specs.Source.{seen_source};
+ghost use Rattle.prepared_runs.specs.Source.{seen_source};
 
 use crate::order::{PickOptions, SourceOptions};
 use crate::texts::Texts;
+use prepared_runs::{Picks, Source};
 use program_io::ProgramFault;
-use runs::{Picks, Source};
 use std::alloc::Global;
 
 /// The texts of a run's files. One that isn't named is empty.

@@ -3,19 +3,19 @@ use Rattle.std.proofs.Common.{◌≡◌, ◌≢◌, ℕ, Bool, List, Option, Res
 use Rattle.std.specs.Io.KnownBytes.{Appends, Keeps}
 use Rattle.std.specs.Result.{result_map_both}
 use Rattle.std.proofs.KnownBytes.{Appends-kept, Keeps-refl}
-use Rattle.runs.specs.declared.fault.SimFault.{SimFault}
-use Rattle.runs.specs.declared.fault.SimFault.TheVariants.{Dump, Memory}
+use Rattle.prepared_runs.specs.declared.fault.SimFault.{SimFault}
+use Rattle.prepared_runs.specs.declared.fault.SimFault.TheVariants.{Dump, Memory}
 use Rattle.runs.specs.declared.simulation.Report.{Report}
-use Rattle.runs.specs.declared.twin_run.Side.{Side}
-use Rattle.runs.specs.declared.twin_run.Side.TheVariants.{First}
-use Rattle.runs.specs.declared.twin_run.TwinFault.{TwinFault}
-use Rattle.runs.specs.Diffs.{IsDiff, Pair}
-use Rattle.runs.specs.Ends.{IsRefusal, RunEndsBy}
+use Rattle.run_pairs.specs.declared.twin_run.Side.{Side}
+use Rattle.run_pairs.specs.declared.twin_run.Side.TheVariants.{First}
+use Rattle.run_pairs.specs.declared.twin_run.TwinFault.{TwinFault}
+use Rattle.run_pairs.specs.Diffs.{IsDiff, Pair}
+use Rattle.prepared_runs.specs.Ends.{IsRefusal, RunEndsBy}
 use Rattle.runs.specs.declared.check_run.CheckAnswer.{CheckAnswer}
-use Rattle.runs.specs.declared.twin_run.TwinAnswer.{TwinAnswer}
+use Rattle.run_pairs.specs.declared.twin_run.TwinAnswer.{TwinAnswer}
 use Rattle.runs.specs.Checked.{checked}
-use Rattle.runs.specs.Simulated.{RunView}
-use Rattle.runs.specs.Twins.{IsComparison, IsTwinRefusal, Twins, on}
+use Rattle.prepared_runs.specs.Prepared.{RunView}
+use Rattle.run_pairs.specs.Twins.{IsComparison, IsTwinRefusal, Twins, on}
 use Rattle.program_io.specs.AnswerText.{check_text, twin_text}
 use Rattle.vcd_dump.specs.declared.fault.DumpFault.{DumpFault}
 use Rattle.program_io.specs.declared.outcome.Outcome.{Outcome}

@@ -8,7 +8,7 @@ use Rattle.std.proofs.lemmas.List.Folds.{concat-append}
 use Rattle.std.proofs.lemmas.Option.{slice_get_within, get_or_from_slice_get}
 use Rattle.netlist.specs.Names.{seen_names}
 use Rattle.vcd_dump.specs.Bytes.{AppendsPrefix}
-use Rattle.runs.proofs.CallerLemmas.{AppendsPrefix-whole}
+use Rattle.prepared_runs.proofs.CallerLemmas.{AppendsPrefix-whole}
 use Rattle.vcd_dump.proofs.CallerLemmas.{AppendsPrefix-after, AppendsPrefix-longer}
 
 -- the text at a place

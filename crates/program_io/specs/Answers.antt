@@ -3,27 +3,28 @@ use Rattle.std.specs.Prelude.{◌≡◌, ℕ, Bool, List, true, false, Option, R
 use Rattle.std.specs.Result.{result_map_both}
 use Rattle.std.specs.Io.KnownBytes.{Appends}
 use Rattle.cmb_kernel.specs.declared.counts.Counts.{Counts}
-use Rattle.runs.specs.declared.diagram_run.DiagramView.{DiagramView}
-use Rattle.runs.specs.declared.fault.SimFault.{SimFault}
+use Rattle.plain_runs.specs.declared.diagram_run.DiagramView.{DiagramView}
+use Rattle.prepared_runs.specs.declared.fault.SimFault.{SimFault}
 use Rattle.runs.specs.declared.simulation.Report.{Report}
-use Rattle.runs.specs.declared.twin_run.Side.TheVariants.{First}
-use Rattle.runs.specs.declared.twin_run.TwinAnswer.{TwinAnswer}
-use Rattle.runs.specs.declared.twin_run.TwinFault.{TwinFault}
-use Rattle.runs.specs.declared.view.View.{View}
+use Rattle.run_pairs.specs.declared.twin_run.Side.TheVariants.{First}
+use Rattle.run_pairs.specs.declared.twin_run.TwinAnswer.{TwinAnswer}
+use Rattle.run_pairs.specs.declared.twin_run.TwinFault.{TwinFault}
+use Rattle.prepared_runs.specs.declared.view.View.{View}
 use Rattle.runs.specs.Checked.{checked}
-use Rattle.runs.specs.ConeText.{IsConeAnswer}
+use Rattle.circuit_texts.specs.ConeText.{IsConeAnswer}
 use Rattle.drawn_stimuli.specs.declared.drive.Draws.{Draws}
 use Rattle.drawn_stimuli.specs.Inputs.{DriveView}
-use Rattle.runs.specs.Drawn.{diagram_of_source}
-use Rattle.runs.specs.Driven.{stimuli_of_drives}
-use Rattle.runs.specs.declared.diff_run.DiffTicks.{DiffTicks}
-use Rattle.runs.specs.Diffs.{IsDiff, Pair, pair_of}
-use Rattle.runs.specs.Explained.{why_of_source}
-use Rattle.runs.specs.InfoText.{IsInfoAnswer}
+use Rattle.plain_runs.specs.Drawn.{diagram_of_source}
+use Rattle.circuit_texts.specs.Driven.{stimuli_of_drives}
+use Rattle.run_pairs.specs.declared.diff_run.DiffTicks.{DiffTicks}
+use Rattle.run_pairs.specs.Diffs.{IsDiff, Pair, pair_of}
+use Rattle.plain_runs.specs.Explained.{why_of_source}
+use Rattle.circuit_texts.specs.InfoText.{IsInfoAnswer}
 use Rattle.runs.specs.Traced.{trace_of_source}
-use Rattle.runs.specs.Simulated.{run_of_source, simulated}
-use Rattle.runs.specs.Source.{SourceView, dump_of_source}
-use Rattle.runs.specs.Twins.{IsComparison, Twins, twins_of}
+use Rattle.prepared_runs.specs.Prepared.{run_of_source}
+use Rattle.runs.specs.Simulated.{simulated}
+use Rattle.prepared_runs.specs.Source.{SourceView, dump_of_source}
+use Rattle.run_pairs.specs.Twins.{IsComparison, Twins, twins_of}
 use Rattle.program_io.specs.declared.outcome.Outcome.{Outcome}
 use Rattle.program_io.specs.declared.outcome.Outcome.TheVariants.{Done, Counted, Differing}
 use Rattle.program_io.specs.declared.program_fault.ProgramFault.{ProgramFault}

@@ -1,9 +1,9 @@
 -- Which text is at fault, or what else is, and what is printed of a fault.
 use Rattle.std.specs.Prelude.{ℕ, List, ◌++◌, codes, decimal}
 use Rattle.vcd_dump.specs.Dump.{line}
-use Rattle.runs.specs.declared.fault.SimFault.{SimFault}
-use Rattle.runs.specs.declared.fault.SimFault.TheVariants.{Setting, Bench, Timing, Stimulus, Schedule, Columns, Drives, Compared, UnknownNet, Dump}
-use Rattle.runs.specs.declared.fault.SimFault.TheVariants as sim
+use Rattle.prepared_runs.specs.declared.fault.SimFault.{SimFault}
+use Rattle.prepared_runs.specs.declared.fault.SimFault.TheVariants.{Setting, Bench, Timing, Stimulus, Schedule, Columns, Drives, Compared, UnknownNet, Dump}
+use Rattle.prepared_runs.specs.declared.fault.SimFault.TheVariants as sim
 use Rattle.program_io.specs.declared.place.TextNames.{TextNames}
 use Rattle.program_io.specs.declared.program_fault.ProgramFault.{ProgramFault}
 use Rattle.program_io.specs.declared.program_fault.ProgramFault.TheVariants.{Read, Deck, Run, Output, Memory, Flush}

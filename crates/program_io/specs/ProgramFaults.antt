@@ -3,12 +3,12 @@ use Rattle.std.specs.Prelude.{ℕ, List, codes}
 use denote.Ref.{Bor}
 use Rattle.deck_text.specs.Faults as of_deck
 use Rattle.vcd_dump.specs.Faults as of_dump
-use Rattle.runs.specs.Faults as of_sim
-use Rattle.runs.specs.declared.fault.SimFault.{SimFault}
-use Rattle.runs.specs.declared.fault.SimFault.TheVariants as sim
-use Rattle.runs.specs.declared.twin_run.Side.{Side}
-use Rattle.runs.specs.declared.twin_run.Side.TheVariants.{First}
-use Rattle.runs.specs.declared.twin_run.TwinFault.{TwinFault}
+use Rattle.prepared_runs.specs.Faults as of_sim
+use Rattle.prepared_runs.specs.declared.fault.SimFault.{SimFault}
+use Rattle.prepared_runs.specs.declared.fault.SimFault.TheVariants as sim
+use Rattle.run_pairs.specs.declared.twin_run.Side.{Side}
+use Rattle.run_pairs.specs.declared.twin_run.Side.TheVariants.{First}
+use Rattle.run_pairs.specs.declared.twin_run.TwinFault.{TwinFault}
 use Rattle.program_io.specs.declared.input.ReadFault.{ReadFault}
 use Rattle.program_io.specs.declared.input.ReadFault.TheVariants as read
 use Rattle.program_io.specs.declared.program_fault.ProgramFault.{ProgramFault}

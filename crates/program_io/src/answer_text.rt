@@ -3,7 +3,8 @@ ghost use Rattle.std.specs.Prelude.{◌≡◌, ◌++◌, flat_map, string_bytes,
 ghost use Rattle.program_io.specs.AnswerText.{check_text, side_line, twin_text};
 
 use logic3::Waveform;
-use runs::{CheckAnswer, TwinAnswer};
+use run_pairs::TwinAnswer;
+use runs::CheckAnswer;
 use std::alloc::{AllocError, Global};
 use std::fmt::Write;
 

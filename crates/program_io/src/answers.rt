@@ -3,85 +3,97 @@ ghost use Rattle.std.specs.Prelude.{◌≡◌, map, IfErr, IfOk, IsOkAnd};
 ghost use Rattle.std.specs.Io.KnownBytes.{Appends};
 ghost use Rattle.netlist.specs.Names.{seen_names};
 ghost use Rattle.drawn_stimuli.specs.Inputs.{seen_drive};
-ghost use Rattle.runs.specs.Ends.{RunEndsBy};
+ghost use Rattle.prepared_runs.specs.Ends.{RunEndsBy};
 ghost use Rattle.runs.specs.Simulated.{dump_in, simulated};
-ghost use Rattle.runs.specs.Source.{seen_source};
+ghost use Rattle.prepared_runs.specs.Source.{seen_source};
+ghost use Rattle.run_progress.specs.Told.{IsProgress, IsTickByTick, Told};
 ghost use Rattle.program_io.specs.Answers.{AnswerEndsBy, GoesOut, IsAnswerOfCone, IsAnswerOfDiff, IsAnswerOfInfo, IsAnswerOfTwin, IsNoRead, check_answer, counted, diagram_answer, outcome_of, plain_answer, run_answer, stimuli_answer, trace_answer, why_answer};
 
 use crate::answer_text::{check_text, twin_text};
 use crate::outcome::Outcome;
 use crate::output::{flush, write_text};
 use crate::program_fault::ProgramFault;
+use circuit_texts::{cone_text, info, stimuli};
 use drawn_stimuli::{Draws, Driven};
-use runs::{
-    DiagramView, DiffTicks, SimFault, Source, View, check, cone_text, diagram, diff, info, plain,
-    simulate, stimuli, sweep, trace, twin, why,
-};
+use plain_runs::{DiagramView, diagram, plain_with_progress, why};
+use prepared_runs::{SimFault, Source, View};
+use run_pairs::{DiffTicks, diff, twin};
+use run_progress::Progress;
+use runs::{check, simulate_with_progress, sweep_with_progress, trace};
 use std::alloc::Global;
 use std::io::Write;
 
 /// Writes the dump of a run by the kernel and flushes once. Its outcome has the counts at its end, where
-/// they are asked for: then the run goes by rounds, and else in sweeps.
+/// they are asked for: then the run goes by rounds, and else in sweeps. Tells how far the run is, as
+/// [`simulate_with_progress`] and [`sweep_with_progress`] do.
 ///
 /// # Errors
 /// Where the source or the view is refused nothing is written. After a failed write or a want of
 /// memory a first part of the dump went out, and after a failed flush all of it.
-pub fn write_run<W: Write>(
+pub fn write_run<W: Write, P: Progress>(
     alloc: Global,
     source: &Source<'_>,
     view: &View<'_>,
     counts: bool,
     out: &mut W,
+    progress: &mut P,
 ) -> Result<Outcome, ProgramFault<'static>>
     ensures ok { IfOk result (GoesOut (λ answer. answer ≡ run_answer (seen_source source.now) view.now counts)
         (W.contents out.old) (W.contents out.new)) }
     ensures err { IfErr result (AnswerEndsBy (λ answer. answer ≡ run_answer (seen_source source.now) view.now counts)
         (W.contents out.old) (W.contents out.new)) }
     ensures no_read { IfErr result IsNoRead }
+    ensures told { Told (P.tells view.now.horizon) (IsProgress result view.now.horizon) progress.old progress.new }
 {
-    let outcome = dump_and_count(alloc, source, view, counts, out)?;
+    let outcome = dump_and_count(alloc, source, view, counts, out, progress)?;
     flush(out)?;
     Ok(outcome)
 }
 
 /// Writes the dump of a run by the kernel. Its outcome has the counts at its end, where they are asked for.
-fn dump_and_count<W: Write>(
+/// Tells how far the run is.
+fn dump_and_count<W: Write, P: Progress>(
     alloc: Global,
     source: &Source<'_>,
     view: &View<'_>,
     counts: bool,
     out: &mut W,
+    progress: &mut P,
 ) -> Result<Outcome, SimFault>
     ensures ok { IfOk result (λ outcome. IsOkAnd (simulated (seen_source source.now) view.now) (λ done.
         Appends (W.contents out.old) (W.contents out.new) done.0 × (outcome ≡ counted counts (done.1).total))) }
     ensures err { IfErr result (RunEndsBy (dump_in (simulated (seen_source source.now) view.now))
         (W.contents out.old) (W.contents out.new)) }
+    ensures told { Told (P.tells view.now.horizon) (IsProgress result view.now.horizon) progress.old progress.new }
 {
     if !counts {
-        sweep(alloc, source, view, out)?;
+        sweep_with_progress(alloc, source, view, out, progress)?;
         return Ok(Outcome::Done);
     }
-    let report = simulate(alloc, source, view, out)?;
+    let report = simulate_with_progress(alloc, source, view, out, progress)?;
     Ok(Outcome::Counted(report.total))
 }
 
-/// Writes the dump of a run by the plain engine and flushes once. Nothing is picked.
+/// Writes the dump of a run by the plain engine and flushes once. Nothing is picked. Tells how far the
+/// run is, as [`plain_with_progress`] does.
 ///
 /// # Errors
 /// As [`write_run`].
-pub fn write_plain<W: Write>(
+pub fn write_plain<W: Write, P: Progress>(
     alloc: Global,
     source: &Source<'_>,
     view: &View<'_>,
     out: &mut W,
+    progress: &mut P,
 ) -> Result<Outcome, ProgramFault<'static>>
     ensures ok { IfOk result (GoesOut (λ answer. answer ≡ plain_answer (seen_source source.now) view.now)
         (W.contents out.old) (W.contents out.new)) }
     ensures err { IfErr result (AnswerEndsBy (λ answer. answer ≡ plain_answer (seen_source source.now) view.now)
         (W.contents out.old) (W.contents out.new)) }
     ensures no_read { IfErr result IsNoRead }
+    ensures told { Told (P.tells view.now.horizon) (IsTickByTick result view.now.horizon) progress.old progress.new }
 {
-    plain(alloc, source, view, out)?;
+    plain_with_progress(alloc, source, view, out, progress)?;
     flush(out)?;
     Ok(Outcome::Done)
 }

@@ -3,7 +3,7 @@ ghost use Rattle.std.specs.Prelude.{◌≡◌};
 ghost use Rattle.program_io.specs.Place.{called, place_of, run_place};
 
 use crate::program_fault::ProgramFault;
-use runs::SimFault;
+use prepared_runs::SimFault;
 
 /// What the texts of a run are called in the line of a fault.
 #[derive(Clone, Copy, Debug)]

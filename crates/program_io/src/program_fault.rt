@@ -1,12 +1,13 @@
 //! Why the program ended early.
 ghost use Rattle.std.specs.Prelude.{◌≡◌, Some};
-ghost use Rattle.runs.specs.declared.twin_run.Side.TheVariants.{First};
+ghost use Rattle.run_pairs.specs.declared.twin_run.Side.TheVariants.{First};
 ghost use Rattle.program_io.specs.declared.program_fault.ProgramFault.TheVariants as program;
 ghost use Rattle.program_io.specs.ProgramFaults.{fault_of_read, fault_of_run, fault_of_twin, line_of, name_of, side_of};
 
 use crate::input::ReadFault;
 use deck_text::DeckTextFault;
-use runs::{Side, SimFault, TwinFault};
+use prepared_runs::SimFault;
+use run_pairs::{Side, TwinFault};
 use std::alloc::AllocError;
 use std::fmt;
 use thiserror::Error;

@@ -1,6 +1,7 @@
 //! Cones as texts, at full size.
 use bench_text::BenchFault;
-use runs::{SimFault, cone_text};
+use circuit_texts::cone_text;
+use prepared_runs::SimFault;
 use std::alloc::{AllocError, Global};
 
 // Adds the name of the gate of this number.

@@ -1,7 +1,9 @@
 //! Many nets over ten million ticks: `simulate` and `twin` give what the kernel knows, since the engine
 //! that goes tick by tick would have to reckon 200,000,000,000 values here, and a test has a minute.
 use logic3::{Change, Value, Waveform};
-use runs::{Picks, Show, Source, TwinAnswer, TwinFault, View, simulate, twin};
+use prepared_runs::{Picks, Show, Source, View};
+use run_pairs::{TwinAnswer, TwinFault, twin};
+use runs::simulate;
 use std::alloc::{AllocError, Global};
 use std::process::Abort;
 use std::test::Fail;

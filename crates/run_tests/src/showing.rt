@@ -1,6 +1,8 @@
 //! Runs that show some nets, by their names.
 use cmb_events::ScheduleFault;
-use runs::{Picks, Show, SimFault, Source, View, plain, simulate, sweep};
+use plain_runs::plain;
+use prepared_runs::{Picks, Show, SimFault, Source, View};
+use runs::{simulate, sweep};
 use std::alloc::{AllocError, Global};
 use std::process::Abort;
 use vcd_dump::TimeUnit;

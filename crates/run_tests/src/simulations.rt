@@ -1,7 +1,9 @@
 //! Runs by the kernel: dumps byte for byte, what is reported, schedules.
 use cmb_events::ScheduleFault;
 use cmb_kernel::Counts;
-use runs::{Picks, Report, Show, SimFault, Source, View, plain, simulate, sweep};
+use plain_runs::plain;
+use prepared_runs::{Picks, Show, SimFault, Source, View};
+use runs::{Report, simulate, sweep};
 use std::alloc::Global;
 use std::process::Abort;
 use timing_text::StimulusFault;

@@ -2,10 +2,9 @@
 use bench_text::BenchFault;
 use cmb_events::ScheduleFault;
 use logic3::{Change, Value, Waveform};
-use runs::{
-    CheckAnswer, Picks, Show, Side, SimFault, Source, TwinAnswer, TwinFault, View, check, simulate,
-    twin,
-};
+use prepared_runs::{Picks, Show, SimFault, Source, View};
+use run_pairs::{Side, TwinAnswer, TwinFault, twin};
+use runs::{CheckAnswer, check, simulate};
 use std::process::Abort;
 use std::test::Fail;
 use timing_text::{DelayFault, OptionFault, StimulusFault};

@@ -1,6 +1,8 @@
 //! Runs by each engine on writers that take little a call, and on writers that stumble: the dump is
 //! broken off with a first part of it, by the fault that the writer met.
-use runs::{Picks, Show, SimFault, Source, View, plain, simulate, sweep};
+use plain_runs::plain;
+use prepared_runs::{Picks, Show, SimFault, Source, View};
+use runs::{simulate, sweep};
 use std::alloc::Global;
 use std::io::{ErrorKind, Write};
 use std::process::Abort;

@@ -5,8 +5,9 @@ use Rattle.std.proofs.lemmas.List.FromFn.{length-map-range_with_len, get_or-map-
 use Rattle.logic3.specs.Wave.{Wave, wave_of}
 use Rattle.design.specs.Equations.{value_of, waves_of}
 use Rattle.cmb_kernel.specs.State.{KernelView, frontier_at}
-use Rattle.runs.specs.Shown.{waves_up_to}
-use Rattle.runs.specs.Simulated.{IsKnown, RunView}
+use Rattle.prepared_runs.specs.Shown.{waves_up_to}
+use Rattle.runs.specs.Simulated.{IsKnown}
+use Rattle.prepared_runs.specs.Prepared.{RunView}
 use Rattle.runs.proofs.Simulated.{waves_up_to-known}
 
 -- the waveforms of all nets, up to where the kernel ends

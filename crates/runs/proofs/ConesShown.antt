@@ -10,14 +10,12 @@ use Rattle.fanin_cone.specs.Extract.{IsDesignOfCones}
 use Rattle.fanin_cone.proofs.CallerLemmas.{names_alone, values_alone}
 use Rattle.vcd_dump.specs.Dump.{dump_text}
 use Rattle.vcd_dump.specs.Traces.{name_of}
-use Rattle.runs.specs.declared.preparation.PreparedRun.{PreparedRun}
-use Rattle.runs.specs.declared.view.Show.{Show}
-use Rattle.runs.specs.declared.view.View.{View}
+use Rattle.prepared_runs.specs.declared.preparation.PreparedRun.{PreparedRun}
+use Rattle.prepared_runs.specs.declared.view.Show.{Show}
+use Rattle.prepared_runs.specs.declared.view.View.{View}
 use Rattle.runs.specs.Alone.{CanShow, ShowsTheSame}
-use Rattle.runs.specs.Source.{dump_of_design, shown_nets, signals_of}
-use Rattle.runs.proofs.Nets.{length-circuit, All-shown_nets, AllPairs-shown_nets}
-use Rattle.runs.proofs.Signals.{dump_of_design-nets}
-use Rattle.runs.proofs.Viewed.{name_is}
+use Rattle.prepared_runs.specs.Source.{dump_of_design, shown_nets, signals_of}
+use Rattle.prepared_runs.proofs.CallerLemmas.{length-circuit, All-shown_nets, AllPairs-shown_nets, dump_of_design-nets, name_is}
 
 -- what is the same of each of two is the same of both
 both_maps : {A B C D : Type 0} (f : A → C) (g : A → D) (also_f : B → C) (also_g : B → D) (xs : List A) (ys : List B) →

@@ -11,12 +11,10 @@ use Rattle.fanin_cone.proofs.CallerLemmas.{value_agrees, cone_closed}
 use Rattle.vcd_dump.specs.Shown.{shown_value}
 use Rattle.vcd_dump.specs.Traces.{name_of}
 use Rattle.runs.specs.Isolation.{AcceptedRun, AgreeingRuns, EndsShowing, IsShown}
-use Rattle.runs.specs.Source.{dump_of_design}
-use Rattle.runs.proofs.Answer.{simulated-good}
-use Rattle.runs.proofs.Nets.{length-circuit}
-use Rattle.runs.proofs.Runs.{ready_of_run, ShowsValues-run_of_source}
+use Rattle.prepared_runs.specs.Source.{dump_of_design}
+use Rattle.runs.proofs.Reports.{simulated-good}
+use Rattle.prepared_runs.proofs.CallerLemmas.{length-circuit, ready_of_run, ShowsValues-run_of_source, name_is}
 use Rattle.runs.proofs.Simulated.{few_rounds}
-use Rattle.runs.proofs.Viewed.{name_is}
 
 -- an accepted run ends, and shows for a shown net what its equations give
 ends_showing : (run : AcceptedRun) (name : List ℕ) (net : ℕ) (signal : ℕ → Value) → IsShown run name net →

@@ -1,24 +1,12 @@
-mod Answer
-mod Answers
 pub mod CallerLemmas
 mod Checks
-mod Cones
 mod ConesShown
-mod Diagrams
-mod DiffNames
-mod Diffs
 mod Drains
-mod Ends
-mod Infos
 mod Isolated
-mod Members
-mod Nets
 mod Others
 mod Passes
-mod Runs
-mod Signals
+mod Reports
 mod Simulated
 mod Streamed
 mod Streams
-mod Twins
-mod Viewed
+mod Traces

@@ -4,7 +4,8 @@ use Rattle.std.proofs.lemmas.Bool.{cases_lt}
 use Rattle.std.proofs.lemmas.List.Elements.{All-contains_itself, Contains-append_left, Contains-push, Contains-push_cases}
 use Rattle.std.proofs.lemmas.List.Quantifiers.{all_pairs_push}
 use Rattle.std.proofs.lemmas.Map.Views.{Contains-from_any, exact_unsigned_eq}
-use Rattle.runs.specs.Drained.{is_among, IsRest}
+use Rattle.prepared_runs.specs.Marked.{is_among}
+use Rattle.runs.specs.Drained.{IsRest}
 
 module _ (nets : List ℕ) (to : ℕ) (rest : List ℕ) (known : IsRest to nets rest) where
   below : All (λ net. net < to) rest

@@ -15,8 +15,9 @@ use Rattle.cmb_kernel.specs.Refusals.{answer, first_fault, list_fault, refusal}
 use Rattle.cmb_events.specs.Schedule.{most_events, Exists}
 use Rattle.cmb_kernel.specs.State.{KernelView, State, fresh, is_complete, most_rounds, started}
 use Rattle.cmb_kernel.specs.Step.{after_deliver, completed_within, round_events, round_of, step, steps}
-use Rattle.runs.specs.Shown.{waves_up_to}
-use Rattle.runs.specs.Simulated.{RunView, report_of, reported}
+use Rattle.prepared_runs.specs.Shown.{waves_up_to}
+use Rattle.prepared_runs.specs.Prepared.{RunView}
+use Rattle.runs.specs.Simulated.{report_of, reported}
 
 -- ---- no event of a schedule is refused
 

@@ -13,13 +13,13 @@ use Rattle.vcd_dump.specs.Dump.{declarations, dump_text}
 use Rattle.vcd_dump.specs.Spans.{StreamView, last_text, parts_of, span_text, stream_at}
 use Rattle.vcd_dump.specs.Traces.{named}
 use Rattle.vcd_dump.proofs.CallerLemmas.{AppendsPrefix-after, AppendsPrefix-longer, dump_text-nets, span_text-more}
-use Rattle.runs.specs.declared.fault.SimFault.{SimFault}
-use Rattle.runs.specs.declared.fault.SimFault.TheVariants.{Dump, Memory}
+use Rattle.prepared_runs.specs.declared.fault.SimFault.{SimFault}
+use Rattle.prepared_runs.specs.declared.fault.SimFault.TheVariants.{Dump, Memory}
 use Rattle.runs.specs.Drained.{values_of}
-use Rattle.runs.specs.Ends.{BreaksOff}
-use Rattle.runs.specs.Faults.{sim_of_dump}
-use Rattle.runs.proofs.Ends.{AppendsPrefix-whole, BreaksOff-dump}
-use Rattle.runs.specs.Source.{signals_of}
+use Rattle.prepared_runs.specs.Ends.{BreaksOff}
+use Rattle.prepared_runs.specs.Faults.{sim_of_dump}
+use Rattle.prepared_runs.proofs.CallerLemmas.{AppendsPrefix-whole, BreaksOff-dump}
+use Rattle.prepared_runs.specs.Source.{signals_of}
 
 -- ---- what breaks off
 

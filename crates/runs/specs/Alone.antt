@@ -2,8 +2,8 @@
 use Rattle.std.specs.Prelude.{◌≡◌, ◌≢◌, ℕ, ◌<◌, ◌≤◌, List, length, All, AllPairs}
 use Rattle.design.specs.Design.{IsDesign}
 use Rattle.cmb_events.specs.Schedule.{most_events, Exists}
-use Rattle.runs.specs.declared.preparation.PreparedRun.{PreparedRun}
-use Rattle.runs.specs.Source.{signals_of}
+use Rattle.prepared_runs.specs.declared.preparation.PreparedRun.{PreparedRun}
+use Rattle.prepared_runs.specs.Source.{signals_of}
 
 -- a prepared run that can show these nets: it can run, and has each of them, and none is named twice
 pub record CanShow (run : PreparedRun) (nets : List ℕ) : Type 0 where

@@ -2,7 +2,7 @@
 use Rattle.std.specs.Prelude.{length}
 use Rattle.design.specs.Circuit.{pin_count}
 use Rattle.runs.specs.declared.check_run.CheckAnswer.{CheckAnswer}
-use Rattle.runs.specs.Simulated.{RunView}
+use Rattle.prepared_runs.specs.Prepared.{RunView}
 
 -- the engines give each net the same waveform
 abbrev pub checked : RunView → CheckAnswer

@@ -1,6 +1,5 @@
 -- A run's kernel out of which changes are taken.
-use Rattle.std.specs.Prelude.{◌≡◌, ℕ, ◌<◌, ◌==◌, ◌↔◌, Bool, false, List, map, length, Contains}
-use Rattle.std.specs.List.{list_any}
+use Rattle.std.specs.Prelude.{◌≡◌, ℕ, ◌<◌, ◌↔◌, false, List, map, length, Contains}
 use Rattle.logic3.specs.declared.value.Value.{Value}
 use Rattle.logic3.specs.Rising.{Rises}
 use Rattle.design.specs.Circuit.{Circuit}
@@ -8,6 +7,7 @@ use Rattle.design.specs.Equations.{value_of}
 use Rattle.cmb_kernel.specs.State.{KernelView, floor_at}
 use Rattle.cmb_kernel.specs.Sound.{IsSound}
 use Rattle.cmb_kernel.specs.Drains.{apart_from_waves}
+use Rattle.prepared_runs.specs.Marked.{is_among}
 
 -- this holds of the floor of each net
 abbrev pub EachFloor : KernelView → (ℕ → Type 0) → Type 0
@@ -22,10 +22,6 @@ pub record DrainsTo (start now : KernelView) : Type 0 where
 -- what the equations give each of these nets
 abbrev pub values_of : Circuit → List ℕ → List (ℕ → Value)
 values_of circuit nets = map (value_of circuit) nets
-
--- a net is one of these
-abbrev pub is_among : List ℕ → ℕ → Bool
-is_among nets net = list_any (λ other. net == other) nets
 
 -- those of so many nets that aren't among these, rising
 pub record IsRest (count : ℕ) (nets rest : List ℕ) : Type 0 where

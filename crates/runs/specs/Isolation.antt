@@ -7,9 +7,10 @@ use Rattle.fanin_cone.specs.Agreement.{AgreesOn}
 use Rattle.fanin_cone.specs.Cone.{InCone}
 use Rattle.vcd_dump.specs.Shown.{shown_value}
 use Rattle.runs.specs.declared.simulation.Report.{Report}
-use Rattle.runs.specs.declared.view.View.{View}
-use Rattle.runs.specs.Simulated.{RunView, run_of_source, simulated}
-use Rattle.runs.specs.Source.{SourceView, knows_shown, shown_nets}
+use Rattle.prepared_runs.specs.declared.view.View.{View}
+use Rattle.prepared_runs.specs.Prepared.{RunView, run_of_source}
+use Rattle.runs.specs.Simulated.{simulated}
+use Rattle.prepared_runs.specs.Source.{SourceView, knows_shown, shown_nets}
 
 -- an input that is accepted, and the run that it makes, in which each net is that is to be shown
 pub record AcceptedRun : Type 0 where

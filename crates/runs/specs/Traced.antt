@@ -2,9 +2,9 @@
 use Rattle.std.specs.Prelude.{ℕ, ◌+◌, List, Result, Ok}
 use Rattle.text_lines.specs.Text.{◌>>=◌}
 use Rattle.event_trace.specs.Trace.{trace_text}
-use Rattle.runs.specs.declared.fault.SimFault.{SimFault}
-use Rattle.runs.specs.Source.{SourceView}
-use Rattle.runs.specs.Simulated.{RunView, run_of_source}
+use Rattle.prepared_runs.specs.declared.fault.SimFault.{SimFault}
+use Rattle.prepared_runs.specs.Source.{SourceView}
+use Rattle.prepared_runs.specs.Prepared.{RunView, run_of_source}
 
 -- what a run's kernel does, event by event
 unfoldable pub trace_of_run : RunView → List ℕ

@@ -2,9 +2,9 @@
 ghost use Rattle.std.specs.Prelude.{IfOk};
 ghost use Rattle.runs.specs.Alone.{CanShow, ShowsTheSame};
 
-use crate::preparation::PreparedRun;
 use cmb_events::Schedule;
 use fanin_cone::cones_alone;
+use prepared_runs::PreparedRun;
 use std::alloc::{AllocError, Global};
 
 /// A run, and the numbers of the nets that it shows.

@@ -6,18 +6,17 @@ ghost use Rattle.design.specs.Equations.{value_of};
 ghost use Rattle.cmb_events.specs.Schedule.{most_events, Exists};
 ghost use Rattle.cmb_kernel.specs.State.{IsUndrained};
 ghost use Rattle.runs.specs.Checked.{checked};
-ghost use Rattle.runs.specs.Ends.{IsRefusal};
-ghost use Rattle.runs.specs.Source.{seen_source, MayWantMemory};
-ghost use Rattle.runs.specs.Simulated.{IsKnown, run_of_source, seen_run};
-ghost use Rattle.runs.specs.declared.fault.SimFault.TheVariants.{Memory};
+ghost use Rattle.prepared_runs.specs.Ends.{IsRefusal};
+ghost use Rattle.prepared_runs.specs.Source.{seen_source, MayWantMemory};
+ghost use Rattle.runs.specs.Simulated.{IsKnown};
+ghost use Rattle.prepared_runs.specs.Prepared.{run_of_source, seen_run};
+ghost use Rattle.prepared_runs.specs.declared.fault.SimFault.TheVariants.{Memory};
 
-use crate::fault::SimFault;
-use crate::preparation::{PreparedRun, prepare_run};
 use crate::simulation::RunKernel;
-use crate::source::Source;
 use crate::sweep_run::complete;
 use design::plain_waves;
 use logic3::Waveform;
+use prepared_runs::{PreparedRun, SimFault, Source, prepare_run};
 use std::alloc::Global;
 
 /// How a run by the kernel compares with one by the plain engine.

@@ -7,9 +7,9 @@ ghost use Rattle.cmb_kernel.specs.Sound.{IsSound};
 ghost use Rattle.vcd_dump.specs.Spans.{with_parts};
 ghost use Rattle.runs.specs.Drained.{EachFloor, DrainsTo};
 
-use crate::fault::SimFault;
 use crate::simulation::RunKernel;
 use cmb_kernel::KernelFault;
+use prepared_runs::SimFault;
 use std::alloc::Global;
 use vcd_dump::Stream;
 

@@ -1,7 +1,8 @@
 //! The nets that a dump doesn't show.
-ghost use Rattle.std.specs.Prelude.{◌≡◌, ℕ, ◌<◌, false, length, slice_index_or, All, IfOk};
-ghost use Rattle.runs.specs.Drained.{is_among, IsRest};
+ghost use Rattle.std.specs.Prelude.{◌<◌, All, IfOk};
+ghost use Rattle.runs.specs.Drained.{IsRest};
 
+use prepared_runs::marks_of;
 use std::alloc::{AllocError, Global};
 
 /// The numbers of the nets, so many, that aren't among the shown ones, rising.
@@ -17,18 +18,4 @@ pub(crate) fn hidden_nets(alloc: Global, nets: u32, shown: &[u32]) -> Result<Vec
         }
     }
     Ok(hidden)
-}
-
-/// Which of so many nets are among these.
-pub(crate) fn marks_of(alloc: Global, nets: u32, among: &[u32]) -> Result<Vec<bool>, AllocError>
-    requires { All (λ net. net < nets) among.now }
-    ensures size { IfOk result (λ marks. length marks.items ≡ nets) }
-    ensures marks { IfOk result (λ marks.
-        (net : ℕ) → slice_index_or marks.items net false ≡ is_among among.now net) }
-{
-    let mut marks = vec![in alloc; false; nets as usize]?;
-    for net in among {
-        marks[*net as usize] = true;
-    }
-    Ok(marks)
 }

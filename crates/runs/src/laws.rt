@@ -1,16 +1,12 @@
 //! Facts about the definitions alone.
-ghost use Rattle.std.specs.Prelude.{◌≡◌, ℕ, true, List, IsOkAnd, Ok};
+ghost use Rattle.std.specs.Prelude.{◌≡◌, ℕ, List, IsOkAnd, Ok};
 ghost use Rattle.design.specs.Equations.{value_of};
-ghost use Rattle.wave_diff.specs.declared.comparison.Comparison.{Comparison};
-ghost use Rattle.wave_diff.specs.declared.comparison.Comparison.TheVariants.{Same};
-ghost use Rattle.runs.specs.declared.diff_run.DiffTicks.{DiffTicks};
-ghost use Rattle.runs.specs.declared.view.View.{View};
+ghost use Rattle.prepared_runs.specs.declared.view.View.{View};
 ghost use Rattle.runs.specs.declared.simulation.Report.{Report};
-ghost use Rattle.runs.specs.Source.{SourceView, design_of_source, dump_of_source};
-ghost use Rattle.runs.specs.Diffs.{AgreesOnCone, IsComparisonOf, Pair, pair_of};
+ghost use Rattle.prepared_runs.specs.Source.{SourceView, design_of_source, dump_of_source};
 ghost use Rattle.runs.specs.Isolation.{AcceptedRun, AgreeingRuns, EndsShowing};
 ghost use Rattle.runs.specs.Simulated.{simulated};
-ghost use Rattle.runs.specs.Viewed.{ShowsValues};
+ghost use Rattle.prepared_runs.specs.Viewed.{ShowsValues};
 
 /// The dump of a run shows, for each shown net and at every tick to the horizon, the value that
 /// the defining equations give that net.
@@ -38,13 +34,4 @@ pub fn isolation()
     ensures second { (first second : AcceptedRun) (name : List ℕ) (net other_net : ℕ) →
         AgreeingRuns first second name net other_net →
         EndsShowing second name (value_of first.run.design.circuit net) }
-{}
-
-/// Where two runs agree on the fan-in cone that a net has in the first of them, the net shows the same
-/// in both, at whatever ticks they are compared and whatever else they hold: nothing else can be told
-/// of it.
-pub fn agreeing_cones_show_the_same()
-    ensures { (first second : SourceView) (names : List (List ℕ)) (ticks : DiffTicks) (pair : Pair) (name : List ℕ) (comparison : Comparison) →
-        pair_of first second names ticks ≡ Ok pair → AgreesOnCone pair.first pair.second name →
-        IsComparisonOf pair.first pair.second pair.ticks name comparison → comparison ≡ Same true }
 {}

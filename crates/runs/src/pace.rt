@@ -1,5 +1,5 @@
 //! How a run goes on to its end.
-ghost use Rattle.std.specs.Prelude.{◌≡◌, ℕ, ◌+◌, ◌<◌, ◌≤◌, min, false, length, IfOk, IfErr, OnOk};
+ghost use Rattle.std.specs.Prelude.{◌≡◌, ℕ, ◌+◌, ◌<◌, ◌≤◌, min, false, IfOk, IfErr, OnOk};
 ghost use Rattle.cmb_kernel.specs.State.{floor_at, least_delay, least_frontier};
 ghost use Rattle.cmb_kernel.specs.Step.{round_of};
 ghost use Rattle.cmb_kernel.specs.Sound.{IsSound};

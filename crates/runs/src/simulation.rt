@@ -1,32 +1,27 @@
 //! A run by the kernel.
-ghost use Rattle.std.specs.Prelude.{◌≡◌, ◌<◌, ◌≤◌, ◌+◌, false, [], map, length, All, Some, IfOk, IfErr, IfSome, OnOk, IsOkAnd, Err};
+ghost use Rattle.std.specs.Prelude.{◌≡◌, ◌<◌, ◌≤◌, ◌+◌, [], length, Some, IfOk, IfErr, IfSome, OnOk, IsOkAnd, Err};
 ghost use Rattle.std.specs.Io.KnownBytes.{Appends};
-ghost use Rattle.logic3.specs.Wave.{wave_of};
-ghost use Rattle.design.specs.Equations.{value_of};
-ghost use Rattle.cmb_kernel.specs.State.{IsUndrained, most_rounds};
-ghost use Rattle.cmb_kernel.specs.Step.{completed_within, steps};
-ghost use Rattle.cmb_events.specs.Schedule.{most_events, Exists};
-ghost use Rattle.runs.specs.Source.{dump_of_design, seen_source, MayWantMemory};
-ghost use Rattle.runs.specs.Ends.{BreaksOff, RunEndsBy};
-ghost use Rattle.runs.specs.Simulated.{IsKnown, dump_in, report_of, reported, run_of_source, seen_run, simulated};
-ghost use Rattle.runs.specs.Viewed.{ShowsValues};
-ghost use Rattle.runs.specs.declared.fault.SimFault.TheVariants.{Memory};
+ghost use Rattle.cmb_kernel.specs.State.{most_rounds};
+ghost use Rattle.prepared_runs.specs.Source.{seen_source, MayWantMemory};
+ghost use Rattle.prepared_runs.specs.Ends.{RunEndsBy};
+ghost use Rattle.runs.specs.Simulated.{dump_in, simulated};
+ghost use Rattle.prepared_runs.specs.Prepared.{run_of_source};
+ghost use Rattle.prepared_runs.specs.Viewed.{ShowsValues};
+ghost use Rattle.run_progress.specs.Told.{IsProgress, Told};
+ghost use Rattle.prepared_runs.specs.declared.fault.SimFault.TheVariants.{Memory};
 
-use crate::dumping::shown_nets;
-use crate::fault::SimFault;
 use crate::pace::Pace;
-use crate::preparation::{PreparedRun, prepare_run};
-use crate::source::Source;
 use crate::streaming::dump_by_kernel;
-use crate::view::View;
 use cmb_channels::Logs;
 use cmb_events::Event;
 use cmb_kernel::{Counts, Kernel, KernelFault};
+use prepared_runs::{PreparedRun, SimFault, Source, View, prepare_run, shown_nets};
+use run_progress::{Progress, Silent};
 use std::alloc::Global;
 use std::io::Write;
 
 /// The kernel of every run, and the channels that its messages go through.
-pub(crate) type RunKernel<'r> = Kernel<'r, Logs>;
+pub type RunKernel<'r> = Kernel<'r, Logs>;
 
 /// How much happened in a run.
 #[derive(Clone, Copy, Debug, PartialEq, Eq)]
@@ -69,6 +64,34 @@ pub fn simulate<W: Write>(
         (W.contents out.old) (W.contents out.new)) }
     ensures memory { result ≡ Err Memory → MayWantMemory (seen_source source.now) view.now.horizon }
 {
+    simulate_with_progress(alloc, source, view, out, &mut Silent)
+}
+
+/// Runs a source as [`simulate`] does, and tells how far the run is: after the events, and after each
+/// round, how many ticks are known of every net. These numbers rise, and end with all ticks of the run.
+///
+/// # Errors
+/// As [`simulate`]; nothing is told of a source or a view that is refused.
+pub fn simulate_with_progress<W: Write, P: Progress>(
+    alloc: Global,
+    source: &Source<'_>,
+    view: &View<'_>,
+    out: &mut W,
+    progress: &mut P,
+) -> Result<Report, SimFault>
+    ensures ok { IfOk result (λ report. IsOkAnd (simulated (seen_source source.now) view.now)
+        (λ answer. Appends (W.contents out.old) (W.contents out.new) answer.0 × (report ≡ answer.1))) }
+    ensures shows { OnOk result (W.contents out.old ≡ Some [] → IfSome (W.contents out.new) (λ text.
+        IsOkAnd (run_of_source (seen_source source.now) view.now.horizon)
+        (λ run. ShowsValues view.now run.design text))) }
+    // A run ends within as many rounds as the horizon and one more tick has least delays.
+    ensures rounds { IfOk result (λ report. IsOkAnd (run_of_source (seen_source source.now) view.now.horizon)
+        (λ run. report.total.rounds ≤ most_rounds (run.horizon + 1) run.design.circuit)) }
+    ensures err { IfErr result (RunEndsBy (dump_in (simulated (seen_source source.now) view.now))
+        (W.contents out.old) (W.contents out.new)) }
+    ensures memory { result ≡ Err Memory → MayWantMemory (seen_source source.now) view.now.horizon }
+    ensures told { Told (P.tells view.now.horizon) (IsProgress result view.now.horizon) progress.old progress.new }
+{
     let run = prepare_run(alloc, source, view.horizon)?;
     let nets = shown_nets(alloc, &run.design, &view.show)?;
     dump_by_kernel(
@@ -78,5 +101,6 @@ pub fn simulate<W: Write>(
         view.unit,
         &mut Pace::Rounds,
         out,
+        progress,
     )
 }

@@ -10,31 +10,34 @@ ghost use Rattle.vcd_dump.specs.Dump.{dump_text};
 ghost use Rattle.vcd_dump.specs.Spans.{parts_of, span_text, stream_at};
 ghost use Rattle.runs.specs.Alone.{CanShow};
 ghost use Rattle.runs.specs.Drained.{EachFloor, DrainsTo, IsRest, values_of};
-ghost use Rattle.runs.specs.Ends.{BreaksOff};
+ghost use Rattle.prepared_runs.specs.Ends.{BreaksOff};
 ghost use Rattle.runs.specs.Paces.{Suits};
-ghost use Rattle.runs.specs.Simulated.{report_of, reported, seen_run};
-ghost use Rattle.runs.specs.Source.{signals_of};
+ghost use Rattle.runs.specs.Simulated.{report_of, reported};
+ghost use Rattle.prepared_runs.specs.Prepared.{seen_run};
+ghost use Rattle.prepared_runs.specs.Source.{signals_of};
+ghost use Rattle.run_progress.specs.Told.{IsProgress, Told};
 ghost use Rattle.runs.specs.declared.pace.Pace.TheVariants.{Rounds};
 
 use crate::draining::{forget_below, give_parts};
-use crate::fault::SimFault;
 use crate::hiding::hidden_nets;
 use crate::pace::Pace;
-use crate::preparation::PreparedRun;
 use crate::simulation::{Report, RunKernel};
+use prepared_runs::{PreparedRun, SimFault};
+use run_progress::Progress;
 use std::alloc::Global;
 use std::io::Write;
 use vcd_dump::{Stream, TimeUnit};
 
 /// Runs to the end by the kernel, and writes the dump of these nets. Answers the report, which is that of
-/// rounds where the run goes on by these.
-pub(crate) fn dump_by_kernel<W: Write>(
+/// rounds where the run goes on by these; tells how far the run is.
+pub(crate) fn dump_by_kernel<W: Write, P: Progress>(
     alloc: Global,
     run: &PreparedRun,
     nets: &[u32],
     unit: TimeUnit,
     pace: &mut Pace,
     out: &mut W,
+    progress: &mut P,
 ) -> Result<Report, SimFault>
     requires suits { Suits pace.old run.now.design.circuit (run.now.horizon + 1) }
     requires can { CanShow run.now nets.now }
@@ -43,13 +46,14 @@ pub(crate) fn dump_by_kernel<W: Write>(
         (dump_text unit run.now.horizon (signals_of run.now.design.circuit nets.now))) }
     ensures err { IfErr result (BreaksOff (W.contents out.old) (W.contents out.new)
         (dump_text unit run.now.horizon (signals_of run.now.design.circuit nets.now))) }
+    ensures told { Told (P.tells run.now.horizon) (IsProgress result run.now.horizon) progress.old progress.new }
 {
     let mut kernel = RunKernel::new(alloc, &run.design, run.horizon)?;
-    stream_run(alloc, &mut kernel, run, unit, nets, pace, out)
+    stream_run(alloc, &mut kernel, run, unit, nets, pace, out, progress)
 }
 
 /// Applies the run's events, and then runs to the end and writes the dump of these nets.
-fn stream_run<W: Write>(
+fn stream_run<W: Write, P: Progress>(
     alloc: Global,
     kernel: &mut RunKernel<'_>,
     run: &PreparedRun,
@@ -57,6 +61,7 @@ fn stream_run<W: Write>(
     nets: &[u32],
     pace: &mut Pace,
     out: &mut W,
+    progress: &mut P,
 ) -> Result<Report, SimFault>
     requires well_formed { IsDesign run.now.design }
     requires running { kernel.old.failed ≡ false }
@@ -74,11 +79,12 @@ fn stream_run<W: Write>(
         (dump_text unit run.now.horizon (signals_of run.now.design.circuit nets.now))) }
     ensures err { IfErr result (BreaksOff (W.contents out.old) (W.contents out.new)
         (dump_text unit run.now.horizon (signals_of run.now.design.circuit nets.now))) }
+    ensures told { Told (P.tells run.now.horizon) (IsProgress result run.now.horizon) progress.old progress.new }
 {
     kernel.apply_all(run.schedule.events())?;
     let after = kernel.counts();
     let least = kernel.least_frontier();
-    stream_to_end(alloc, kernel, run, unit, nets, pace, out)?;
+    stream_to_end(alloc, kernel, run, unit, nets, pace, out, progress)?;
     let total = kernel.counts();
     Ok(Report {
         after,
@@ -87,8 +93,9 @@ fn stream_run<W: Write>(
     })
 }
 
-/// Goes on to the end, and writes the dump of these nets: what every net knows, each time it is more.
-fn stream_to_end<W: Write>(
+/// Goes on to the end, and writes the dump of these nets: what every net knows, each time it is more,
+/// and tells how much that is.
+fn stream_to_end<W: Write, P: Progress>(
     alloc: Global,
     kernel: &mut RunKernel<'_>,
     run: &PreparedRun,
@@ -96,6 +103,7 @@ fn stream_to_end<W: Write>(
     nets: &[u32],
     pace: &mut Pace,
     out: &mut W,
+    progress: &mut P,
 ) -> Result<(), SimFault>
     requires well_formed { IsDesign run.now.design }
     requires running { kernel.old.failed ≡ false }
@@ -114,6 +122,7 @@ fn stream_to_end<W: Write>(
         (dump_text unit run.now.horizon (signals_of run.now.design.circuit nets.now))) }
     ensures err { IfErr result (BreaksOff (W.contents out.old) (W.contents out.new)
         (dump_text unit run.now.horizon (signals_of run.now.design.circuit nets.now))) }
+    ensures told { Told (P.tells run.now.horizon) (IsProgress result run.now.horizon) progress.old progress.new }
 {
     let hidden = hidden_nets(alloc, run.design.nets(), nets)?;
     let end = run.horizon.ticks() + 1;
@@ -129,6 +138,7 @@ fn stream_to_end<W: Write>(
             &mut stream,
             out,
         )?;
+        progress.tell(known, run.horizon);
         if known == end {
             stream.finish(out)?;
             return Ok(());

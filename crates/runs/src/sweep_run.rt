@@ -6,23 +6,22 @@ ghost use Rattle.cmb_kernel.specs.State.{IsUndrained};
 ghost use Rattle.cmb_kernel.specs.Sound.{IsSound};
 ghost use Rattle.vcd_dump.specs.Dump.{dump_text};
 ghost use Rattle.runs.specs.Alone.{CanShow};
-ghost use Rattle.runs.specs.Ends.{BreaksOff, RunEndsBy};
+ghost use Rattle.prepared_runs.specs.Ends.{BreaksOff, RunEndsBy};
 ghost use Rattle.runs.specs.Paces.{Suits};
-ghost use Rattle.runs.specs.Simulated.{IsKnown, dump_in, run_of_source, simulated};
-ghost use Rattle.runs.specs.Source.{seen_source, signals_of, MayWantMemory};
-ghost use Rattle.runs.specs.Viewed.{ShowsValues};
-ghost use Rattle.runs.specs.declared.fault.SimFault.TheVariants.{Memory};
+ghost use Rattle.runs.specs.Simulated.{IsKnown, dump_in, simulated};
+ghost use Rattle.prepared_runs.specs.Prepared.{run_of_source};
+ghost use Rattle.prepared_runs.specs.Source.{seen_source, signals_of, MayWantMemory};
+ghost use Rattle.prepared_runs.specs.Viewed.{ShowsValues};
+ghost use Rattle.run_progress.specs.Told.{IsProgress, Told};
+ghost use Rattle.prepared_runs.specs.declared.fault.SimFault.TheVariants.{Memory};
 
 use crate::alone::cones_of;
-use crate::dumping::shown_nets;
-use crate::fault::SimFault;
 use crate::pace::Pace;
-use crate::preparation::{PreparedRun, prepare_run};
 use crate::simulation::RunKernel;
-use crate::source::Source;
 use crate::streaming::dump_by_kernel;
-use crate::view::View;
 use cmb_kernel::KernelFault;
+use prepared_runs::{PreparedRun, SimFault, Source, View, prepare_run, shown_nets};
+use run_progress::{Progress, Silent};
 use std::alloc::Global;
 use std::io::Write;
 use vcd_dump::TimeUnit;
@@ -53,33 +52,70 @@ pub fn sweep<W: Write>(
         (W.contents out.old) (W.contents out.new)) }
     ensures memory { result ≡ Err Memory → MayWantMemory (seen_source source.now) view.now.horizon }
 {
+    sweep_with_progress(alloc, source, view, out, &mut Silent)
+}
+
+/// Runs a source as [`sweep`] does, and tells how far the run is: after the events, and after each sweep,
+/// how many ticks are known of every net. These numbers rise, and end with all ticks of the run.
+///
+/// # Errors
+/// As [`sweep`]; nothing is told of a source or a view that is refused.
+pub fn sweep_with_progress<W: Write, P: Progress>(
+    alloc: Global,
+    source: &Source<'_>,
+    view: &View<'_>,
+    out: &mut W,
+    progress: &mut P,
+) -> Result<(), SimFault>
+    ensures ok { OnOk result (IsOkAnd (dump_in (simulated (seen_source source.now) view.now))
+        (Appends (W.contents out.old) (W.contents out.new))) }
+    ensures shows { OnOk result (W.contents out.old ≡ Some [] → IfSome (W.contents out.new) (λ text.
+        IsOkAnd (run_of_source (seen_source source.now) view.now.horizon)
+        (λ run. ShowsValues view.now run.design text))) }
+    ensures err { IfErr result (RunEndsBy (dump_in (simulated (seen_source source.now) view.now))
+        (W.contents out.old) (W.contents out.new)) }
+    ensures memory { result ≡ Err Memory → MayWantMemory (seen_source source.now) view.now.horizon }
+    ensures told { Told (P.tells view.now.horizon) (IsProgress result view.now.horizon) progress.old progress.new }
+{
     let run = prepare_run(alloc, source, view.horizon)?;
     let nets = shown_nets(alloc, &run.design, &view.show)?;
     let shown = cones_of(alloc, run, nets)?;
-    dump_by_sweeps(alloc, &shown.run, shown.nets.as_slice(), view.unit, out)
+    dump_by_sweeps(
+        alloc,
+        &shown.run,
+        shown.nets.as_slice(),
+        view.unit,
+        out,
+        progress,
+    )
 }
 
-/// Runs to the end in sweeps, and writes the dump of these nets.
-fn dump_by_sweeps<W: Write>(
+/// Runs to the end in sweeps, and writes the dump of these nets; tells how far the run is.
+fn dump_by_sweeps<W: Write, P: Progress>(
     alloc: Global,
     run: &PreparedRun,
     nets: &[u32],
     unit: TimeUnit,
     out: &mut W,
+    progress: &mut P,
 ) -> Result<(), SimFault>
     requires can { CanShow run.now nets.now }
     ensures ok { OnOk result (Appends (W.contents out.old) (W.contents out.new)
         (dump_text unit run.now.horizon (signals_of run.now.design.circuit nets.now))) }
     ensures err { IfErr result (BreaksOff (W.contents out.old) (W.contents out.new)
         (dump_text unit run.now.horizon (signals_of run.now.design.circuit nets.now))) }
+    ensures told { Told (P.tells run.now.horizon) (IsProgress result run.now.horizon) progress.old progress.new }
 {
     let mut pace = Pace::sweeps(alloc, &run.design, run.horizon)?;
-    dump_by_kernel(alloc, run, nets, unit, &mut pace, out)?;
+    dump_by_kernel(alloc, run, nets, unit, &mut pace, out, progress)?;
     Ok(())
 }
 
 /// A run's kernel at the end, where it knows each net up to the horizon. Nothing was taken out.
-pub(crate) fn complete<'r>(alloc: Global, run: &'r PreparedRun) -> Result<RunKernel<'r>, SimFault>
+///
+/// # Errors
+/// [`SimFault::Memory`] alone: a kernel's own faults can't come out of a prepared run.
+pub fn complete<'r>(alloc: Global, run: &'r PreparedRun) -> Result<RunKernel<'r>, SimFault>
     requires exist { All (Exists run.now.design.circuit) run.now.schedule }
     requires few { length run.now.schedule ≤ most_events }
     ensures running { IfOk result (λ kernel. kernel.failed ≡ false) }

@@ -3,7 +3,7 @@
 //! Where all nets are swept once, a loop of gates goes on by as much as values take to go round it. So a
 //! loop is swept by itself, again and again, until its nets are known to where the window reaches.
 ghost use Rattle.std.specs.Prelude.{◌≡◌, ℕ, ◌+◌, ◌-◌, ◌<◌, ◌≤◌, All, min, false, length, IfOk, IfErr, OnOk};
-ghost use Rattle.cmb_kernel.specs.State.{floor_at, frontier_at, least_delay, least_frontier};
+ghost use Rattle.cmb_kernel.specs.State.{frontier_at, least_delay, least_frontier};
 ghost use Rattle.cmb_kernel.specs.Sound.{IsSound};
 ghost use Rattle.cmb_kernel.specs.Sweeps.{AllKnow, HoldsAll};
 ghost use Rattle.design.specs.Segments.{IsCutUp};

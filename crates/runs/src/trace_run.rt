@@ -2,15 +2,13 @@
 ghost use Rattle.std.specs.Prelude.{◌≡◌, All, Err, IfErr, IsOkAnd, OnOk};
 ghost use Rattle.std.specs.Io.KnownBytes.{Appends};
 ghost use Rattle.cmb_events.specs.Schedule.{Exists};
-ghost use Rattle.runs.specs.Ends.{BreaksOff, RunEndsBy};
-ghost use Rattle.runs.specs.Simulated.{seen_run};
-ghost use Rattle.runs.specs.Source.{seen_source, MayWantMemory};
+ghost use Rattle.prepared_runs.specs.Ends.{BreaksOff, RunEndsBy};
+ghost use Rattle.prepared_runs.specs.Prepared.{seen_run};
+ghost use Rattle.prepared_runs.specs.Source.{seen_source, MayWantMemory};
 ghost use Rattle.runs.specs.Traced.{trace_of_run, trace_of_source};
-ghost use Rattle.runs.specs.declared.fault.SimFault.TheVariants.{Memory};
+ghost use Rattle.prepared_runs.specs.declared.fault.SimFault.TheVariants.{Memory};
 
-use crate::fault::SimFault;
-use crate::preparation::{PreparedRun, prepare_run};
-use crate::source::Source;
+use prepared_runs::{PreparedRun, SimFault, Source, prepare_run};
 use std::alloc::Global;
 use std::io::Write;
 

@@ -1,7 +1,7 @@
 use Rattle.std.proofs.Common.{Err, refl, sym, ap, subst, ◌∙◌}
 use Rattle.std.proofs.lemmas.Result.{err_from_is_err_and}
-use Rattle.runs.specs.declared.view.View.{View}
-use Rattle.runs.specs.Source.{MayWantMemory, seen_source}
+use Rattle.prepared_runs.specs.declared.view.View.{View}
+use Rattle.prepared_runs.specs.Source.{MayWantMemory, seen_source}
 use Rattle.deck_text.specs.Seen.{seen_sections}
 use Rattle.runs.specs.Simulated.{simulated}
 use Rattle.decks.proofs.Decks.{DeckMayWantMemory-sections, deck_of_text-Memory, Sim-Memory, simulated_deck-run, DeckEndsBy-Sim, DeckEndsBy-bad_text, IsOkAnd-Sim}

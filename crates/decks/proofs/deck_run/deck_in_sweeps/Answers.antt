@@ -1,7 +1,7 @@
 use Rattle.std.proofs.Common.{sym}
 use Rattle.std.proofs.lemmas.Result.{err_from_is_err_and}
 use Rattle.runs.specs.Simulated.{simulated}
-use Rattle.runs.specs.Source.{seen_source}
+use Rattle.prepared_runs.specs.Source.{seen_source}
 use Rattle.decks.proofs.Decks.{DeckEndsBy-Sim, DeckEndsBy-bad_text, IsOkAnd-dump, simulated_deck-run}
 use Rattle.decks.proofs.deck_run.deck_in_sweeps.Goals as goal
 

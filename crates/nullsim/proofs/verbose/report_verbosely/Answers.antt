@@ -1,4 +1,4 @@
 use Rattle.nullsim.proofs.verbose.report_verbosely.Goals as goal
 
 pub returns-clause-told : goal.returns-clause-told
-returns-clause-told g c = (_, c.report-status.ensures, rw (← c.fault_place.ensures, ← c.kept-text.ensures) c.explain_fault.ensures)
+returns-clause-told g c = (_, rw (← c.side.ensures, ← c.text_names.ensures) c.report-status.ensures, c.explain_fault.ensures)

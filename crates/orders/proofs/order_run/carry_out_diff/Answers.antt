@@ -1,5 +1,5 @@
 use Rattle.netlist.specs.Names.{seen_names}
-use Rattle.runs.specs.Source.{seen_source}
+use Rattle.prepared_runs.specs.Source.{seen_source}
 use Rattle.program_io.specs.Answers.{IsAnswerOfDiff}
 use Rattle.orders.specs.Readings.{files_of_options}
 use Rattle.std.proofs.lemmas.Result.{err_from_is_err_and, IfErr-weaker, IfOk-weaker}

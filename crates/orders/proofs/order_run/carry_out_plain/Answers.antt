@@ -1,12 +1,13 @@
 use Rattle.std.proofs.Common.{◌≡◌}
-use Rattle.runs.specs.Source.{seen_source}
+use Rattle.prepared_runs.specs.Source.{seen_source}
 use Rattle.program_io.specs.Answers.{plain_answer}
-use Rattle.std.proofs.lemmas.Result.{IfErr-weaker, IfOk-weaker}
+use Rattle.std.proofs.lemmas.Result.{err_from_is_err_and, IfErr-weaker, IfOk-weaker}
 use Rattle.orders.specs.declared.order.Order.TheVariants as order
 use Rattle.orders.specs.OrderAnswer.{IsAnswer}
 use Rattle.program_io.proofs.CallerLemmas.{AnswerEndsBy-weaker, GoesOut-weaker}
 use Rattle.orders.proofs.OrderTexts.{IsAnswer-plain}
 use Rattle.orders.proofs.ReadingsLemmas.{ReadsUntil-behind}
+use Rattle.run_progress.proofs.CallerLemmas.{tick_by_tick-nothing}
 use Rattle.orders.proofs.order_run.carry_out_plain.Goals as goal
 
 pub returns-clause-ok : goal.returns-clause-ok
@@ -28,3 +29,9 @@ returns-clause-err g c =
 pub returns-clause-stopped : goal.returns-clause-stopped
 returns-clause-stopped g c =
     IfErr-weaker c.write_plain.result _ _ (ReadsUntil-behind _ _ _ c.in_ok-read.ensures.read) c.write_plain.ensures.no_read
+
+pub returns-in_err-read-clause-told : goal.returns-in_err-read-clause-told
+returns-in_err-read-clause-told g c =
+    let p = err_from_is_err_and c.from_residual.result c.from_residual.ensures.1 in
+    let horizon = c.args.view.now.horizon in
+    tick_by_tick-nothing (g.P.Progress.tells horizon) c.from_residual.result _ horizon c.args.progress.now p.1 (g.met.P.Progress.nothing horizon c.args.progress.now)

@@ -1,5 +1,5 @@
 use Rattle.std.proofs.Common.{◌≡◌}
-use Rattle.runs.specs.Source.{seen_source}
+use Rattle.prepared_runs.specs.Source.{seen_source}
 use Rattle.program_io.specs.Answers.{why_answer}
 use Rattle.std.proofs.lemmas.Result.{IfErr-weaker, IfOk-weaker}
 use Rattle.orders.specs.declared.order.Order.TheVariants as order

@@ -1,8 +1,8 @@
 use Rattle.std.proofs.lemmas.Result.{err_from_is_err_and}
 use Rattle.std.proofs.Common.{◌≡◌, ◌∙◌, refl}
 use Rattle.runs.specs.Checked.{checked}
-use Rattle.runs.specs.Simulated.{run_of_source}
-use Rattle.runs.specs.Source.{seen_source}
+use Rattle.prepared_runs.specs.Prepared.{run_of_source}
+use Rattle.prepared_runs.specs.Source.{seen_source}
 use Rattle.program_io.specs.AnswerText.{check_text}
 use Rattle.program_io.specs.Answers.{check_answer, just}
 use Rattle.program_io.proofs.AnswerEnds.{AnswerEndsBy-refused, AnswerEndsBy-text, GoesOut-text, WriteEndsBy-no_read, answered-checked, fault_of_run-no_read}

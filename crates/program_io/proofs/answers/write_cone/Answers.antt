@@ -1,7 +1,7 @@
 use Rattle.std.proofs.lemmas.Result.{err_from_is_err_and}
 use Rattle.std.proofs.Common.{Ok, Err, refl}
 use Rattle.netlist.specs.Names.{seen_names}
-use Rattle.runs.proofs.CallerLemmas.{IsConeAnswer-unwritten}
+use Rattle.circuit_texts.proofs.CallerLemmas.{IsConeAnswer-unwritten}
 use Rattle.program_io.specs.Answers.{IsAnswerOfCone, just}
 use Rattle.program_io.proofs.AnswerEnds.{AnswerEndsBy-text, AnswerEndsBy-unwritten, GoesOut-text, WriteEndsBy-no_read, fault_of_run-no_read}
 use Rattle.program_io.proofs.answers.write_cone.Goals as goal

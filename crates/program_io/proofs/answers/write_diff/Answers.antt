@@ -1,6 +1,6 @@
 use Rattle.std.proofs.lemmas.Result.{err_from_is_err_and}
 use Rattle.netlist.specs.Names.{seen_names}
-use Rattle.runs.specs.Source.{seen_source}
+use Rattle.prepared_runs.specs.Source.{seen_source}
 use Rattle.program_io.specs.Answers.{IsAnswerOfDiff, compared}
 use Rattle.program_io.proofs.AnswerEnds.{AnswerEndsBy-text, AnswerEndsBy-twin, GoesOut-text, IsDiffAnswer-done, IsDiffAnswer-refused, WriteEndsBy-no_read, fault_of_run-no_read}
 use Rattle.program_io.proofs.answers.write_diff.Goals as goal

@@ -1,6 +1,6 @@
 use Rattle.std.proofs.lemmas.Result.{err_from_is_err_and}
 use Rattle.std.proofs.Common.{Ok, Err, refl}
-use Rattle.runs.proofs.CallerLemmas.{IsInfoAnswer-unwritten}
+use Rattle.circuit_texts.proofs.CallerLemmas.{IsInfoAnswer-unwritten}
 use Rattle.program_io.specs.Answers.{IsAnswerOfInfo, just}
 use Rattle.program_io.proofs.AnswerEnds.{AnswerEndsBy-text, AnswerEndsBy-unwritten, GoesOut-text, WriteEndsBy-no_read, fault_of_run-no_read}
 use Rattle.program_io.proofs.answers.write_info.Goals as goal

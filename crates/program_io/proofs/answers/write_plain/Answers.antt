@@ -1,18 +1,19 @@
 use Rattle.std.proofs.Common.{◌≡◌, refl}
 use Rattle.std.proofs.lemmas.Result.{err_from_is_err_and}
-use Rattle.runs.specs.Source.{dump_of_source, seen_source}
+use Rattle.prepared_runs.specs.Source.{dump_of_source, seen_source}
 use Rattle.program_io.specs.Answers.{plain_answer}
 use Rattle.program_io.proofs.AnswerEnds.{AnswerEndsBy-dump, AnswerEndsBy-flush, GoesOut-dump, GoesOut-flushed, fault_of_run-no_read}
+use Rattle.run_progress.proofs.CallerLemmas.{tick_by_tick-behind}
 use Rattle.program_io.proofs.answers.write_plain.Goals as goal
 
-pub returns-in_err-plain-clause-err : goal.returns-in_err-plain-clause-err
-returns-in_err-plain-clause-err g c =
+pub returns-in_err-plain_with_progress-clause-err : goal.returns-in_err-plain_with_progress-clause-err
+returns-in_err-plain_with_progress-clause-err g c =
     let p = err_from_is_err_and c.from_residual.result c.from_residual.ensures.1 in
     rw (p.1, p.2) (AnswerEndsBy-dump (λ answer. answer ≡ plain_answer (seen_source c.args.source.now) c.args.view.now)
-    (dump_of_source (seen_source c.args.source.now) c.args.view.now) refl _ _ _ c.in_err-plain.ensures.err)
+    (dump_of_source (seen_source c.args.source.now) c.args.view.now) refl _ _ _ c.in_err-plain_with_progress.ensures.err)
 
-pub returns-in_err-plain-clause-no_read : goal.returns-in_err-plain-clause-no_read
-returns-in_err-plain-clause-no_read g c =
+pub returns-in_err-plain_with_progress-clause-no_read : goal.returns-in_err-plain_with_progress-clause-no_read
+returns-in_err-plain_with_progress-clause-no_read g c =
     let p = err_from_is_err_and c.from_residual.result c.from_residual.ensures.1 in
     rw (p.1, p.2) (fault_of_run-no_read _ _)
 
@@ -20,7 +21,7 @@ pub returns-in_err-flush-clause-err : goal.returns-in_err-flush-clause-err
 returns-in_err-flush-clause-err g c =
     let p = err_from_is_err_and c.from_residual-in_err-flush.result c.from_residual-in_err-flush.ensures.1 in
     rw (p.1, p.2) (AnswerEndsBy-flush (λ answer. answer ≡ plain_answer (seen_source c.args.source.now) c.args.view.now) _ _ _ _ (GoesOut-dump (λ answer. answer ≡ plain_answer (seen_source c.args.source.now) c.args.view.now)
-    (dump_of_source (seen_source c.args.source.now) c.args.view.now) refl _ _ c.in_ok-plain.ensures.ok) c.flush.ensures.kept _ c.in_err-flush.ensures.err)
+    (dump_of_source (seen_source c.args.source.now) c.args.view.now) refl _ _ c.in_ok-plain_with_progress.ensures.ok) c.flush.ensures.kept _ c.in_err-flush.ensures.err)
 
 pub returns-in_err-flush-clause-no_read : goal.returns-in_err-flush-clause-no_read
 returns-in_err-flush-clause-no_read g c =
@@ -30,4 +31,14 @@ returns-in_err-flush-clause-no_read g c =
 pub returns-clause-ok : goal.returns-clause-ok
 returns-clause-ok g c =
     GoesOut-flushed (λ answer. answer ≡ plain_answer (seen_source c.args.source.now) c.args.view.now) _ _ _ _ (GoesOut-dump (λ answer. answer ≡ plain_answer (seen_source c.args.source.now) c.args.view.now)
-    (dump_of_source (seen_source c.args.source.now) c.args.view.now) refl _ _ c.in_ok-plain.ensures.ok) c.flush.ensures.kept
+    (dump_of_source (seen_source c.args.source.now) c.args.view.now) refl _ _ c.in_ok-plain_with_progress.ensures.ok) c.flush.ensures.kept
+
+pub returns-in_err-plain_with_progress-clause-told : goal.returns-in_err-plain_with_progress-clause-told
+returns-in_err-plain_with_progress-clause-told g c =
+    let p = err_from_is_err_and c.from_residual.result c.from_residual.ensures.1 in
+    rw p.1 c.in_err-plain_with_progress.ensures.told
+
+pub returns-in_err-flush-clause-told : goal.returns-in_err-flush-clause-told
+returns-in_err-flush-clause-told g c =
+    tick_by_tick-behind (g.P.Progress.tells c.args.view.now.horizon) c.from_residual-in_err-flush.result c.args.view.now.horizon c.args.progress.now
+    c.plain_with_progress.new.progress c.in_ok-plain_with_progress.ensures.told

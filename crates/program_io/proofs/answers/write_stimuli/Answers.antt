@@ -1,7 +1,7 @@
 use Rattle.std.proofs.lemmas.Result.{err_from_is_err_and}
 use Rattle.std.proofs.Common.{◌≡◌, refl, sym, ap, map}
 use Rattle.drawn_stimuli.specs.Inputs.{seen_drive}
-use Rattle.runs.specs.Driven.{stimuli_of_drives}
+use Rattle.circuit_texts.specs.Driven.{stimuli_of_drives}
 use Rattle.program_io.specs.Answers.{answered, just, stimuli_answer}
 use Rattle.program_io.proofs.AnswerEnds.{AnswerEndsBy-refused, AnswerEndsBy-text, GoesOut-text, WriteEndsBy-no_read, fault_of_run-no_read}
 use Rattle.program_io.proofs.answers.write_stimuli.Goals as goal

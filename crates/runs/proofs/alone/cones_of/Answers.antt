@@ -1,7 +1,7 @@
 use Rattle.std.proofs.Common.{◌≡◌, IfSome, refl, ap, subst, ◌∙◌}
 use Rattle.netlist.specs.Netlist.{NetlistView}
 use Rattle.fanin_cone.specs.Extract.{IsDesignOfCones}
-use Rattle.runs.specs.Source.{signals_of}
+use Rattle.prepared_runs.specs.Source.{signals_of}
 use Rattle.runs.proofs.ConesShown.{CanShow-outputs, signals_alone}
 use Rattle.runs.proofs.alone.cones_of.Goals as goal
 use Rattle.runs.proofs.alone.cones_of.Goals.{In_ok-nets}

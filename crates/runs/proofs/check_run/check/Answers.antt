@@ -1,7 +1,7 @@
 use Rattle.std.proofs.lemmas.Result.{IfErr-weaker}
-use Rattle.runs.specs.Ends.{IsRefusal}
-use Rattle.runs.specs.Source.{seen_source}
-use Rattle.runs.specs.Simulated.{run_of_source}
+use Rattle.prepared_runs.specs.Ends.{IsRefusal}
+use Rattle.prepared_runs.specs.Source.{seen_source}
+use Rattle.prepared_runs.specs.Prepared.{run_of_source}
 use Rattle.runs.proofs.check_run.check.Goals as goal
 
 pub returns-clause-ok : goal.returns-clause-ok

@@ -1,5 +1,5 @@
 use Rattle.std.proofs.Common.{◌∙◌}
-use Rattle.runs.specs.Simulated.{seen_run}
+use Rattle.prepared_runs.specs.Prepared.{seen_run}
 use Rattle.runs.proofs.Checks.{waves_of-to_end}
 use Rattle.runs.proofs.check_run.check_prepared.Goals as goal
 

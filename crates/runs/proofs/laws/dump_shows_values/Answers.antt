@@ -1,4 +1,4 @@
-use Rattle.runs.proofs.Viewed.{ShowsValues-dump_of_source}
+use Rattle.prepared_runs.proofs.CallerLemmas.{ShowsValues-dump_of_source}
 use Rattle.runs.proofs.laws.dump_shows_values.Goals as goal
 
 pub returns : goal.returns

@@ -1,4 +1,4 @@
-use Rattle.runs.proofs.Answer.{dump_of_source-simulated}
+use Rattle.runs.proofs.Reports.{dump_of_source-simulated}
 use Rattle.runs.proofs.laws.picks_play_no_part.Goals as goal
 
 pub returns : goal.returns

@@ -1,9 +1,10 @@
 use Rattle.std.proofs.Common.{◌≡◌, ◌+◌, refl, ap, ◌∙◌}
-use Rattle.std.proofs.lemmas.Result.{IfOk-weaker}
+use Rattle.std.proofs.lemmas.Result.{err_from_is_err_and, IfOk-weaker}
 use Rattle.cmb_kernel.specs.State.{KernelView, fresh, floor_at}
 use Rattle.cmb_kernel.proofs.CallerLemmas.{started_floor}
-use Rattle.runs.specs.Simulated.{seen_run}
+use Rattle.prepared_runs.specs.Prepared.{seen_run}
 use Rattle.runs.proofs.Simulated.{report_of-fresh}
+use Rattle.run_progress.proofs.CallerLemmas.{progress-nothing}
 use Rattle.runs.proofs.streaming.dump_by_kernel.Goals as goal
 
 pub stream_run-requires-clause-undrained : goal.stream_run-requires-clause-undrained
@@ -20,3 +21,9 @@ returns-clause-report g c = λ by.
     let start : c.in_ok-kernel.kernel ≡ fresh run.design.circuit (run.horizon + 1) = cc in
     IfOk-weaker c.stream_run.result _ _ (λ report done. done ∙ report_of-fresh run c.in_ok-kernel.kernel c.args.run.now.schedule start refl)
     (c.stream_run.ensures.report by)
+
+pub returns-in_err-kernel-clause-told : goal.returns-in_err-kernel-clause-told
+returns-in_err-kernel-clause-told g c =
+    let p = err_from_is_err_and c.from_residual.result c.from_residual.ensures.1 in
+    let horizon = c.args.run.now.horizon in
+    progress-nothing (g.P.Progress.tells horizon) c.from_residual.result _ horizon c.args.progress.now p.1 (g.met.P.Progress.nothing horizon c.args.progress.now)

@@ -9,11 +9,13 @@ use Rattle.cmb_kernel.specs.State.{KernelView}
 use Rattle.vcd_dump.specs.declared.fault.DumpFault.TheVariants.{Failed}
 use Rattle.vcd_dump.specs.Spans.{StreamView, begun, parts_of, span_text, stream_at}
 use Rattle.vcd_dump.proofs.CallerLemmas.{stream_at-begun}
+use Rattle.run_progress.specs.Told.{RisesBelow, Told}
+use Rattle.run_progress.proofs.CallerLemmas.{Told-last, Told-next, Told-nothing, Told-wider, progress-behind, progress-nothing}
 use Rattle.runs.specs.Drained.{values_of}
-use Rattle.runs.specs.Ends.{BreaksOff}
+use Rattle.prepared_runs.specs.Ends.{BreaksOff}
 use Rattle.runs.specs.declared.pace.Pace.TheVariants.{Rounds}
 use Rattle.runs.proofs.Drains.{least_same}
-use Rattle.runs.proofs.Ends.{BreaksOff-memory}
+use Rattle.prepared_runs.proofs.CallerLemmas.{BreaksOff-memory}
 use Rattle.runs.proofs.Streamed.{Streamed, same, ahead_of, at_end, still_more, led, suits_of, suits_still, streamed_begins, least_within, streamed_more, streamed_less, counts_are}
 use Rattle.runs.proofs.Streams.{text_before, text_begins, breaks_at_first, goes_on, breaks_in_span, breaks_here, ends, breaks_at_end}
 use Rattle.runs.proofs.streaming.stream_to_end.Goals as goal
@@ -57,6 +59,7 @@ loop-stream-init g c =
       stream = begins_at circuit c.args.nets.now c.args.run.now.horizon c.in_ok-stream.stream c.in_ok-stream.ensures.stream;
       text = subst (λ to. Appends (g.W.Write.contents c.args.out.now) (g.W.Write.contents c.begin.new.out) (text_before c.args.unit c.args.run.now.horizon circuit c.args.nets.now to)) (sym written)
           (subst (Appends (g.W.Write.contents c.args.out.now) (g.W.Write.contents c.begin.new.out)) (text_begins c.args.unit c.args.run.now.horizon circuit c.args.nets.now) c.in_ok-stream.ensures.ok);
+      told = Told-nothing (g.P.Progress.tells c.args.run.now.horizon) _ c.args.progress.now (g.met.P.Progress.nothing c.args.run.now.horizon c.args.progress.now);
     }
 
 pub go_on-requires-clause-suits : goal.go_on-requires-clause-suits
@@ -166,6 +169,16 @@ loop-stream-preserved g c =
           (led inv.streamed drains c.go_on.new.kernel c.in_ok-go_on.ensures.goes) c.requires.circuit c.requires.end c.in_ok-go_on.ensures.suits;
       stream = next ∙ ap (stream_at (values_of c.args.run.now.design.circuit c.args.nets.now) c.args.run.now.horizon) (sym written);
       text = subst (λ at. Appends (g.W.Write.contents c.args.out.now) (g.W.Write.contents c.write_known.new.out) (text_before c.args.unit c.args.run.now.horizon c.args.run.now.design.circuit c.args.nets.now at)) (sym written) went;
+      told =
+          let horizon = c.args.run.now.horizon in
+          let more = still_more (ap (λ (k : KernelView). k.end) inv.streamed.run ∙ c.requires.end) c.ticks-end.ensures.ticks c.if-known-end.false in
+          let same_end : c.write_known.new.kernel.end ≡ c.loop-stream.kernel.end = ap (λ (k : KernelView). k.end) drains.run in
+          let same_least = least_same c.loop-stream.kernel c.write_known.new.kernel drains in
+          let risen = c.in_ok-go_on.ensures.rises (omega (arith, more, same_end, same_least, least_within c.loop-stream.kernel, c.least_frontier-known.ensures)) in
+          Told-next (g.P.Progress.tells horizon) (g.met.P.Progress.joined horizon) to _ c.args.progress.now c.loop-stream.progress c.tell.new.self
+          (omega (arith, risen, same_least, c.least_frontier-known.ensures))
+          (subst (λ bound. Told (g.P.Progress.tells horizon) (RisesBelow bound) c.args.progress.now c.loop-stream.progress) (sym c.least_frontier-known.ensures) inv.told)
+          c.tell.ensures;
     }
 
 pub returns-in_err-go_on-clause-err : goal.returns-in_err-go_on-clause-err
@@ -181,3 +194,58 @@ returns-in_err-go_on-clause-err g c =
     rw (p.1, p.2)
     (breaks_here c.args.unit c.args.run.now.horizon c.args.run.now.design.circuit c.args.nets.now (g.W.Write.contents c.args.out.now) (g.W.Write.contents c.write_known.new.out) to went
     (omega (arith, end, least_within c.loop-stream.kernel, c.least_frontier-known.ensures)))
+
+pub returns-in_err-hidden-clause-told : goal.returns-in_err-hidden-clause-told
+returns-in_err-hidden-clause-told g c =
+    let p = err_from_is_err_and c.from_residual.result c.from_residual.ensures.1 in
+    let horizon = c.args.run.now.horizon in
+    progress-nothing (g.P.Progress.tells horizon) c.from_residual.result _ horizon c.args.progress.now p.1 (g.met.P.Progress.nothing horizon c.args.progress.now)
+
+pub returns-in_err-stream-clause-told : goal.returns-in_err-stream-clause-told
+returns-in_err-stream-clause-told g c =
+    let p = err_from_is_err_and c.from_residual-in_err-stream.result c.from_residual-in_err-stream.ensures.1 in
+    let horizon = c.args.run.now.horizon in
+    progress-nothing (g.P.Progress.tells horizon) c.from_residual-in_err-stream.result _ horizon c.args.progress.now p.1 (g.met.P.Progress.nothing horizon c.args.progress.now)
+
+pub tell-requires : goal.tell-requires
+tell-requires g c =
+    let end = ap (λ (k : KernelView). k.end) c.loop-stream.invariant.streamed.run ∙ c.requires.end in
+    omega (arith, end, least_within c.loop-stream.kernel, c.least_frontier-known.ensures)
+
+pub returns-in_err-write_known-clause-told : goal.returns-in_err-write_known-clause-told
+returns-in_err-write_known-clause-told g c =
+    let p = err_from_is_err_and c.from_residual-in_err-write_known.result c.from_residual-in_err-write_known.ensures.1 in
+    let horizon = c.args.run.now.horizon in
+    let inv = c.loop-stream.invariant in
+    let end = ap (λ (k : KernelView). k.end) inv.streamed.run ∙ c.requires.end in
+    rw p.1 (Told-wider (g.P.Progress.tells horizon) _ (horizon + 2) c.args.progress.now c.loop-stream.progress
+    (omega (arith, end, least_within c.loop-stream.kernel)) inv.told)
+
+pub returns-in_err-finish-clause-told : goal.returns-in_err-finish-clause-told
+returns-in_err-finish-clause-told g c =
+    let p = err_from_is_err_and c.from_residual-in_err-finish.result c.from_residual-in_err-finish.ensures.1 in
+    let horizon = c.args.run.now.horizon in
+    let inv = c.loop-stream.invariant in
+    let end = ap (λ (k : KernelView). k.end) inv.streamed.run ∙ c.requires.end in
+    let known = subst (λ bound. Told (g.P.Progress.tells horizon) (RisesBelow bound) c.args.progress.now c.loop-stream.progress) (sym c.least_frontier-known.ensures) inv.told in
+    rw p.1 (Told-next (g.P.Progress.tells horizon) (g.met.P.Progress.joined horizon) c.least_frontier-known.result (horizon + 2) c.args.progress.now
+    c.loop-stream.progress c.tell.new.self (omega (arith, end, least_within c.loop-stream.kernel, c.least_frontier-known.ensures)) known c.tell.ensures)
+
+pub returns-in_err-go_on-clause-told : goal.returns-in_err-go_on-clause-told
+returns-in_err-go_on-clause-told g c =
+    let p = err_from_is_err_and c.from_residual-in_err-go_on.result c.from_residual-in_err-go_on.ensures.1 in
+    let horizon = c.args.run.now.horizon in
+    let inv = c.loop-stream.invariant in
+    let end = ap (λ (k : KernelView). k.end) inv.streamed.run ∙ c.requires.end in
+    let known = subst (λ bound. Told (g.P.Progress.tells horizon) (RisesBelow bound) c.args.progress.now c.loop-stream.progress) (sym c.least_frontier-known.ensures) inv.told in
+    rw p.1 (Told-next (g.P.Progress.tells horizon) (g.met.P.Progress.joined horizon) c.least_frontier-known.result (horizon + 2) c.args.progress.now
+    c.loop-stream.progress c.tell.new.self (omega (arith, end, least_within c.loop-stream.kernel, c.least_frontier-known.ensures)) known c.tell.ensures)
+
+pub returns-then-known-end-clause-told : goal.returns-then-known-end-clause-told
+returns-then-known-end-clause-told g c =
+    let horizon = c.args.run.now.horizon in
+    let inv = c.loop-stream.invariant in
+    let known = subst (λ bound. Told (g.P.Progress.tells horizon) (RisesBelow bound) c.args.progress.now c.loop-stream.progress) (sym c.least_frontier-known.ensures) inv.told in
+    let all : c.least_frontier-known.result ≡ horizon + 1 = omega (arith, c.if-known-end.true, c.ticks-end.ensures.ticks) in
+    Told-last (g.P.Progress.tells horizon) (g.met.P.Progress.joined horizon) (horizon + 1) c.least_frontier-known.result c.args.progress.now
+    c.loop-stream.progress c.tell.new.self all known c.tell.ensures

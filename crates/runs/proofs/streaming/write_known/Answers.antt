@@ -11,7 +11,7 @@ use Rattle.vcd_dump.specs.Spans.{StreamView, CanSpan, lines_text, parts_of, span
 use Rattle.vcd_dump.proofs.CallerLemmas.{stream_at-can, stream_at-spanned, with_parts-none}
 use Rattle.runs.specs.Drained.{values_of}
 use Rattle.runs.proofs.Drains.{DrainsTo-trans, least_same}
-use Rattle.runs.proofs.Ends.{BreaksOff-dump}
+use Rattle.prepared_runs.proofs.CallerLemmas.{BreaksOff-dump}
 use Rattle.runs.proofs.Others.{IsRest-below, among_or_rest}
 use Rattle.runs.proofs.Streamed.{parts_are}
 use Rattle.runs.proofs.streaming.write_known.Given.{Over}

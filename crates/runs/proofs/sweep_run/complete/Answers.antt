@@ -1,7 +1,7 @@
 use Rattle.std.proofs.Common.{◌≡◌, ◌+◌, ap, ◌∙◌}
 use Rattle.cmb_kernel.specs.State.{KernelView, fresh, floor_at}
 use Rattle.cmb_kernel.proofs.CallerLemmas.{started_floor, steps_floor}
-use Rattle.runs.specs.Simulated.{seen_run}
+use Rattle.prepared_runs.specs.Prepared.{seen_run}
 use Rattle.runs.proofs.sweep_run.complete.Goals as goal
 
 pub run_to_end-requires-clause-undrained : goal.run_to_end-requires-clause-undrained

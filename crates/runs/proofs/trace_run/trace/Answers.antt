@@ -1,8 +1,8 @@
 use Rattle.std.proofs.lemmas.Result.{err_from_is_err_and, IfErr-weaker}
-use Rattle.runs.specs.Simulated.{run_of_source}
-use Rattle.runs.specs.Source.{seen_source}
-use Rattle.runs.proofs.Answers.{trace_of_source-bad, trace_of_source-good}
-use Rattle.runs.proofs.Ends.{RunEndsBy-BreaksOff, RunEndsBy-IsRefusal}
+use Rattle.prepared_runs.specs.Prepared.{run_of_source}
+use Rattle.prepared_runs.specs.Source.{seen_source}
+use Rattle.runs.proofs.Traces.{trace_of_source-bad, trace_of_source-good}
+use Rattle.prepared_runs.proofs.CallerLemmas.{RunEndsBy-BreaksOff, RunEndsBy-IsRefusal}
 use Rattle.runs.proofs.trace_run.trace.Goals as goal
 
 pub returns-in_err-run-clause-err : goal.returns-in_err-run-clause-err

@@ -3,9 +3,9 @@ use Rattle.std.specs.Io.KnownBytes.{Appends}
 use Rattle.std.proofs.lemmas.Result.{err_from_is_err_and}
 use Rattle.vcd_dump.specs.Bytes.{AppendsPrefix}
 use Rattle.event_trace.specs.Trace.{trace_text}
-use Rattle.runs.specs.Simulated.{seen_run}
-use Rattle.runs.proofs.Answers.{trace_of_run-is}
-use Rattle.runs.proofs.Ends.{BreaksOff-dump}
+use Rattle.prepared_runs.specs.Prepared.{seen_run}
+use Rattle.runs.proofs.Traces.{trace_of_run-is}
+use Rattle.prepared_runs.proofs.CallerLemmas.{BreaksOff-dump}
 use Rattle.runs.proofs.trace_run.trace_prepared.Goals as goal
 
 pub returns-in_err-trace-clause-err : goal.returns-in_err-trace-clause-err

@@ -1,0 +1,5 @@
+pub mod CallerLemmas
+mod Cones
+mod Infos
+mod Members
+mod StimuliTexts

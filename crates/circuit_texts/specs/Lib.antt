@@ -1,0 +1,3 @@
+pub mod ConeText
+pub mod Driven
+pub mod InfoText

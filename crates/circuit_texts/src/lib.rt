@@ -1,0 +1,10 @@
+//! Texts about a circuit, and of parts of it: what it is, fan-in cones, and stimuli of its inputs.
+#![tactic(auto)]
+
+mod cone_run;
+mod info_run;
+mod stimuli_run;
+
+pub use cone_run::cone_text;
+pub use info_run::info;
+pub use stimuli_run::stimuli;

@@ -1,0 +1,174 @@
+-- Which of the words of a command a fault is of: a number that is out of its range, or the name of a net.
+use Rattle.std.specs.Prelude.{ℕ, ◌&&◌, Bool, List, [], ◌∷◌, slice_get, option_and_then, option_map, Option, None, Some, Result, Ok, Err}
+use Rattle.std.specs.List.{find}
+use Rattle.std.specs.Option.{is_none}
+use Rattle.netlist.specs.Names.{seen_names}
+use Rattle.netlist.specs.Netlist.{NetlistView, net_named}
+use Rattle.bench_text.specs.declared.fault.BenchFault.{BenchFault}
+use Rattle.bench_text.specs.NetlistOf.{netlist_of}
+use Rattle.timing_text.specs.declared.fault.OptionFault.{OptionFault}
+use Rattle.timing_text.specs.declared.fault.OptionFault.TheVariants as setting
+use Rattle.drawn_stimuli.specs.declared.drive.Draws.{Draws}
+use Rattle.drawn_stimuli.specs.declared.drive.Driven.{Driven}
+use Rattle.drawn_stimuli.specs.declared.fault.DriveFault.{DriveFault}
+use Rattle.drawn_stimuli.specs.declared.fault.DriveFault.TheVariants as drive
+use Rattle.timing_diagram.specs.declared.fault.ColumnsFault.{ColumnsFault}
+use Rattle.timing_diagram.specs.declared.fault.ColumnsFault.TheVariants as columns
+use Rattle.wave_diff.specs.declared.fault.ComparedFault.{ComparedFault}
+use Rattle.wave_diff.specs.declared.fault.ComparedFault.TheVariants as compared
+use Rattle.prepared_runs.specs.declared.fault.SimFault.{SimFault}
+use Rattle.prepared_runs.specs.declared.fault.SimFault.TheVariants as sim
+use Rattle.prepared_runs.specs.declared.view.Show.{Show}
+use Rattle.prepared_runs.specs.declared.view.Show.TheVariants.{Named}
+use Rattle.plain_runs.specs.declared.diagram_run.DiagramView.{DiagramView}
+use Rattle.run_pairs.specs.declared.diff_run.DiffTicks.{DiffTicks}
+use Rattle.run_pairs.specs.declared.twin_run.Side.{Side}
+use Rattle.run_pairs.specs.declared.twin_run.Side.TheVariants.{First, Second}
+use Rattle.program_io.specs.declared.program_fault.ProgramFault.{ProgramFault}
+use Rattle.program_io.specs.declared.program_fault.ProgramFault.TheVariants as program
+use Rattle.orders.specs.declared.order.Order.{Order}
+use Rattle.orders.specs.declared.order.Order.TheVariants.{Run, Plain, Draw, Trace, Why, Stimuli, Info, Cone, Diff, Twin, Check}
+use Rattle.orders.specs.declared.order.SourceOptions.{SourceOptions}
+use Rattle.orders.specs.FileNames.{names_of}
+use Rattle.orders.specs.Options.{KnownTexts}
+
+-- ---- what an order was given
+
+-- the options of its run on a side
+abbrev pub options_on : Order → Side → Option SourceOptions
+options_on (Run options view counts) side = Some options
+options_on (Plain options view) side = Some options
+options_on (Draw options view) side = Some options
+options_on (Trace options horizon) side = Some options
+options_on (Why options net tick) side = Some options
+options_on (Check options horizon) side = Some options
+options_on (Diff first second names ticks) First = Some first
+options_on (Diff first second names ticks) Second = Some second
+options_on (Twin first second net horizon) First = Some first
+options_on (Twin first second net horizon) Second = Some second
+options_on (Stimuli bench drives draws horizon) side = None
+options_on (Info bench) side = None
+options_on (Cone bench names) side = None
+
+-- its last tick
+abbrev pub last_tick : Order → Option ℕ
+last_tick (Run options view counts) = Some view.horizon
+last_tick (Plain options view) = Some view.horizon
+last_tick (Draw options view) = Some view.horizon
+last_tick (Trace options horizon) = Some horizon
+last_tick (Why options net tick) = Some tick
+last_tick (Check options horizon) = Some horizon
+last_tick (Diff first second names ticks) = Some ticks.horizon
+last_tick (Twin first second net horizon) = Some horizon
+last_tick (Stimuli bench drives draws horizon) = Some horizon
+last_tick (Info bench) = None
+last_tick (Cone bench names) = None
+
+-- the diagram that it draws, the ticks that it compares, what it draws for inputs
+abbrev pub diagram_in : Order → Option DiagramView
+diagram_in (Draw options view) = Some view
+diagram_in other = None
+
+abbrev pub ticks_in : Order → Option DiffTicks
+ticks_in (Diff first second names ticks) = Some ticks
+ticks_in other = None
+
+abbrev pub draws_in : Order → Option Draws
+draws_in (Stimuli bench drives draws horizon) = Some draws
+draws_in other = None
+
+-- the name of the input that its drive of a place drives
+abbrev pub input_driven : Order → ℕ → Option (List ℕ)
+input_driven (Stimuli bench drives draws horizon) place = option_map (λ (driven : Driven). driven.name.now) (slice_get drives.items place)
+input_driven other place = None
+
+-- the nets that it asks for by name
+abbrev pub names_shown : Show → List (List ℕ)
+names_shown (Named names) = seen_names names.items
+names_shown other = []
+
+abbrev pub names_asked : Order → List (List ℕ)
+names_asked (Run options view counts) = names_shown view.show
+names_asked (Plain options view) = names_shown view.show
+names_asked (Draw options view) = names_shown view.show
+names_asked (Why options net tick) = net.now ∷ []
+names_asked (Cone bench names) = seen_names names.items
+names_asked (Diff first second names ticks) = seen_names names.items
+names_asked (Twin first second net horizon) = net.now ∷ []
+names_asked other = []
+
+-- ---- the number at fault
+
+abbrev pub number_of_setting : Order → Side → OptionFault → Option ℕ
+number_of_setting order side setting.BadDelay = option_map (λ (options : SourceOptions). options.delay) (options_on order side)
+number_of_setting order side setting.BadPeriod = option_map (λ (options : SourceOptions). options.period) (options_on order side)
+number_of_setting order side setting.BadHorizon = last_tick order
+
+-- of columns that are too many there is no such number
+abbrev pub number_of_columns : ColumnsFault → DiagramView → Option ℕ
+number_of_columns columns.NoStep view = Some view.step
+number_of_columns columns.Backwards view = Some view.to
+number_of_columns columns.PastHorizon view = Some view.to
+number_of_columns columns.TooManyColumns view = None
+
+abbrev pub number_of_ticks : ComparedFault → DiffTicks → Option ℕ
+number_of_ticks compared.BadEvery ticks = Some ticks.every
+number_of_ticks compared.PastHorizon ticks = Some ticks.from
+
+abbrev pub number_of_draws : DriveFault → Draws → Option ℕ
+number_of_draws drive.BadEvery draws = Some draws.every
+number_of_draws other draws = None
+
+abbrev pub number_in_run : Order → Side → SimFault → Option ℕ
+number_in_run order side (sim.Setting fault) = number_of_setting order side fault
+number_in_run order side (sim.Columns fault) = option_and_then (number_of_columns fault) (diagram_in order)
+number_in_run order side (sim.Compared fault) = option_and_then (number_of_ticks fault) (ticks_in order)
+number_in_run order side (sim.Drives fault) = option_and_then (number_of_draws fault) (draws_in order)
+number_in_run order side other = None
+
+abbrev pub number_at_fault : Order → ProgramFault → Option ℕ
+number_at_fault order (program.Run side fault) = number_in_run order side fault
+number_at_fault order other = None
+
+-- ---- the name at fault
+
+-- of drives: the place of the one at fault
+abbrev pub place_of_drive : DriveFault → Option ℕ
+place_of_drive (drive.NotAnInput place) = Some place
+place_of_drive (drive.Twice place) = Some place
+place_of_drive (drive.BadHalf place) = Some place
+place_of_drive (drive.BadPulse place) = Some place
+place_of_drive other = None
+
+-- the netlist of a text, if the text is known and is one
+abbrev pub if_read : Result NetlistView BenchFault → Option NetlistView
+if_read (Ok netlist) = Some netlist
+if_read (Err fault) = None
+
+abbrev pub netlist_in : Option (List ℕ) → Option NetlistView
+netlist_in text = option_and_then (λ text. if_read (netlist_of text)) text
+
+-- no net of either netlist has the name
+abbrev pub in_neither : NetlistView → NetlistView → List ℕ → Bool
+in_neither one other name = is_none (net_named one name) && is_none (net_named other name)
+
+-- the first such name, if both netlists are known
+abbrev pub first_in_neither : List (List ℕ) → Option NetlistView → Option NetlistView → Option (List ℕ)
+first_in_neither names one other = option_and_then (λ one. option_and_then (λ other. find (in_neither one other) names) other) one
+
+-- the first name that an order asks for and no net of its netlist has, for `diff` of neither of the two
+abbrev pub unknown_asked : KnownTexts → Order → Side → Option (List ℕ)
+unknown_asked held (Diff first second names ticks) side =
+    first_in_neither (seen_names names.items) (netlist_in (held first.bench.now)) (netlist_in (held second.bench.now))
+unknown_asked held order side =
+    let netlist = netlist_in (held (names_of order side).bench) in
+    first_in_neither (names_asked order) netlist netlist
+
+abbrev pub name_in_run : KnownTexts → Order → Side → SimFault → Option (List ℕ)
+name_in_run held order side sim.UnknownNet = unknown_asked held order side
+name_in_run held order side (sim.Drives fault) = option_and_then (input_driven order) (place_of_drive fault)
+name_in_run held order side other = None
+
+abbrev pub name_at_fault : KnownTexts → Order → ProgramFault → Option (List ℕ)
+name_at_fault held order (program.Run side fault) = name_in_run held order side fault
+name_at_fault held order other = None

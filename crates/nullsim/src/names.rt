@@ -1,0 +1,167 @@
+//! The name at fault among the words of a command.
+ghost use Rattle.std.specs.Prelude.{◌≡◌, option_and_then, option_map, IfOk};
+ghost use Rattle.std.specs.List.{find};
+ghost use Rattle.netlist.specs.Names.{seen_names};
+ghost use Rattle.orders.specs.FileNames.{names_of};
+ghost use Rattle.nullsim.specs.AtFault.{first_in_neither, in_neither, input_driven, name_at_fault, name_in_run, names_asked, names_shown, netlist_in, place_of_drive, unknown_asked};
+
+use crate::kept::KeptTexts;
+use bench_text::{BenchFault, read};
+use drawn_stimuli::DriveFault;
+use netlist::Netlist;
+use orders::Order;
+use prepared_runs::{Show, SimFault};
+use program_io::ProgramFault;
+use run_pairs::Side;
+use std::alloc::{AllocError, Global};
+use std::slice::from_ref;
+
+/// The name that a fault is of, where a word of the command gave it: the first one that no net has, for
+/// `diff` of neither circuit, where the circuit's text is kept; or that of the input whose drive is faulty.
+pub(crate) fn name_at_fault<'o, T: KeptTexts>(
+    alloc: Global,
+    order: &'o Order<'_>,
+    fault: ProgramFault<'_>,
+    texts: &T,
+) -> Result<Option<&'o [u8]>, AllocError>
+    ensures { IfOk result (λ name. option_map (λ name. name.now) name
+        ≡ name_at_fault (T.held texts.now) order.now fault.entry) }
+{
+    match fault {
+        ProgramFault::Run { side, fault } => name_in_run(alloc, order, side, fault, texts),
+        _ => Ok(None),
+    }
+}
+
+fn name_in_run<'o, T: KeptTexts>(
+    alloc: Global,
+    order: &'o Order<'_>,
+    side: Side,
+    fault: SimFault,
+    texts: &T,
+) -> Result<Option<&'o [u8]>, AllocError>
+    ensures { IfOk result (λ name. option_map (λ name. name.now) name
+        ≡ name_in_run (T.held texts.now) order.now side fault) }
+{
+    match fault {
+        SimFault::UnknownNet => unknown_asked(alloc, order, side, texts),
+        SimFault::Drives(fault) => Ok(input_at(order, place_of_drive(fault))),
+        _ => Ok(None),
+    }
+}
+
+/// The first name that an order asks for and no net of its netlist has, for `diff` of neither of the two.
+fn unknown_asked<'o, T: KeptTexts>(
+    alloc: Global,
+    order: &'o Order<'_>,
+    side: Side,
+    texts: &T,
+) -> Result<Option<&'o [u8]>, AllocError>
+    ensures { IfOk result (λ name. option_map (λ name. name.now) name
+        ≡ unknown_asked (T.held texts.now) order.now side) }
+{
+    match order {
+        Order::Diff {
+            first,
+            second,
+            names,
+            ..
+        } => {
+            let one = netlist_in(alloc, texts.kept(first.bench))?;
+            let other = netlist_in(alloc, texts.kept(second.bench))?;
+            Ok(first_in_neither(names.as_slice(), &one, &other))
+        }
+        _ => {
+            let netlist = netlist_in(alloc, texts.kept(order.text_names(side).bench))?;
+            Ok(first_in_neither(names_asked(order), &netlist, &netlist))
+        }
+    }
+}
+
+/// The netlist of a text, where the text is known and is one.
+fn netlist_in(alloc: Global, text: Option<&[u8]>) -> Result<Option<Netlist>, AllocError>
+    ensures { IfOk result (λ netlist. netlist ≡ netlist_in (option_map (λ text. text.now) text.entry)) }
+{
+    let Some(text) = text else {
+        return Ok(None);
+    };
+    match read(alloc, text) {
+        Ok(netlist) => Ok(Some(netlist)),
+        Err(BenchFault::Memory) => Err(AllocError),
+        Err(_) => Ok(None),
+    }
+}
+
+/// The first of these names that no net of either netlist has, where both are known.
+fn first_in_neither<'a>(
+    names: &[&'a [u8]],
+    one: &Option<Netlist>,
+    other: &Option<Netlist>,
+) -> Option<&'a [u8]>
+    ensures { option_map (λ name. name.now) result ≡ first_in_neither (seen_names names.now) one.now other.now }
+{
+    match (one, other) {
+        (Some(one), Some(other)) => first_unknown(names, one, other),
+        _ => None,
+    }
+}
+
+fn first_unknown<'a>(names: &[&'a [u8]], one: &Netlist, other: &Netlist) -> Option<&'a [u8]>
+    ensures { option_map (λ name. name.now) result ≡ find (in_neither one.now other.now) (seen_names names.now) }
+{
+    names.iter().copied().find(|name| one.find(name).is_none() && other.find(name).is_none())
+}
+
+/// The nets that an order asks for by name.
+fn names_asked<'o, 'a>(order: &'o Order<'a>) -> &'o [&'a [u8]]
+    ensures { seen_names result.now ≡ names_asked order.now }
+{
+    match order {
+        Order::Run { view, .. } => names_shown(&view.show),
+        Order::Plain { view, .. } => names_shown(&view.show),
+        Order::Draw { view, .. } => names_shown(&view.show),
+        Order::Why { net, .. } => from_ref(net),
+        Order::Cone { names, .. } => names.as_slice(),
+        Order::Diff { names, .. } => names.as_slice(),
+        Order::Twin { net, .. } => from_ref(net),
+        _ => &[],
+    }
+}
+
+fn names_shown<'o, 'a>(show: &'o Show<'a>) -> &'o [&'a [u8]]
+    ensures { seen_names result.now ≡ names_shown show.now }
+{
+    match show {
+        Show::Named(names) => names.as_slice(),
+        Show::All | Show::Outputs => &[],
+    }
+}
+
+/// The place of the drive at fault.
+fn place_of_drive(fault: DriveFault) -> Option<usize>
+    ensures { result ≡ place_of_drive fault }
+{
+    match fault {
+        DriveFault::NotAnInput { place }
+        | DriveFault::Twice { place }
+        | DriveFault::BadHalf { place }
+        | DriveFault::BadPulse { place } => Some(place),
+        DriveFault::BadEvery | DriveFault::TooLong | DriveFault::Memory => None,
+    }
+}
+
+/// The name of the input that the drive of a place drives, if there is one.
+fn input_at<'o>(order: &'o Order<'_>, place: Option<usize>) -> Option<&'o [u8]>
+    ensures { option_map (λ name. name.now) result ≡ option_and_then (input_driven order.now) place }
+{
+    input_driven(order, place?)
+}
+
+fn input_driven<'o>(order: &'o Order<'_>, place: usize) -> Option<&'o [u8]>
+    ensures { option_map (λ name. name.now) result ≡ input_driven order.now place }
+{
+    match order {
+        Order::Stimuli { drives, .. } => Some(drives.get(place)?.name),
+        _ => None,
+    }
+}

@@ -1,0 +1,140 @@
+//! The number at fault among the words of a command.
+ghost use Rattle.std.specs.Prelude.{◌≡◌, option_map};
+ghost use Rattle.nullsim.specs.AtFault.{diagram_in, draws_in, last_tick, number_at_fault, number_in_run, number_of_columns, number_of_draws, number_of_setting, number_of_ticks, options_on, ticks_in};
+
+use drawn_stimuli::{Draws, DriveFault};
+use orders::{Order, SourceOptions};
+use plain_runs::DiagramView;
+use prepared_runs::SimFault;
+use program_io::ProgramFault;
+use run_pairs::{DiffTicks, Side};
+use timing_diagram::ColumnsFault;
+use timing_text::OptionFault;
+use wave_diff::ComparedFault;
+
+/// The number that a fault is of, where a word of the command gave it.
+pub(crate) fn number_at_fault(order: &Order<'_>, fault: ProgramFault<'_>) -> Option<u64>
+    ensures { result ≡ number_at_fault order.now fault.entry }
+{
+    match fault {
+        ProgramFault::Run { side, fault } => number_in_run(order, side, fault),
+        _ => None,
+    }
+}
+
+fn number_in_run(order: &Order<'_>, side: Side, fault: SimFault) -> Option<u64>
+    ensures { result ≡ number_in_run order.now side fault }
+{
+    match fault {
+        SimFault::Setting(fault) => number_of_setting(order, side, fault),
+        SimFault::Columns(fault) => number_of_columns(fault, diagram_in(order)?),
+        SimFault::Compared(fault) => number_of_ticks(fault, ticks_in(order)?),
+        SimFault::Drives(fault) => number_of_draws(fault, draws_in(order)?),
+        _ => None,
+    }
+}
+
+fn number_of_setting(order: &Order<'_>, side: Side, fault: OptionFault) -> Option<u64>
+    ensures { result ≡ number_of_setting order.now side fault }
+{
+    match fault {
+        OptionFault::BadDelay => Some(options_on(order, side)?.delay),
+        OptionFault::BadPeriod => Some(options_on(order, side)?.period),
+        OptionFault::BadHorizon => last_tick(order),
+    }
+}
+
+fn number_of_columns(fault: ColumnsFault, view: &DiagramView<'_>) -> Option<u64>
+    ensures { result ≡ number_of_columns fault view.now }
+{
+    match fault {
+        ColumnsFault::NoStep => Some(view.step),
+        ColumnsFault::Backwards | ColumnsFault::PastHorizon => Some(view.to),
+        ColumnsFault::TooManyColumns => None,
+    }
+}
+
+fn number_of_ticks(fault: ComparedFault, ticks: DiffTicks) -> Option<u64>
+    ensures { result ≡ number_of_ticks fault ticks }
+{
+    match fault {
+        ComparedFault::BadEvery => Some(ticks.every),
+        ComparedFault::PastHorizon => Some(ticks.from),
+    }
+}
+
+fn number_of_draws(fault: DriveFault, draws: Draws) -> Option<u64>
+    ensures { result ≡ number_of_draws fault draws }
+{
+    match fault {
+        DriveFault::BadEvery => Some(draws.every),
+        _ => None,
+    }
+}
+
+/// The options of an order's run on a side.
+fn options_on<'o, 'a>(order: &'o Order<'a>, side: Side) -> Option<SourceOptions<'a>>
+    ensures { result ≡ options_on order.now side }
+{
+    match (order, side) {
+        (Order::Run { source, .. }, _) => Some(*source),
+        (Order::Plain { source, .. }, _) => Some(*source),
+        (Order::Draw { source, .. }, _) => Some(*source),
+        (Order::Trace { source, .. }, _) => Some(*source),
+        (Order::Why { source, .. }, _) => Some(*source),
+        (Order::Check { source, .. }, _) => Some(*source),
+        (Order::Diff { first, .. }, Side::First) => Some(*first),
+        (Order::Diff { second, .. }, Side::Second) => Some(*second),
+        (Order::Twin { first, .. }, Side::First) => Some(*first),
+        (Order::Twin { second, .. }, Side::Second) => Some(*second),
+        _ => None,
+    }
+}
+
+/// The last tick that an order was given.
+fn last_tick(order: &Order<'_>) -> Option<u64>
+    ensures { result ≡ last_tick order.now }
+{
+    match order {
+        Order::Run { view, .. } => Some(view.horizon),
+        Order::Plain { view, .. } => Some(view.horizon),
+        Order::Draw { view, .. } => Some(view.horizon),
+        Order::Trace { horizon, .. } => Some(*horizon),
+        Order::Why { tick, .. } => Some(*tick),
+        Order::Check { horizon, .. } => Some(*horizon),
+        Order::Diff { ticks, .. } => Some(ticks.horizon),
+        Order::Twin { horizon, .. } => Some(*horizon),
+        Order::Stimuli { horizon, .. } => Some(*horizon),
+        Order::Info { .. } | Order::Cone { .. } => None,
+    }
+}
+
+/// The diagram that an order draws.
+fn diagram_in<'o, 'a>(order: &'o Order<'a>) -> Option<&'o DiagramView<'a>>
+    ensures { option_map (λ view. view.now) result ≡ diagram_in order.now }
+{
+    match order {
+        Order::Draw { view, .. } => Some(view),
+        _ => None,
+    }
+}
+
+/// The ticks that an order compares.
+fn ticks_in(order: &Order<'_>) -> Option<DiffTicks>
+    ensures { result ≡ ticks_in order.now }
+{
+    match order {
+        Order::Diff { ticks, .. } => Some(*ticks),
+        _ => None,
+    }
+}
+
+/// What an order draws for inputs.
+fn draws_in(order: &Order<'_>) -> Option<Draws>
+    ensures { result ≡ draws_in order.now }
+{
+    match order {
+        Order::Stimuli { draws, .. } => Some(*draws),
+        _ => None,
+    }
+}

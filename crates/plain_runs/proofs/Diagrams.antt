@@ -1,0 +1,64 @@
+-- The timing diagram of a run, step by step.
+use Rattle.std.proofs.Common.{◌≡◌, ℕ, ◌+◌, ◌≤◌, IsTrue, List, Ok, Err, refl, ap, ◌∙◌, arith}
+use Rattle.logic3.specs.Wave.{Wave, value_at, wave_of}
+use Rattle.logic3.proofs.CallerLemmas.{value_at-wave_of}
+use Rattle.timing_text.specs.declared.fault.OptionFault.{OptionFault}
+use Rattle.timing_text.specs.Options.{horizon_of}
+use Rattle.design.specs.Design.{DesignView}
+use Rattle.design.specs.Equations.{value_of}
+use Rattle.vcd_dump.specs.Traces.{name_of, traces}
+use Rattle.timing_diagram.specs.Columns.{Ticks, IsDrawable, columns_of}
+use Rattle.timing_diagram.specs.Drawing.{drawing}
+use Rattle.timing_diagram.proofs.CallerLemmas.{drawing-same}
+use Rattle.plain_runs.specs.declared.diagram_run.DiagramView.{DiagramView}
+use Rattle.prepared_runs.specs.declared.fault.SimFault.{SimFault}
+use Rattle.prepared_runs.specs.declared.fault.SimFault.TheVariants.{Setting, Columns}
+use Rattle.plain_runs.specs.Drawn.{diagram_of_design, diagram_of_source, ticks_of_view}
+use Rattle.prepared_runs.specs.Source.{SourceView, design_of_source, if_known, knows_shown, or_fault, shown_nets, signals_of}
+use Rattle.prepared_runs.specs.Shown.{waves_up_to}
+use Rattle.prepared_runs.proofs.CallerLemmas.{unknown_for, traces-map}
+
+module _ (view : DiagramView) where
+  pub ticks_of_view-bad : (fault : OptionFault) → horizon_of view.horizon ≡ Err fault → ticks_of_view view ≡ Err (Setting fault)
+  unfolding ticks_of_view
+  ticks_of_view-bad fault bad = rw bad refl
+
+  pub ticks_of_view-good : (horizon : ℕ) → horizon_of view.horizon ≡ Ok horizon →
+      ticks_of_view view ≡ or_fault Columns (columns_of view.from view.to view.step horizon)
+  unfolding ticks_of_view
+  ticks_of_view-good horizon good = rw good refl
+
+module _ (source : SourceView) (view : DiagramView) where
+  -- a fault of the ticks is the answer
+  pub diagram_of_source-bad_ticks : (fault : SimFault) → ticks_of_view view ≡ Err fault → diagram_of_source source view ≡ Err fault
+  unfolding diagram_of_source
+  diagram_of_source-bad_ticks fault bad = rw bad refl
+
+  module _ (ticks : Ticks) (drawn : ticks_of_view view ≡ Ok ticks) where
+    -- so is one of the design
+    pub diagram_of_source-bad : (fault : SimFault) → design_of_source source view.horizon ≡ Err fault → diagram_of_source source view ≡ Err fault
+    unfolding diagram_of_source
+    diagram_of_source-bad fault bad = rw (drawn, bad) refl
+
+    module _ (horizon : ℕ) (design : DesignView) (made : design_of_source source view.horizon ≡ Ok (horizon, design)) where
+      -- so is a net that isn't there
+      pub diagram_of_source-unknown : {A : Type 0} (shown : A) (fault : SimFault) → if_known view.show design.netlist shown ≡ Err fault →
+          diagram_of_source source view ≡ Err fault
+      unfolding diagram_of_source
+      diagram_of_source-unknown shown fault unknown = rw (drawn, made) (unknown_for view.show design.netlist shown _ fault unknown)
+
+      pub diagram_of_source-good : IsTrue (knows_shown view.show design.netlist) → diagram_of_source source view ≡ Ok (diagram_of_design view ticks design)
+      unfolding diagram_of_source
+      diagram_of_source-good known = rw (drawn, made, known) refl
+
+-- what is drawn of the shown nets' waveforms is the answer's text
+pub diagram_of_design-waves : (view : DiagramView) (ticks : Ticks) (horizon : ℕ) (design : DesignView) (nets : List ℕ) (waves : List Wave) →
+    IsDrawable ticks → ticks.to ≤ horizon → nets ≡ shown_nets view.show design.netlist → waves ≡ waves_up_to design.circuit horizon nets →
+    drawing view.form ticks (traces design.circuit nets waves) ≡ diagram_of_design view ticks design
+unfolding diagram_of_design
+diagram_of_design-waves view ticks horizon design nets waves ok within are show =
+    ap (λ ws. drawing view.form ticks (traces design.circuit nets ws)) show
+    ∙ ap (drawing view.form ticks) (traces-map design.circuit (λ net. wave_of (value_of design.circuit net) 0 (horizon + 1)) nets)
+    ∙ drawing-same ticks ok (name_of design.circuit) (λ net. value_at (wave_of (value_of design.circuit net) 0 (horizon + 1))) (value_of design.circuit)
+    (λ net tick inside. value_at-wave_of (value_of design.circuit net) 0 (horizon + 1) tick (omega arith) (omega arith)) view.form nets
+    ∙ ap (λ ns. drawing view.form ticks (signals_of design.circuit ns)) are

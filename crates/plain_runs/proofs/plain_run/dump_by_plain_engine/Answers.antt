@@ -1,0 +1,18 @@
+use Rattle.std.proofs.lemmas.Result.{err_from_is_err_and}
+use Rattle.prepared_runs.proofs.CallerLemmas.{BreaksOff-memory}
+use Rattle.run_progress.proofs.CallerLemmas.{tick_by_tick-behind}
+use Rattle.plain_runs.proofs.plain_run.dump_by_plain_engine.Goals as goal
+
+pub returns-in_err-waves-clause-err : goal.returns-in_err-waves-clause-err
+returns-in_err-waves-clause-err g c =
+    let p = err_from_is_err_and c.from_residual.result c.from_residual.ensures.1 in
+    rw (p.1, p.2) (BreaksOff-memory _ _)
+
+pub returns-in_err-waves-clause-told : goal.returns-in_err-waves-clause-told
+returns-in_err-waves-clause-told g c =
+    let p = err_from_is_err_and c.from_residual.result c.from_residual.ensures.1 in
+    rw p.1 c.in_err-waves.ensures.told
+
+pub returns-clause-told : goal.returns-clause-told
+returns-clause-told g c =
+    tick_by_tick-behind (g.P.Progress.tells c.args.horizon) c.write_dump.result c.args.horizon c.args.progress.now c.shown_waves.new.progress c.in_ok-waves.ensures.told

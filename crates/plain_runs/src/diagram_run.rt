@@ -1,0 +1,105 @@
+//! The timing diagram of a run.
+ghost use Rattle.std.specs.Prelude.{◌≡◌, ◌≢◌, ◌≤◌, Ok, Err, IfErr, IfOk, IsOkAnd, OnOk};
+ghost use Rattle.std.specs.Io.KnownBytes.{Appends};
+ghost use Rattle.design.specs.Design.{IsDesign};
+ghost use Rattle.timing_diagram.specs.Columns.{IsDrawable};
+ghost use Rattle.plain_runs.specs.Drawn.{diagram_of_design, diagram_of_source, ticks_of_view};
+ghost use Rattle.prepared_runs.specs.Ends.{BreaksOff, IsRefusal, RunEndsBy};
+ghost use Rattle.prepared_runs.specs.Source.{seen_source, shown_nets, MayWantMemory};
+ghost use Rattle.prepared_runs.specs.declared.fault.SimFault.TheVariants.{Memory};
+
+use crate::plain_run::shown_waves;
+use design::Design;
+use prepared_runs::{Show, SimFault, Source, prepare, shown_nets};
+use run_progress::Silent;
+use std::alloc::Global;
+use std::io::Write;
+use timing_diagram::{Columns, Form, draw};
+use timing_text::Horizon;
+
+/// What a timing diagram shows of a run.
+#[derive(Debug, Drop)]
+pub struct DiagramView<'a> {
+    /// Which nets it shows, from top to bottom.
+    pub show: Show<'a>,
+    /// The last tick of the run: at most 10,000,000.
+    pub horizon: u64,
+    /// The first tick that is drawn.
+    pub from: u64,
+    /// The last tick that is drawn: at most the horizon.
+    pub to: u64,
+    /// How many ticks a column has: at least 1, and so many that there are at most 1,000 columns.
+    pub step: u64,
+    pub form: Form,
+}
+
+/// Writes the timing diagram of a run, which goes by the plain engine to its horizon.
+///
+/// A column shows what the equations give the net at the column's ticks.
+///
+/// # Errors
+/// The horizon and the columns are looked at first, then the settings and the texts, and then the names
+/// of nets that are to be shown ([`SimFault::UnknownNet`]); a refusal comes
+/// before the first byte is written, and the diagram is made whole before that. After a failed write a
+/// first part of it went out.
+pub fn diagram<W: Write>(
+    alloc: Global,
+    source: &Source<'_>,
+    view: &DiagramView<'_>,
+    out: &mut W,
+) -> Result<(), SimFault>
+    ensures ok { OnOk result (IsOkAnd (diagram_of_source (seen_source source.now) view.now)
+        (Appends (W.contents out.old) (W.contents out.new))) }
+    ensures err { IfErr result (RunEndsBy (diagram_of_source (seen_source source.now) view.now)
+        (W.contents out.old) (W.contents out.new)) }
+    ensures memory { result ≡ Err Memory → MayWantMemory (seen_source source.now) view.now.horizon }
+{
+    let columns = columns_of(view)?;
+    let (design, horizon) = prepare(alloc, source, view.horizon)?;
+    let nets = shown_nets(alloc, &design, &view.show)?;
+    draw_design(alloc, &design, horizon, view, nets.as_slice(), columns, out)
+}
+
+/// The columns of a diagram.
+fn columns_of(view: &DiagramView<'_>) -> Result<Columns, SimFault>
+    ensures ok { IfOk result (λ ticks. ticks_of_view view.now ≡ Ok ticks) }
+    ensures drawable { IfOk result IsDrawable }
+    ensures within { IfOk result (λ ticks. ticks.to ≤ view.now.horizon) }
+    ensures err { IfErr result (IsRefusal (ticks_of_view view.now)) }
+    ensures no_memory { IfErr result (λ fault. fault ≢ Memory) }
+{
+    let horizon = Horizon::new(view.horizon)?;
+    Ok(Columns::new(view.from, view.to, view.step, horizon)?)
+}
+
+/// Runs a design by the plain engine, and draws these nets, which are those that are shown.
+fn draw_design<W: Write>(
+    alloc: Global,
+    design: &Design,
+    horizon: Horizon,
+    view: &DiagramView<'_>,
+    nets: &[u32],
+    columns: Columns,
+    out: &mut W,
+) -> Result<(), SimFault>
+    requires nets { nets.now ≡ shown_nets view.now.show design.now.netlist }
+    requires well_formed { IsDesign design.now }
+    requires drawable { IsDrawable columns }
+    requires within { columns.to ≤ horizon }
+    ensures ok { OnOk result (Appends (W.contents out.old) (W.contents out.new)
+        (diagram_of_design view.now columns design.now)) }
+    ensures err { IfErr result (BreaksOff (W.contents out.old) (W.contents out.new)
+        (diagram_of_design view.now columns design.now)) }
+{
+    let waves = shown_waves(alloc, design, horizon, &view.show, nets, &mut Silent)?;
+    draw(
+        alloc,
+        out,
+        design,
+        nets,
+        waves.as_slice(),
+        columns,
+        view.form,
+    )?;
+    Ok(())
+}

@@ -1,0 +1,158 @@
+//! A run by the plain engine.
+ghost use Rattle.std.specs.Prelude.{◌≡◌, ◌+◌, ◌<◌, [], map, length, All, Some, IfOk, IfErr, IfSome, OnOk, IsOkAnd, Err};
+ghost use Rattle.std.specs.Io.KnownBytes.{Appends};
+ghost use Rattle.design.specs.Design.{IsDesign};
+ghost use Rattle.design.specs.Equations.{waves_of};
+ghost use Rattle.run_progress.specs.Told.{IsTickByTick, Told};
+ghost use Rattle.prepared_runs.specs.Source.{design_of_source, dump_of_design, dump_of_source, seen_source, shown_nets, MayWantMemory};
+ghost use Rattle.prepared_runs.specs.Ends.{BreaksOff, RunEndsBy};
+ghost use Rattle.prepared_runs.specs.Shown.{wave_at, waves_up_to};
+ghost use Rattle.prepared_runs.specs.Viewed.{ShowsValues};
+ghost use Rattle.prepared_runs.specs.declared.fault.SimFault.TheVariants.{Memory};
+
+use crate::dumping::write_dump;
+use design::Design;
+use design::plain::{advance, unknown_waves};
+use logic3::Waveform;
+use prepared_runs::{Show, SimFault, Source, View, prepare, shown_nets};
+use run_progress::{Progress, Silent};
+use std::alloc::{AllocError, Global};
+use std::io::Write;
+use timing_text::Horizon;
+
+/// Writes the dump of a run.
+///
+/// The text that goes out shows each shown net's value at every tick, as the equations give it.
+///
+/// # Errors
+/// A refusal of the settings or of a text comes before the first byte is written; the settings and
+/// the length of the netlist's text are looked at before any memory is taken. Behind them comes
+/// [`SimFault::UnknownNet`], where no net has a name that is to be shown. After a failed write
+/// or a want of memory a first part of the dump went out, which may be nothing.
+pub fn plain<W: Write>(
+    alloc: Global,
+    source: &Source<'_>,
+    view: &View<'_>,
+    out: &mut W,
+) -> Result<(), SimFault>
+    ensures ok { OnOk result (IsOkAnd (dump_of_source (seen_source source.now) view.now)
+        (Appends (W.contents out.old) (W.contents out.new))) }
+    ensures shows { OnOk result (W.contents out.old ≡ Some [] → IfSome (W.contents out.new) (λ text.
+        IsOkAnd (design_of_source (seen_source source.now) view.now.horizon)
+        (λ ready. ShowsValues view.now ready.1 text))) }
+    ensures err { IfErr result (RunEndsBy (dump_of_source (seen_source source.now) view.now)
+        (W.contents out.old) (W.contents out.new)) }
+    ensures memory { result ≡ Err Memory → MayWantMemory (seen_source source.now) view.now.horizon }
+{
+    plain_with_progress(alloc, source, view, out, &mut Silent)
+}
+
+/// Writes the dump of a run, as [`plain`] does, and tells how far the run is: each number of ticks, from 0
+/// on, once so many are known, and so many as the run has at last. The dump goes out behind that.
+///
+/// # Errors
+/// As [`plain`]; nothing is told of a source or a view that is refused.
+pub fn plain_with_progress<W: Write, P: Progress>(
+    alloc: Global,
+    source: &Source<'_>,
+    view: &View<'_>,
+    out: &mut W,
+    progress: &mut P,
+) -> Result<(), SimFault>
+    ensures ok { OnOk result (IsOkAnd (dump_of_source (seen_source source.now) view.now)
+        (Appends (W.contents out.old) (W.contents out.new))) }
+    ensures shows { OnOk result (W.contents out.old ≡ Some [] → IfSome (W.contents out.new) (λ text.
+        IsOkAnd (design_of_source (seen_source source.now) view.now.horizon)
+        (λ ready. ShowsValues view.now ready.1 text))) }
+    ensures err { IfErr result (RunEndsBy (dump_of_source (seen_source source.now) view.now)
+        (W.contents out.old) (W.contents out.new)) }
+    ensures memory { result ≡ Err Memory → MayWantMemory (seen_source source.now) view.now.horizon }
+    ensures told { Told (P.tells view.now.horizon) (IsTickByTick result view.now.horizon) progress.old progress.new }
+{
+    let (design, horizon) = prepare(alloc, source, view.horizon)?;
+    let nets = shown_nets(alloc, &design, &view.show)?;
+    dump_by_plain_engine(
+        alloc,
+        &design,
+        horizon,
+        view,
+        nets.as_slice(),
+        out,
+        progress,
+    )
+}
+
+/// Runs a design by the plain engine, and writes the dump of these nets, which are those that are shown.
+fn dump_by_plain_engine<W: Write, P: Progress>(
+    alloc: Global,
+    design: &Design,
+    horizon: Horizon,
+    view: &View<'_>,
+    nets: &[u32],
+    out: &mut W,
+    progress: &mut P,
+) -> Result<(), SimFault>
+    requires nets { nets.now ≡ shown_nets view.now.show design.now.netlist }
+    requires well_formed { IsDesign design.now }
+    ensures ok { OnOk result (Appends (W.contents out.old) (W.contents out.new)
+        (dump_of_design view.now horizon design.now)) }
+    ensures err { IfErr result (BreaksOff (W.contents out.old) (W.contents out.new)
+        (dump_of_design view.now horizon design.now)) }
+    ensures told { Told (P.tells horizon) (IsTickByTick result horizon) progress.old progress.new }
+{
+    let waves = shown_waves(alloc, design, horizon, &view.show, nets, progress)?;
+    write_dump(alloc, design, horizon, view, nets, waves.as_slice(), out)
+}
+
+/// The waveforms of the nets that are shown; tells how far the engine is with all of them.
+pub(crate) fn shown_waves<P: Progress>(
+    alloc: Global,
+    design: &Design,
+    horizon: Horizon,
+    show: &Show<'_>,
+    nets: &[u32],
+    progress: &mut P,
+) -> Result<Vec<Waveform>, AllocError>
+    requires nets { nets.now ≡ shown_nets show.now design.now.netlist }
+    requires well_formed { IsDesign design.now }
+    ensures waves { IfOk result (λ waves. waves.items ≡ waves_up_to design.now.circuit horizon nets.now) }
+    ensures told { Told (P.tells horizon) (IsTickByTick result horizon) progress.old progress.new }
+{
+    let waves = all_waves(alloc, design, horizon, progress)?;
+    match show {
+        Show::All => Ok(waves),
+        Show::Outputs | Show::Named(_) => copies(alloc, waves.as_slice(), nets),
+    }
+}
+
+/// The waveforms of all nets, in their order; tells how far the engine is.
+fn all_waves<P: Progress>(
+    alloc: Global,
+    design: &Design,
+    horizon: Horizon,
+    progress: &mut P,
+) -> Result<Vec<Waveform>, AllocError>
+    ensures waves { IfOk result (λ waves. waves.items ≡ waves_of design.now.circuit (horizon + 1)) }
+    ensures told { Told (P.tells horizon) (IsTickByTick result horizon) progress.old progress.new }
+{
+    let mut waves = unknown_waves(alloc, design)?;
+    let mut values = Vec::new(alloc);
+    progress.tell(0, horizon);
+    for tick in 0..horizon.ticks() + 1 {
+        advance(design, tick, &mut waves, &mut values)?;
+        progress.tell(tick + 1, horizon);
+    }
+    Ok(waves)
+}
+
+/// Copies of the waveforms of these nets.
+fn copies(alloc: Global, waves: &[Waveform], nets: &[u32]) -> Result<Vec<Waveform>, AllocError>
+    requires { All (λ net. net < length waves.now) nets.now }
+    ensures { IfOk result (λ copies. copies.items ≡ map (wave_at waves.now) nets.now) }
+{
+    let mut copies = Vec::with_capacity(alloc, nets.len())?;
+    for net in nets {
+        copies.push(waves[*net as usize].copy()?)?;
+    }
+    Ok(copies)
+}

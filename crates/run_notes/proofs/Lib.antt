@@ -1,0 +1,4 @@
+mod Answer
+mod Listed
+mod Throughout
+mod Tested

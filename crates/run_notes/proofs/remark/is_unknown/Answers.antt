@@ -1,0 +1,14 @@
+use Rattle.std.proofs.Common.{◌+◌, length, ap, ◌∙◌, arith}
+use Rattle.prepared_runs.proofs.CallerLemmas.{length-waves_of}
+use Rattle.run_notes.proofs.Throughout.{unknown_by_changes}
+use Rattle.run_notes.proofs.remark.is_unknown.Goals as goal
+
+pub bounds-waves-net : goal.bounds-waves-net
+bounds-waves-net c =
+    omega (arith, c.requires.net, ap length c.requires.waves, length-waves_of c.args.design.now.circuit (c.args.horizon + 1))
+
+pub returns : goal.returns
+returns c =
+    c.is_empty.ensures
+    ∙ unknown_by_changes c.args.design.now.circuit c.args.horizon c.args.net c.args.waves.now c.index-waves-net.result c.changes.result.now c.requires.net
+    c.requires.waves c.index-waves-net.is c.changes.ensures.changes

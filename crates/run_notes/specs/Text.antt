@@ -1,0 +1,35 @@
+-- Notes as text, a line each.
+use Rattle.std.specs.Prelude.{ℕ, ◌==◌, if◌then◌else◌, List, [], ◌++◌, codes, flat_map, length}
+use Rattle.netlist.specs.Netlist.{NetlistView, name_at}
+use Rattle.design.specs.Design.{DesignView}
+use Rattle.run_notes.specs.declared.remark.Remark.{Remark}
+use Rattle.run_notes.specs.declared.remark.Remark.TheVariants.{Undriven, Late, Unknown}
+use Rattle.run_notes.specs.Remarks.{noted_nets}
+
+-- what a line says of the nets that it names
+abbrev pub words_of : Remark → List ℕ
+words_of Undriven = codes "inputs without a stimulus, X throughout"
+words_of Late = codes "inputs with stimuli past the horizon, which play no part"
+words_of Unknown = codes "other nets that are X throughout"
+
+-- the names of these nets, a blank before each
+abbrev pub names_behind : NetlistView → List ℕ → List ℕ
+names_behind netlist nets = flat_map (λ net. codes " " ++ name_at netlist net) nets
+
+-- the line that names some nets; none where there are no nets
+abbrev pub nets_note : NetlistView → List ℕ → List ℕ → List ℕ
+nets_note netlist words nets =
+    if length nets == 0 then [] else (codes "note: " ++ words ++ codes ":" ++ names_behind netlist nets ++ codes "\n")
+
+-- the line that tells that there are no outputs, where there are none
+abbrev pub outputs_note : NetlistView → List ℕ
+outputs_note netlist = if length netlist.outputs == 0 then codes "note: no net is an output\n" else []
+
+-- the line of a remark
+abbrev pub remark_note : Remark → ℕ → DesignView → List ℕ
+remark_note remark horizon design = nets_note design.netlist (words_of remark) (noted_nets remark horizon design.circuit)
+
+-- all that is noted of a run to a horizon
+unfoldable pub notes_of_design : ℕ → DesignView → List ℕ
+notes_of_design horizon design =
+    outputs_note design.netlist ++ remark_note Undriven horizon design ++ remark_note Late horizon design ++ remark_note Unknown horizon design

@@ -1,0 +1,19 @@
+//! Facts about the notes alone.
+ghost use Rattle.std.specs.Prelude.{◌≡◌, ◌⊎◌, ℕ, ◌<◌, ◌≤◌, length, Contains};
+ghost use Rattle.logic3.specs.declared.value.Value.TheVariants as value;
+ghost use Rattle.design.specs.Circuit.{Circuit};
+ghost use Rattle.design.specs.Equations.{value_of};
+ghost use Rattle.run_notes.specs.declared.remark.Remark.TheVariants.{Undriven, Unknown};
+ghost use Rattle.run_notes.specs.Remarks.{noted_nets};
+
+/// An input that is noted as undriven shows X at every tick, and any other net that is noted as X throughout shows X at
+/// every tick to the horizon. Each net that shows X at all of these is noted so or so.
+pub fn notes_tell_of_x()
+    ensures undriven { (circuit : Circuit) (horizon net tick : ℕ) → Contains (noted_nets Undriven horizon circuit) net →
+        value_of circuit net tick ≡ value.Unknown }
+    ensures unknown { (circuit : Circuit) (horizon net tick : ℕ) → Contains (noted_nets Unknown horizon circuit) net →
+        tick ≤ horizon → value_of circuit net tick ≡ value.Unknown }
+    ensures all { (circuit : Circuit) (horizon net : ℕ) → net < length circuit →
+        ((tick : ℕ) → tick ≤ horizon → value_of circuit net tick ≡ value.Unknown) →
+        Contains (noted_nets Undriven horizon circuit) net ⊎ Contains (noted_nets Unknown horizon circuit) net }
+{}

@@ -1,0 +1,49 @@
+//! Notes as text, a line each.
+ghost use Rattle.std.specs.Prelude.{◌≡◌, ◌<◌, ◌++◌, length, All, OnOk};
+ghost use Rattle.run_notes.specs.Text.{names_behind, nets_note, outputs_note};
+
+use netlist::Netlist;
+use std::alloc::AllocError;
+
+/// Adds the line that tells that there are no outputs, where there are none.
+pub(crate) fn push_outputs_note(text: &mut Vec<u8>, netlist: &Netlist) -> Result<(), AllocError>
+    ensures { OnOk result (text.new.items ≡ text.old.items ++ outputs_note netlist.now) }
+{
+    if netlist.outputs().is_empty() {
+        text.extend_from_slice(b"note: no net is an output\n")?;
+    }
+    Ok(())
+}
+
+/// Adds the line that says this of these nets, where there are any.
+pub(crate) fn push_nets_note(
+    text: &mut Vec<u8>,
+    netlist: &Netlist,
+    words: &str,
+    nets: &[u32],
+) -> Result<(), AllocError>
+    requires { All (λ net. net < length netlist.now.nets) nets.now }
+    ensures { OnOk result (text.new.items ≡ text.old.items ++ nets_note netlist.now words.now nets.now) }
+{
+    if nets.is_empty() {
+        return Ok(());
+    }
+    text.extend_from_slice(b"note: ")?;
+    text.extend_from_slice(words.as_bytes())?;
+    text.push(b':')?;
+    push_names(text, netlist, nets)?;
+    text.push(b'\n')?;
+    Ok(())
+}
+
+/// Adds the names of these nets, a blank before each.
+fn push_names(text: &mut Vec<u8>, netlist: &Netlist, nets: &[u32]) -> Result<(), AllocError>
+    requires { All (λ net. net < length netlist.now.nets) nets.now }
+    ensures { OnOk result (text.new.items ≡ text.old.items ++ names_behind netlist.now nets.now) }
+{
+    for net in nets {
+        text.push(b' ')?;
+        text.extend_from_slice(netlist.name(*net))?;
+    }
+    Ok(())
+}

@@ -1,0 +1,4 @@
+pub mod CallerLemmas
+mod DiffNames
+mod Diffs
+mod Twins

@@ -1,0 +1,5 @@
+use Rattle.run_pairs.proofs.Diffs.{agreeing_shown}
+use Rattle.run_pairs.proofs.laws.agreeing_cones_show_the_same.Goals as goal
+
+pub returns : goal.returns
+returns c = agreeing_shown

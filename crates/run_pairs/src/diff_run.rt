@@ -1,0 +1,140 @@
+//! Two runs, compared net by net.
+ghost use Rattle.std.specs.Prelude.{◌≡◌, ◌≢◌, Ok, IfErr, IfOk, IsOkAnd};
+ghost use Rattle.netlist.specs.Names.{seen_names};
+ghost use Rattle.run_pairs.specs.Diffs.{IsDiff, names_compared, names_of_outputs, pair_by, pair_in, pair_of, ticks_of_diff};
+ghost use Rattle.prepared_runs.specs.Ends.{IsRefusal};
+ghost use Rattle.prepared_runs.specs.Prepared.{seen_run};
+ghost use Rattle.prepared_runs.specs.Source.{seen_source, MayWantMemory};
+ghost use Rattle.run_pairs.specs.Twins.{CanCompare, IsTwinRefusal};
+ghost use Rattle.prepared_runs.specs.declared.fault.SimFault.TheVariants.{Memory};
+
+use crate::diff_names::{are_known, names_of_outputs};
+use crate::net_diffs::diff_by_names;
+use crate::twin_run::{Side, TwinFault};
+use prepared_runs::{PreparedRun, SimFault, Source, prepare_run};
+use std::alloc::Global;
+use timing_text::Horizon;
+use wave_diff::Compared;
+
+/// The ticks of two runs, and which of them count where the runs are compared.
+#[derive(Clone, Copy, Debug, PartialEq, Eq)]
+pub struct DiffTicks {
+    /// The last tick of both runs: at most 10,000,000.
+    pub horizon: u64,
+    /// The first tick that counts: at most the horizon.
+    pub from: u64,
+    /// Only multiples of so many ticks count: at least 1.
+    pub every: u64,
+}
+
+/// What two runs show, net by net.
+#[derive(Debug, Drop)]
+pub struct DiffAnswer {
+    /// A line for each net, as [`wave_diff::push_line`] writes it.
+    pub text: Vec<u8>,
+    /// Whether each net shows the same in both runs.
+    pub same: bool,
+}
+
+/// Runs two sources to one horizon by the kernel, and compares what the nets of these names show in
+/// both; where there is no name, the outputs of the first and then those of the second that aren't
+/// outputs of the first.
+///
+/// A line tells the first tick that counts at which a net shows another value in the second run than
+/// in the first, or that there is none; then also whether the runs agree on the fan-in cone that the
+/// net has in the first, up to the horizon. Where they agree on it there is no such tick, whatever
+/// else they hold and whatever picks their events.
+///
+/// # Errors
+/// A refusal of the horizon or the ticks comes before all else, then one of the first source, then one
+/// of the second, then [`SimFault::UnknownNet`], told of the first, where no run has a net of one of
+/// the names. Which side a want of memory names is open.
+pub fn diff(
+    alloc: Global,
+    first: &Source<'_>,
+    second: &Source<'_>,
+    names: &[&[u8]],
+    ticks: DiffTicks,
+) -> Result<DiffAnswer, TwinFault>
+    ensures ok { IfOk result (λ answer. IsOkAnd (pair_of (seen_source first.now) (seen_source second.now) (seen_names names.now) ticks)
+        (λ pair. IsDiff pair answer.text.items answer.same)) }
+    ensures err { IfErr result (IsTwinRefusal (pair_of (seen_source first.now) (seen_source second.now) (seen_names names.now) ticks)) }
+    ensures memory { IfErr result (λ fault. fault.fault ≡ Memory → MayWantMemory (seen_source first.now) ticks.horizon) }
+{
+    let compared = Side::First.blame(compared_ticks(ticks))?;
+    let one = Side::First.blame(prepare_run(alloc, first, ticks.horizon))?;
+    let other = Side::Second.blame(prepare_run(alloc, second, ticks.horizon))?;
+    diff_prepared(alloc, &one, &other, names, compared)
+}
+
+/// The ticks that count.
+fn compared_ticks(ticks: DiffTicks) -> Result<Compared, SimFault>
+    ensures ok { IfOk result (λ compared. ticks_of_diff ticks ≡ Ok compared) }
+    ensures end { IfOk result (λ compared. compared.to ≡ ticks.horizon) }
+    ensures err { IfErr result (IsRefusal (ticks_of_diff ticks)) }
+    ensures no_memory { IfErr result (λ fault. fault ≢ Memory) }
+{
+    let horizon = Horizon::new(ticks.horizon)?;
+    Ok(Compared::new(ticks.from, ticks.every, horizon.ticks())?)
+}
+
+/// Compares two prepared runs, where the names are known.
+fn diff_prepared(
+    alloc: Global,
+    one: &PreparedRun,
+    other: &PreparedRun,
+    names: &[&[u8]],
+    ticks: Compared,
+) -> Result<DiffAnswer, TwinFault>
+    requires runs { CanCompare one.now other.now }
+    requires end { ticks.to ≡ one.now.horizon }
+    ensures ok { IfOk result (λ answer. IsOkAnd (pair_in (seen_run one.now) (seen_run other.now) ticks (seen_names names.now))
+        (λ pair. IsDiff pair answer.text.items answer.same)) }
+    ensures err { IfErr result (IsTwinRefusal (pair_in (seen_run one.now) (seen_run other.now) ticks (seen_names names.now))) }
+{
+    if !are_known(one.design.netlist(), other.design.netlist(), names) {
+        return Err(TwinFault {
+            side: Side::First,
+            fault: SimFault::UnknownNet,
+        });
+    }
+    Side::First.blame(diff_known(alloc, one, other, names, ticks))
+}
+
+/// Compares them by the names, or by their outputs where there is no name.
+fn diff_known(
+    alloc: Global,
+    one: &PreparedRun,
+    other: &PreparedRun,
+    names: &[&[u8]],
+    ticks: Compared,
+) -> Result<DiffAnswer, SimFault>
+    requires runs { CanCompare one.now other.now }
+    requires end { ticks.to ≡ one.now.horizon }
+    ensures ok { IfOk result (λ answer. IsDiff (pair_by (seen_run one.now) (seen_run other.now) ticks
+        (names_compared (seen_names names.now) one.now.design.netlist other.now.design.netlist)) answer.text.items answer.same) }
+    ensures err { IfErr result (λ fault. fault ≡ SimFault.Memory) }
+{
+    if names.is_empty() {
+        diff_outputs(alloc, one, other, ticks)
+    } else {
+        diff_by_names(alloc, one, other, names, ticks)
+    }
+}
+
+/// Compares them by their outputs.
+fn diff_outputs(
+    alloc: Global,
+    one: &PreparedRun,
+    other: &PreparedRun,
+    ticks: Compared,
+) -> Result<DiffAnswer, SimFault>
+    requires runs { CanCompare one.now other.now }
+    requires end { ticks.to ≡ one.now.horizon }
+    ensures ok { IfOk result (λ answer. IsDiff (pair_by (seen_run one.now) (seen_run other.now) ticks
+        (names_of_outputs one.now.design.netlist other.now.design.netlist)) answer.text.items answer.same) }
+    ensures err { IfErr result (λ fault. fault ≡ SimFault.Memory) }
+{
+    let names = names_of_outputs(alloc, one.design.netlist(), other.design.netlist())?;
+    diff_by_names(alloc, one, other, names.as_slice(), ticks)
+}

@@ -1,0 +1,4 @@
+pub mod CallerLemmas
+mod Endings
+mod Prefixes
+mod Telling

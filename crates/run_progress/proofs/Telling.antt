@@ -1,0 +1,85 @@
+-- Numbers of ticks that are told one behind the other.
+use Rattle.std.proofs.Common.{◌≡◌, ℕ, ◌+◌, ◌<◌, ◌≤◌, List, [], ◌∷◌, ◌++◌, All, AllPairs, Result, Ok, Err, length, map, get_or, slice_index_or, refl, sym, ap, subst, ◌∙◌, arith}
+use Rattle.std.specs.List.{range_with_len}
+use Rattle.std.proofs.lemmas.List.{map-id}
+use Rattle.std.proofs.lemmas.List.Elements.{All-push}
+use Rattle.std.proofs.lemmas.List.FromFn.{map-range_with_len_more}
+use Rattle.std.proofs.lemmas.List.Quantifiers.{all_pairs_push}
+use Rattle.run_progress.specs.Told.{CountsTo, IsProgress, IsTickByTick, RisesBelow, RisesTo, Told}
+
+RisesBelow-wider : (bound wider : ℕ) (ticks : List ℕ) → bound ≤ wider → RisesBelow bound ticks → RisesBelow wider ticks
+RisesBelow-wider bound wider ticks less rises = record {
+  rises = rises.rises;
+  below = λ i d inside. let here = rises.below i d inside in omega (arith, here, less);
+}
+
+RisesBelow-nothing : (bound : ℕ) → RisesBelow bound []
+RisesBelow-nothing bound = record { rises = λ i j d less inside. absurd (omega (arith, inside)); below = λ i d inside. absurd (omega (arith, inside)) }
+
+RisesBelow-next : (known bound : ℕ) (ticks : List ℕ) → known < bound → RisesBelow known ticks → RisesBelow bound (ticks ++ known ∷ [])
+RisesBelow-next known bound ticks less rises = record {
+  rises = all_pairs_push (λ earlier later. earlier < later) ticks known rises.rises (λ k d inside. rises.below k d inside);
+  below = All-push (λ number. number < bound) ticks known (RisesBelow-wider known bound ticks (omega (arith, less)) rises).below less;
+}
+
+module _ {S : Type 0} (tells : S → List ℕ → S → Type 0) (joined : (old mid new : S) (first second : List ℕ) →
+    tells old first mid → tells mid second new → tells old (first ++ second) new) where
+  -- one more number, which is greater than those before it
+  pub Told-next : (known bound : ℕ) (old mid new : S) → known < bound → Told tells (RisesBelow known) old mid → tells mid (known ∷ []) new →
+      Told tells (RisesBelow bound) old new
+  Told-next known bound old mid new less (ticks, told, rises) next =
+      (ticks ++ known ∷ [], joined old mid new ticks (known ∷ []) told next, RisesBelow-next known bound ticks less rises)
+
+  -- the last one
+  pub Told-last : (last known : ℕ) (old mid new : S) → known ≡ last → Told tells (RisesBelow known) old mid → tells mid (known ∷ []) new →
+      Told tells (RisesTo last) old new
+  Told-last last known old mid new all (ticks, told, rises) next = (
+    ticks ++ known ∷ [],
+    joined old mid new ticks (known ∷ []) told next,
+    (ticks, subst (λ bound. RisesBelow bound ticks) all rises, ap (λ number. ticks ++ number ∷ []) all),
+  )
+
+  -- the next tick of a run tick by tick
+  pub tells-next : (count : ℕ) (old mid new : S) → tells old (range_with_len 0 count) mid → tells mid (count ∷ []) new →
+      tells old (range_with_len 0 (count + 1)) new
+  tells-next count old mid new told next =
+      let more : range_with_len 0 (count + 1) ≡ range_with_len 0 count ++ count ∷ [] =
+      sym (map-id (range_with_len 0 (count + 1))) ∙ map-range_with_len_more (λ number. number) 0 count count (omega arith)
+      ∙ ap (λ numbers. numbers ++ count ∷ []) (map-id (range_with_len 0 count)) in
+      subst (λ ticks. tells old ticks new) (sym more) (joined old mid new (range_with_len 0 count) (count ∷ []) told next)
+
+module _ {S : Type 0} (tells : S → List ℕ → S → Type 0) where
+  pub Told-wider : (bound wider : ℕ) (old new : S) → bound ≤ wider → Told tells (RisesBelow bound) old new → Told tells (RisesBelow wider) old new
+  Told-wider bound wider old new less (ticks, told, rises) = (ticks, told, RisesBelow-wider bound wider ticks less rises)
+
+  -- before anything is told
+  pub Told-nothing : (bound : ℕ) (state : S) → tells state [] state → Told tells (RisesBelow bound) state state
+  Told-nothing bound state nothing = ([], nothing, RisesBelow-nothing bound)
+
+  -- where nothing is told, a run stopped
+  pub progress-nothing : {A F : Type 0} (result : Result A F) (fault : F) (horizon : ℕ) (state : S) → result ≡ Err fault → tells state [] state →
+      Told tells (IsProgress result horizon) state state
+  progress-nothing result fault horizon state is nothing = rw is (Told-nothing (horizon + 2) state nothing)
+
+  -- however that ends which follows, all was told
+  pub progress-behind : {A F : Type 0} (result : Result A F) (horizon : ℕ) (old new : S) → Told tells (RisesTo (horizon + 1)) old new →
+      Told tells (IsProgress result horizon) old new
+  progress-behind (Ok value) horizon old new told = told
+  progress-behind (Err fault) horizon old new (ticks, told, (earlier, rises, is)) =
+      (ticks, told, subst (RisesBelow (horizon + 2)) (sym is) (RisesBelow-next (horizon + 1) (horizon + 2) earlier (omega arith) rises))
+
+  -- a run tick by tick that stopped
+  pub tick_by_tick-stopped : {A F : Type 0} (result : Result A F) (fault : F) (horizon count : ℕ) (old new : S) → result ≡ Err fault → count ≤ horizon + 2 →
+      tells old (range_with_len 0 count) new → Told tells (IsTickByTick result horizon) old new
+  tick_by_tick-stopped result fault horizon count old new is less told = rw is (range_with_len 0 count, told, (count, less, refl))
+
+  -- however that ends which follows, all ticks were told
+  pub tick_by_tick-behind : {A F : Type 0} (result : Result A F) (horizon : ℕ) (old new : S) → Told tells (CountsTo (horizon + 1)) old new →
+      Told tells (IsTickByTick result horizon) old new
+  tick_by_tick-behind (Ok value) horizon old new told = told
+  tick_by_tick-behind (Err fault) horizon old new (ticks, told, all) = (ticks, told, (horizon + 2, omega arith, all ∙ ap (range_with_len 0) (omega arith)))
+
+  -- where nothing is told, a run tick by tick stopped
+  pub tick_by_tick-nothing : {A F : Type 0} (result : Result A F) (fault : F) (horizon : ℕ) (state : S) → result ≡ Err fault → tells state [] state →
+      Told tells (IsTickByTick result horizon) state state
+  tick_by_tick-nothing result fault horizon state is nothing = tick_by_tick-stopped result fault horizon 0 state state is (omega arith) nothing

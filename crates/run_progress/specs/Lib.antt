@@ -1,0 +1,3 @@
+pub mod Percents
+pub mod Showing
+pub mod Told

@@ -1,0 +1,35 @@
+-- What a run tells of how far it is.
+use Rattle.std.specs.Prelude.{◌≡◌, ℕ, ◌+◌, ◌<◌, ◌≤◌, List, [], ◌∷◌, ◌++◌, All, Result, Ok, Err}
+use Rattle.std.specs.List.{range_with_len}
+use Rattle.logic3.specs.Rising.{Rises}
+
+-- from one state to the other such numbers were told
+abbrev pub Told : {S : Type 0} → (S → List ℕ → S → Type 0) → (List ℕ → Type 0) → S → S → Type 0
+Told tells Such old new = (ticks : List ℕ) × tells old ticks new × Such ticks
+
+-- numbers that rise, and are less than a bound
+pub record RisesBelow (bound : ℕ) (ticks : List ℕ) : Type 0 where
+  pub rises : Rises ticks
+  pub below : All (λ number. number < bound) ticks
+
+-- numbers that rise, and end with this one
+abbrev pub RisesTo : ℕ → List ℕ → Type 0
+RisesTo last ticks = (earlier : List ℕ) × RisesBelow last earlier × (ticks ≡ earlier ++ last ∷ [])
+
+-- each number from 0 on, up to this one
+abbrev pub CountsTo : ℕ → List ℕ → Type 0
+CountsTo last ticks = ticks ≡ range_with_len 0 (last + 1)
+
+-- each number from 0 on, up to one of at most so many
+abbrev pub CountsBelow : ℕ → List ℕ → Type 0
+CountsBelow bound ticks = (count : ℕ) × (count ≤ bound) × (ticks ≡ range_with_len 0 count)
+
+-- the numbers of ticks that are told of a run up to a horizon: they rise, and end with all where the run is done
+abbrev pub IsProgress : {A F : Type 0} → Result A F → ℕ → List ℕ → Type 0
+IsProgress (Ok value) horizon = RisesTo (horizon + 1)
+IsProgress (Err fault) horizon = RisesBelow (horizon + 2)
+
+-- those of a run tick by tick: from 0 on each one, up to all where the run is done
+abbrev pub IsTickByTick : {A F : Type 0} → Result A F → ℕ → List ℕ → Type 0
+IsTickByTick (Ok value) horizon = CountsTo (horizon + 1)
+IsTickByTick (Err fault) horizon = CountsBelow (horizon + 2)
