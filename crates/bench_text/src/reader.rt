@@ -1,5 +1,5 @@
 //! A .bench text as a netlist: its lines, the names that they define, and what is at each pin.
-ghost use Rattle.std.specs.Prelude.{◌≡◌, ◌≢◌, ℕ, ◌<◌, ◌≤◌, ◌^◌, ◌∷◌, [], List, length, map, filter_map, flat_map, sum_by, All};
+ghost use Rattle.std.specs.Prelude.{◌≡◌, ◌≢◌, ℕ, ◌<◌, ◌≤◌, ◌^◌, ◌∷◌, [], length, map, filter_map, flat_map, sum_by, All};
 ghost use Rattle.std.specs.Result.{result_map_both};
 ghost use Rattle.bench_text.specs.declared.fault.BenchFault.TheVariants.{Memory, TooLong};
 ghost use Rattle.netlist.specs.declared.netlist.Net.{Net as TheNet};

@@ -1,5 +1,5 @@
 //! What one line of a .bench text says.
-ghost use Rattle.std.specs.Prelude.{◌≡◌, ◌≢◌, ◌∷◌, List, map, length, option_map, IfOk, IfErr, ◌++◌};
+ghost use Rattle.std.specs.Prelude.{◌≡◌, ◌≢◌, ◌∷◌, map, option_map, IfOk, IfErr, ◌++◌};
 ghost use Rattle.std.specs.List.{list_any};
 ghost use Rattle.std.specs.Result.{result_map_both};
 ghost use Rattle.std.specs.Str.{str_eq_ignore_ascii_case};

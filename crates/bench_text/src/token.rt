@@ -3,7 +3,7 @@ ghost use Rattle.std.specs.Prelude.{◌≡◌, ◌<◌, ◌≤◌, [], ◌∷◌
 ghost use Rattle.std.specs.List.{prefix_len};
 ghost use Rattle.std.specs.Iterator.{YieldsFirstBy, item_count};
 ghost use Rattle.text_lines.specs.Text.{is_white};
-ghost use Rattle.bench_text.specs.Line.{is_mark, token_of, tokens_of};
+ghost use Rattle.bench_text.specs.Line.{tokens_of};
 ghost use Rattle.bench_text.specs.Seen.{seen_token, is_word_byte, mark_of};
 
 use std::marker::Model;

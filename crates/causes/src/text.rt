@@ -1,6 +1,5 @@
 //! Causes as text, a line each.
 ghost use Rattle.std.specs.Prelude.{◌≡◌, ◌<◌, ◌++◌, length, decimal, slice_get, All, IfOk, OnOk};
-ghost use Rattle.netlist.specs.Netlist.{name_at};
 ghost use Rattle.design.specs.Design.{IsDesign};
 ghost use Rattle.causes.specs.Causes.{ShowUpTo};
 ghost use Rattle.causes.specs.Text.{cause_line, looks_text, loop_text, moment_text, pin_text, pins_text, reason_text, shown_text, stimulus_text, why_text};

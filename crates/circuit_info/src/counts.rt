@@ -1,5 +1,5 @@
 //! What is counted of a netlist's nets and pins.
-ghost use Rattle.std.specs.Prelude.{◌≡◌, ◌<◌, ◌≤◌, length, All, IfOk};
+ghost use Rattle.std.specs.Prelude.{◌≡◌, ◌<◌, length, IfOk};
 ghost use Rattle.circuit_info.specs.Levels.{is_gate};
 ghost use Rattle.circuit_info.specs.Counts.{all_pins, fan_ins, gate_count, part_code, part_count, IsFanOuts, IsFirstGreatest};
 

@@ -1,13 +1,28 @@
 -- The equations where all flip-flops have one period, sample at its multiples and begin with X, as in a delay text of version 1.
-use Rattle.std.specs.Prelude.{◌≡◌, ℕ, ◌+◌, ◌-◌, ◌*◌, ◌/◌, nat_lt, if◌then◌else◌, List, map, slice_get, Option, None, Some}
+use Rattle.std.specs.Prelude.{◌≡◌, ℕ, ◌+◌, ◌-◌, ◌*◌, ◌/◌, nat_lt, if◌then◌else◌, List, map, slice_get, Option, None, Some, Ok}
 use Rattle.logic3.specs.declared.value.Value.{Value}
 use Rattle.logic3.specs.declared.value.Value.TheVariants.{Unknown}
 use Rattle.logic3.specs.Gate.{value_of_gate, only_pin}
 use Rattle.logic3.specs.Wave.{value_after}
 use Rattle.netlist.specs.declared.part.Part.{Part}
 use Rattle.netlist.specs.declared.part.Part.TheVariants.{Input, Gate, Flop}
+use Rattle.netlist.specs.Netlist.{IsNetlist, NetlistView}
+use Rattle.timing_text.specs.Timings.{IsFirstVersion}
+use Rattle.design.specs.Build.{circuit_of}
 use Rattle.design.specs.Circuit.{Net, Circuit}
 use Rattle.design.specs.Equations.{values_at}
+
+-- a circuit that is made with a delay text of version 1
+pub record OnePeriodCircuit : Type 0 where
+  pub netlist : NetlistView
+  pub is_netlist : IsNetlist netlist
+  pub delays : List ℕ
+  pub first_version : IsFirstVersion delays
+  pub stimuli : List ℕ
+  pub default_delay : ℕ
+  pub period : ℕ
+  pub circuit : Circuit
+  pub made : circuit_of netlist delays stimuli default_delay period ≡ Ok circuit
 
 module _ (period : ℕ) where
   -- a flip-flop shows the last multiple of the period that is a delay ago, from the first one on

@@ -1,4 +1,4 @@
-ghost use Rattle.std.specs.Prelude.{◌≡◌, ℕ, ◌+◌, ◌<◌, ◌≤◌, All, length, option_map, position, bytes_eq, slice_get, Some};
+ghost use Rattle.std.specs.Prelude.{◌≡◌, ◌+◌, ◌<◌, ◌≤◌, All, length, option_map, position, bytes_eq, slice_get, Some};
 ghost use Rattle.std.specs.Option.{ForSome};
 ghost use Rattle.netlist.specs.Netlist.{most_nets, most_pins, net_named};
 ghost use Rattle.design.specs.Circuit.{Net, IsCircuit, pin_count};

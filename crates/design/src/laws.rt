@@ -8,7 +8,7 @@ ghost use Rattle.design.specs.Build.{circuit_of};
 ghost use Rattle.design.specs.Circuit.{Net, Circuit, IsTimed, IsCircuit};
 ghost use Rattle.design.specs.Samples.{IsSample, first_sample, last_sample, next_sample, asked_tick, source_tick, first_asker};
 ghost use Rattle.design.specs.Equations.{later, equation, equation_at, IsSolution, value_of};
-ghost use Rattle.design.specs.OnePeriod.{IsPeriodicSolution};
+ghost use Rattle.design.specs.OnePeriod.{IsPeriodicSolution, OnePeriodCircuit};
 
 /// The equations of a circuit have one solution, and no other.
 pub fn one_solution()
@@ -21,13 +21,9 @@ pub fn one_solution()
 /// Where a delay text is of version 1, what nets show solves the equations of one period, at whose
 /// multiples all flip-flops sample, which begin with X; and nothing else does.
 pub fn one_period()
-    ensures solves { (netlist : NetlistView) (delays stimuli : List ℕ) (default period : ℕ) (circuit : Circuit) →
-        IsNetlist netlist → IsFirstVersion delays → circuit_of netlist delays stimuli default period ≡ Ok circuit →
-        IsPeriodicSolution period circuit (value_of circuit) }
-    ensures only { (netlist : NetlistView) (delays stimuli : List ℕ) (default period : ℕ) (circuit : Circuit) →
-        IsNetlist netlist → IsFirstVersion delays → circuit_of netlist delays stimuli default period ≡ Ok circuit →
-        (signals : ℕ → ℕ → Value) → IsPeriodicSolution period circuit signals →
-        (net tick : ℕ) → signals net tick ≡ value_of circuit net tick }
+    ensures solves { (made : OnePeriodCircuit) → IsPeriodicSolution made.period made.circuit (value_of made.circuit) }
+    ensures only { (made : OnePeriodCircuit) (signals : ℕ → ℕ → Value) → IsPeriodicSolution made.period made.circuit signals →
+        (net tick : ℕ) → signals net tick ≡ value_of made.circuit net tick }
 {}
 
 /// What the first sample, the last one up to a tick and the next one from a tick on are, where the phase

@@ -1,8 +1,7 @@
 //! The order of the nets, cut up into loops of gates and straight stretches.
 ghost use Rattle.std.specs.Prelude.{◌≡◌, ℕ, ◌+◌, ◌<◌, ◌≤◌, length, All, IfOk, true, false};
-ghost use Rattle.design.specs.Design.{IsDesign};
 ghost use Rattle.design.specs.Flow.{IsGate, Feeds};
-ghost use Rattle.design.specs.Segments.{past_of, IsAhead, IsCutUp, IsLoop, IsPast, IsSegment, IsStraight};
+ghost use Rattle.design.specs.Segments.{past_of, IsAhead, IsCutUp, IsLoop, IsPast, IsStraight};
 
 use crate::design::Design;
 use crate::order::is_gate;

@@ -2,12 +2,13 @@
 use Rattle.std.specs.Prelude.{ℕ, ◌+◌, ◌==◌, if◌then◌else◌, List, ◌++◌, flat_map, map, Result, Ok, Err, codes, decimal, []}
 use Rattle.std.specs.List.{range_with_len}
 use Rattle.std.specs.Option.{option_map_or}
+use Rattle.logic3.specs.declared.change.Change.{Change}
 use Rattle.logic3.specs.declared.value.Value.{Value}
 use Rattle.logic3.specs.Value.{value_text}
 use Rattle.logic3.specs.Wave.{change_at}
 use Rattle.text_lines.specs.Text.{unless_too_long}
-use Rattle.netlist.specs.Netlist.{NetlistView}
-use Rattle.timing_text.specs.Stimuli.{NamedChange}
+use Rattle.netlist.specs.Netlist.{IsNetlist, NetlistView}
+use Rattle.timing_text.specs.Stimuli.{NamedChange, stimuli_named}
 use Rattle.drawn_stimuli.specs.declared.drive.Draws.{Draws}
 use Rattle.drawn_stimuli.specs.declared.drive.Rounds.{Rounds}
 use Rattle.drawn_stimuli.specs.declared.fault.DriveFault.{DriveFault}
@@ -64,3 +65,25 @@ stimuli_text netlist drives draws horizon =
     if draws.every == 0 then Err BadEvery
     else option_map_or Err (first_fault netlist [] drives)
     (unless_too_long TooLong Ok (lines_text (rounds_of netlist drives draws) (inputs_of netlist drives) horizon))
+
+-- ---- what it has for one input
+
+-- drives and draws for a netlist
+pub record Drawing : Type 0 where
+  pub netlist : NetlistView
+  pub is_netlist : IsNetlist netlist
+  pub drives : List DriveView
+  pub draws : Draws
+  pub horizon : ℕ
+
+-- the inputs of the netlist
+abbrev pub inputs_drawn : Drawing → List InputView
+inputs_drawn drawing = inputs_of drawing.netlist drawing.drives
+
+-- what a reader of stimuli finds for an input
+abbrev pub changes_drawn : Drawing → InputView → List Change
+changes_drawn drawing input = stimuli_named (drawn_stimuli drawing.netlist drawing.drives drawing.draws drawing.horizon) input.name
+
+-- what the input is to show
+abbrev pub value_drawn : Drawing → InputView → ℕ → Value
+value_drawn drawing = driven_value drawing.netlist drawing.drives drawing.draws

@@ -2,10 +2,10 @@
 ghost use Rattle.std.specs.Prelude.{◌≡◌, ◌≢◌, ◌<◌, ◌≤◌, List, [], length, map, replicate, All, MatchOption, MatchResult, None, Some, Ok, Err, IfOk, IfSome, true, false};
 ghost use Rattle.std.specs.Option.{option_map_or};
 ghost use Rattle.std.specs.Result.{result_map_both};
-ghost use Rattle.netlist.specs.Netlist.{NetView, net_named, most_nets};
+ghost use Rattle.netlist.specs.Netlist.{net_named, most_nets};
 ghost use Rattle.timing_text.specs.Words.{is_input};
 ghost use Rattle.drawn_stimuli.specs.Signals.{IsSource};
-ghost use Rattle.drawn_stimuli.specs.Inputs.{DriveView, IsDrive, IsInputNet, drive_named, drives_of_nets, fault_behind, first_fault, form_fault, inputs_of, is_drawn, names_input, seen_drive, seen_input, source_of};
+ghost use Rattle.drawn_stimuli.specs.Inputs.{DriveView, IsDrive, IsInputNet, drives_of_nets, fault_behind, first_fault, form_fault, inputs_of, is_drawn, names_input, seen_drive, seen_input, source_of};
 
 use crate::drive::{Drive, Driven};
 use crate::fault::DriveFault;

@@ -8,12 +8,12 @@ ghost use Rattle.logic3.specs.declared.value.Value.TheVariants.{Unknown};
 ghost use Rattle.logic3.specs.Wave.{changes_between, value_after};
 ghost use Rattle.netlist.specs.Netlist.{IsNetlist, NetView, NetlistView};
 ghost use Rattle.timing_text.specs.Ranges.{most_ticks};
-ghost use Rattle.timing_text.specs.Stimuli.{stimuli_named, stimuli_of};
+ghost use Rattle.timing_text.specs.Stimuli.{stimuli_of};
 ghost use Rattle.timing_text.specs.Words.{is_input};
 ghost use Rattle.drawn_stimuli.specs.declared.drive.Draws.{Draws};
 ghost use Rattle.drawn_stimuli.specs.Inputs.{DriveView, InputView, drive_named, first_fault, inputs_of};
 ghost use Rattle.drawn_stimuli.specs.Signals.{word_after};
-ghost use Rattle.drawn_stimuli.specs.StimulusText.{drawn_stimuli, stimuli_text, driven_value};
+ghost use Rattle.drawn_stimuli.specs.StimulusText.{Drawing, changes_drawn, drawn_stimuli, inputs_drawn, stimuli_text, value_drawn};
 
 /// The reader of stimuli takes the text for its netlist, and reads from it the changes that it was
 /// made of. There is an input for each net that is one, in order, and the changes that are read for
@@ -26,12 +26,10 @@ pub fn texts_read_back()
     ensures inputs { (netlist : NetlistView) (drives : List DriveView) →
         map (λ (input : InputView). input.name) (inputs_of netlist drives)
         ≡ map (λ (net : NetView). net.name) (filter (λ (net : NetView). is_input net.part) netlist.nets) }
-    ensures changes { (netlist : NetlistView) (drives : List DriveView) (draws : Draws) (horizon : ℕ) → IsNetlist netlist →
-        All (λ (input : InputView). stimuli_named (drawn_stimuli netlist drives draws horizon) input.name
-        ≡ changes_between (driven_value netlist drives draws input) 0 (horizon + 1)) (inputs_of netlist drives) }
-    ensures values { (netlist : NetlistView) (drives : List DriveView) (draws : Draws) (horizon tick : ℕ) → IsNetlist netlist → tick ≤ horizon →
-        All (λ (input : InputView). value_after Unknown (stimuli_named (drawn_stimuli netlist drives draws horizon) input.name) tick
-        ≡ driven_value netlist drives draws input tick) (inputs_of netlist drives) }
+    ensures changes { (drawing : Drawing) → All (λ input. changes_drawn drawing input
+        ≡ changes_between (value_drawn drawing input) 0 (drawing.horizon + 1)) (inputs_drawn drawing) }
+    ensures values { (drawing : Drawing) (tick : ℕ) → tick ≤ drawing.horizon → All (λ input.
+        value_after Unknown (changes_drawn drawing input) tick ≡ value_drawn drawing input tick) (inputs_drawn drawing) }
 {}
 
 /// Where no drive is faulty, each counts: the input of its name has just this drive.

@@ -1,9 +1,7 @@
 //! The ticks at which something may change.
 ghost use Rattle.std.specs.Prelude.{◌≡◌, ◌<◌, All, filter, IfOk};
-ghost use Rattle.netlist.specs.Netlist.{NetlistView};
 ghost use Rattle.drawn_stimuli.specs.declared.input.InputNet.{InputNet as TheInputNet};
 ghost use Rattle.drawn_stimuli.specs.Signals.{IsSource};
-ghost use Rattle.drawn_stimuli.specs.Inputs.{IsInputNet};
 ghost use Rattle.drawn_stimuli.specs.Ticks.{is_moving, next_change, next_multiple, next_tick};
 
 use crate::drive::Drive;

@@ -1,6 +1,5 @@
 //! Text that goes out piece by piece.
 ghost use Rattle.std.specs.Prelude.{OnOk, OnErr, IfErr};
-ghost use Rattle.std.specs.Io.KnownBytes.{Appends};
 ghost use Rattle.vcd_dump.specs.Bytes.{AppendsPrefix};
 ghost use Rattle.vcd_dump.specs.Faults.{IsFailedWrite};
 ghost use Rattle.vcd_dump.specs.Written.{GoesOut};

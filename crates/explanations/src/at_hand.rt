@@ -32,7 +32,8 @@ pub struct AtHand<'a> {
 
 /// What is told of a fault: the line of its text, where the text is known, the word at fault, or the
 /// earlier line that is of the same, where the lines alone tell it, the word or the number at fault that no
-/// text has, what the system says, what it means, and what is wanted. Of a long line the first 100 bytes are shown, and a byte that isn't printable as `?`.
+/// text has, what the system says, what it means, and what is wanted. Of a long line the first 100 bytes
+/// are shown, and a byte that isn't printable as `?`.
 pub fn fault_text(alloc: Global, tables: &[Table], fault: AtHand<'_>) -> Result<Vec<u8>, AllocError>
     ensures { IfOk result (λ told. told.items ≡ told_at_hand tables.now (seen_fault fault.entry)) }
 {

@@ -1,5 +1,5 @@
 //! The nets of some cones as a netlist of their own.
-ghost use Rattle.std.specs.Prelude.{◌≡◌, ◌≢◌, ℕ, ◌<◌, ◌↔◌, length, map, All, IfOk, Some};
+ghost use Rattle.std.specs.Prelude.{◌≡◌, ◌≢◌, ℕ, ◌<◌, ◌↔◌, length, map, IfOk, Some};
 ghost use Rattle.netlist.specs.Netlist.{net_named};
 ghost use Rattle.netlist.specs.Names.{seen_names};
 ghost use Rattle.fanin_cone.specs.Extract.{first_unknown, IsExtract};

@@ -1,4 +1,4 @@
-ghost use Rattle.std.specs.Prelude.{◌≡◌, ℕ, ◌+◌, ◌++◌, ◌<◌, ◌≤◌, nat_lt, Bool, true, false, length, slice_get, Some, IfOk, IfSome, OnOk, OnErr};
+ghost use Rattle.std.specs.Prelude.{◌≡◌, ◌+◌, ◌++◌, ◌<◌, ◌≤◌, nat_lt, true, false, length, slice_get, Some, IfOk, IfSome, OnOk, OnErr};
 ghost use Rattle.cmb_channels.specs.Kinds.{is_change};
 ghost use Rattle.gate_process.specs.Step.{running, started_process, pin_frontier, pin_last, heard, safe_of, next_frontier, advanced, news, drained, drained_changes};
 ghost use Rattle.gate_process.specs.Quiet.{IsQuiet};

@@ -1,5 +1,5 @@
 //! The processes of a design.
-ghost use Rattle.std.specs.Prelude.{◌≡◌, ℕ, ◌+◌, ◌<◌, ◌≤◌, ◌++◌, true, false, length, map, replicate, slice_get, slice_set, Some, IfOk, OnOk, OnErr};
+ghost use Rattle.std.specs.Prelude.{◌≡◌, ◌+◌, ◌<◌, ◌≤◌, ◌++◌, true, false, length, map, replicate, slice_get, slice_set, Some, IfOk, OnOk, OnErr};
 ghost use Rattle.std.specs.Option.{ForSome};
 ghost use Rattle.cmb_channels.specs.Kinds.{is_change};
 ghost use Rattle.design.specs.Design.{IsDesign};

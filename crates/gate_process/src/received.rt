@@ -1,4 +1,4 @@
-ghost use Rattle.std.specs.Prelude.{◌≡◌, true, ℕ, ◌+◌, ◌<◌, ◌≤◌, length, map, replicate, IfOk, OnOk, OnErr};
+ghost use Rattle.std.specs.Prelude.{◌≡◌, true, ◌+◌, ◌<◌, ◌≤◌, length, map, replicate, IfOk, OnOk, OnErr};
 ghost use Rattle.logic3.specs.declared.value.Value.TheVariants.{Unknown};
 ghost use Rattle.logic3.specs.Summary.{summary_of};
 ghost use Rattle.logic3.specs.Wave.{IsWave, last_value};

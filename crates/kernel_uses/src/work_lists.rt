@@ -1,5 +1,5 @@
 //! A driver that keeps a list of the nets that may have something to do.
-ghost use Rattle.std.specs.Prelude.{◌≡◌, ℕ, ◌++◌, ◌<◌, if◌then◌else◌, true, false, [], All, length, map, slice_index_or, IfErr, IfOk, OnErr, OnOk};
+ghost use Rattle.std.specs.Prelude.{◌≡◌, ℕ, ◌++◌, ◌<◌, if◌then◌else◌, true, false, [], All, length, map, slice_index_or, IfErr, IfOk, OnOk};
 ghost use Rattle.std.specs.List.{Contains};
 ghost use Rattle.design.specs.Circuit.{pin_count};
 ghost use Rattle.design.specs.Pins.{net_of_pin, pins_fed, sources_of};

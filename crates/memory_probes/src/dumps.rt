@@ -1,5 +1,5 @@
 //! Dumps and streams of them: a first part of the text is out, and a stream has failed.
-ghost use Rattle.std.specs.Prelude.{◌≡◌, ◌+◌, ◌<◌, ◌≤◌, [], ◌∷◌, false, true, IfSome, OnOk, OnErr};
+ghost use Rattle.std.specs.Prelude.{◌≡◌, ◌+◌, ◌<◌, ◌≤◌, [], ◌∷◌, false, true, OnOk, OnErr};
 ghost use Rattle.vcd_dump.specs.Spans.{with_parts, spanned, IsPart};
 
 use crate::following::Follower;

@@ -2,7 +2,6 @@
 ghost use Rattle.std.specs.Prelude.{◌≡◌, option_and_then, option_map, IfOk};
 ghost use Rattle.std.specs.List.{find};
 ghost use Rattle.netlist.specs.Names.{seen_names};
-ghost use Rattle.orders.specs.FileNames.{names_of};
 ghost use Rattle.nullsim.specs.AtFault.{first_in_neither, in_neither, input_driven, name_at_fault, name_in_run, names_asked, names_shown, netlist_in, place_of_drive, unknown_asked};
 
 use crate::kept::KeptTexts;

@@ -1,5 +1,5 @@
 -- Texts that note what is asked of them.
-use Rattle.std.specs.Prelude.{ℕ, List, map, option_map, Option}
+use Rattle.std.specs.Prelude.{ℕ, map, option_map, Option}
 use Rattle.std.specs.declared.vec.Vec.{Vec}
 use Rattle.std.specs.declared.alloc.Global.{Global}
 use Rattle.program_io.specs.declared.input.ReadFault.{ReadFault}

@@ -1,5 +1,5 @@
 //! An order carried out.
-ghost use Rattle.std.specs.Prelude.{◌≡◌, IfErr, IfOk, OnErr, OnOk, None};
+ghost use Rattle.std.specs.Prelude.{IfErr, IfOk, OnErr, OnOk};
 ghost use Rattle.orders.specs.declared.order.Order.TheVariants as order;
 ghost use Rattle.orders.specs.OrderAnswer.{Answered, OrderEndsBy};
 ghost use Rattle.orders.specs.Progress.{BrokenTicks, DoneTicks, horizon_told};

@@ -37,7 +37,8 @@ use Rattle.prepared_runs.specs.declared.fault.SimFault.{SimFault}
 use Rattle.prepared_runs.specs.declared.fault.SimFault.TheVariants.{Setting, Compared, UnknownNet}
 use Rattle.prepared_runs.specs.declared.preparation.PreparedRun.{PreparedRun}
 use Rattle.run_pairs.specs.declared.twin_run.Side.TheVariants.{First, Second}
-use Rattle.run_pairs.specs.Diffs.{AgreesOnCone, IsComparisonOf, IsCompleted, IsDiff, IsOfDifference, IsOfNets, NetDiff, Pair, diff_line, is_known, names_compared, pair_by, pair_in, pair_of, ticks_of_diff}
+use Rattle.runs.specs.AtEnd.{IsAtEnd}
+use Rattle.run_pairs.specs.Diffs.{AgreesOnCone, IsComparisonOf, IsDiff, IsOfDifference, IsOfNets, NetDiff, Pair, diff_line, is_known, names_compared, pair_by, pair_in, pair_of, ticks_of_diff}
 use Rattle.prepared_runs.specs.Source.{SourceView, or_fault}
 use Rattle.prepared_runs.specs.Prepared.{RunView, run_of_source}
 use Rattle.run_pairs.specs.Twins.{CanCompare, on}
@@ -267,7 +268,7 @@ named_below design name net is found =
     omega (arith, at.0, same)
 
 -- what the kernel of a run at its end knows of a net is what the equations give it
-completed_wave : (run : PreparedRun) (kernel : KernelView) (net : ℕ) (wave : Wave) → IsCompleted run kernel → net < length run.design.circuit →
+completed_wave : (run : PreparedRun) (kernel : KernelView) (net : ℕ) (wave : Wave) → IsAtEnd run kernel → net < length run.design.circuit →
     wave ≡ wave_of (value_of kernel.circuit net) 0 (frontier_at kernel.state net) → wave ≡ wave_of (value_of run.design.circuit net) 0 (run.horizon + 1)
 completed_wave run kernel net wave completed below is =
     let there : net < length kernel.circuit = rw completed.circuit below in
@@ -285,7 +286,7 @@ first_difference-waves f g ticks horizon first second within is also =
 
 -- so do those that the kernels of two runs know at their end
 pub first_difference-completed : (one other : PreparedRun) (first second : KernelView) (ticks : ComparedTicks) (name : List ℕ) (net other_net : ℕ) (wave other_wave : Wave) →
-    CanCompare one other → IsCompleted one first → IsCompleted other second → ticks.to ≡ one.horizon →
+    CanCompare one other → IsAtEnd one first → IsAtEnd other second → ticks.to ≡ one.horizon →
     net_named one.design.netlist name ≡ Some net → net_named other.design.netlist name ≡ Some other_net →
     wave ≡ wave_of (value_of first.circuit net) 0 (frontier_at first.state net) →
     other_wave ≡ wave_of (value_of second.circuit other_net) 0 (frontier_at second.state other_net) →

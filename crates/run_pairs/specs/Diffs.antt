@@ -1,11 +1,10 @@
 -- Two runs to one horizon, compared net by net.
-use Rattle.std.specs.Prelude.{◌≡◌, ℕ, ◌+◌, ◌||◌, ◌↔◌, not, Bool, false, IsTrue, if◌then◌else◌, List, [], ◌∷◌, ◌++◌, map, filter, flat_map, All, Option, Some, None, is_some, Result, Ok, Err, bytes_eq}
+use Rattle.std.specs.Prelude.{◌≡◌, ℕ, ◌||◌, ◌↔◌, not, Bool, IsTrue, if◌then◌else◌, List, [], ◌∷◌, ◌++◌, map, filter, flat_map, All, Option, Some, None, is_some, Result, Ok, Err, bytes_eq}
 use Rattle.std.specs.List.{list_all, list_any}
 use Rattle.text_lines.specs.Text.{◌>>=◌}
 use Rattle.netlist.specs.Netlist.{NetlistView, name_at, net_named}
 use Rattle.timing_text.specs.Options.{horizon_of}
 use Rattle.design.specs.Equations.{value_of}
-use Rattle.cmb_kernel.specs.State.{KernelView, IsUndrained}
 use Rattle.fanin_cone.specs.Agreement.{AgreesOn}
 use Rattle.fanin_cone.specs.Cone.{InCone}
 use Rattle.wave_diff.specs.declared.comparison.Comparison.{Comparison}
@@ -19,11 +18,9 @@ use Rattle.wave_diff.specs.Text.{comparison_line}
 use Rattle.run_pairs.specs.declared.diff_run.DiffTicks.{DiffTicks}
 use Rattle.prepared_runs.specs.declared.fault.SimFault.{SimFault}
 use Rattle.prepared_runs.specs.declared.fault.SimFault.TheVariants.{Setting, Compared, UnknownNet}
-use Rattle.prepared_runs.specs.declared.preparation.PreparedRun.{PreparedRun}
 use Rattle.run_pairs.specs.declared.twin_run.Side.TheVariants.{First, Second}
 use Rattle.run_pairs.specs.declared.twin_run.TwinFault.{TwinFault}
 use Rattle.prepared_runs.specs.Source.{SourceView, or_fault}
-use Rattle.runs.specs.Simulated.{IsKnown}
 use Rattle.prepared_runs.specs.Prepared.{RunView, run_of_source}
 use Rattle.run_pairs.specs.Twins.{on}
 
@@ -121,11 +118,3 @@ pub record IsDiff (pair : Pair) (text : List ℕ) (same : Bool) : Type 0 where
   pub each : All (λ (diff : NetDiff). IsComparisonOf pair.first pair.second pair.ticks diff.name diff.comparison) diffs
   pub lines : text ≡ flat_map diff_line diffs
   pub all_same : same ≡ list_all (λ (diff : NetDiff). is_same diff.comparison) diffs
-
--- the kernel of a prepared run at its end: it knows each net up to the horizon, and nothing was taken out
-pub record IsCompleted (run : PreparedRun) (kernel : KernelView) : Type 0 where
-  pub running : kernel.failed ≡ false
-  pub circuit : kernel.circuit ≡ run.design.circuit
-  pub end : kernel.end ≡ run.horizon + 1
-  pub known : IsKnown kernel
-  pub undrained : IsUndrained kernel.state

@@ -1,8 +1,9 @@
 //! How what nets show in two runs compares, name by name.
 ghost use Rattle.std.specs.Prelude.{◌≡◌, IfErr, IfOk};
 ghost use Rattle.netlist.specs.Names.{seen_names};
-ghost use Rattle.run_pairs.specs.Diffs.{IsComparisonOf, IsCompleted, IsDiff, pair_by};
+ghost use Rattle.run_pairs.specs.Diffs.{IsComparisonOf, IsDiff, pair_by};
 ghost use Rattle.prepared_runs.specs.Prepared.{seen_run};
+ghost use Rattle.runs.specs.AtEnd.{IsAtEnd};
 ghost use Rattle.run_pairs.specs.Twins.{CanCompare};
 
 use crate::diff_run::DiffAnswer;
@@ -42,8 +43,8 @@ fn diff_completed(
     ticks: Compared,
 ) -> Result<DiffAnswer, SimFault>
     requires runs { CanCompare one.now other.now }
-    requires first { IsCompleted one.now first.now }
-    requires second { IsCompleted other.now second.now }
+    requires first { IsAtEnd one.now first.now }
+    requires second { IsAtEnd other.now second.now }
     requires end { ticks.to ≡ one.now.horizon }
     ensures ok { IfOk result (λ answer. IsDiff (pair_by (seen_run one.now) (seen_run other.now) ticks (seen_names names.now))
         answer.text.items answer.same) }
@@ -70,8 +71,8 @@ fn comparison(
     ticks: Compared,
 ) -> Result<Comparison, SimFault>
     requires runs { CanCompare one.now other.now }
-    requires first { IsCompleted one.now first.now }
-    requires second { IsCompleted other.now second.now }
+    requires first { IsAtEnd one.now first.now }
+    requires second { IsAtEnd other.now second.now }
     requires end { ticks.to ≡ one.now.horizon }
     ensures ok { IfOk result (IsComparisonOf (seen_run one.now) (seen_run other.now) ticks name.now) }
     ensures err { IfErr result (λ fault. fault ≡ SimFault.Memory) }

@@ -1,5 +1,5 @@
 -- First parts of a text.
-use Rattle.std.proofs.Common.{ℕ, List, Option, Result, Ok, Err, OnErr, OnOk, length, take, sym, subst, arith}
+use Rattle.std.proofs.Common.{ℕ, List, Option, Result, Ok, Err, OnErr, OnOk, length, sym, subst, arith}
 use Rattle.std.specs.Io.KnownBytes.{Appends}
 use Rattle.std.proofs.lemmas.List.{take_all}
 use Rattle.vcd_dump.specs.Bytes.{AppendsPrefix}

@@ -1,4 +1,5 @@
 pub mod Alone
+pub mod AtEnd
 pub mod Checked
 pub mod Drained
 pub mod Isolation

@@ -1,11 +1,12 @@
 //! A run by the kernel in sweeps.
-ghost use Rattle.std.specs.Prelude.{◌≡◌, ◌+◌, ◌≤◌, false, [], length, All, Some, Err, IfErr, IfOk, IfSome, IsOkAnd, OnOk};
+ghost use Rattle.std.specs.Prelude.{◌≡◌, ◌≤◌, false, [], length, All, Some, Err, IfErr, IfOk, IfSome, IsOkAnd, OnOk};
 ghost use Rattle.std.specs.Io.KnownBytes.{Appends};
 ghost use Rattle.cmb_events.specs.Schedule.{most_events, Exists};
 ghost use Rattle.cmb_kernel.specs.State.{IsUndrained};
 ghost use Rattle.cmb_kernel.specs.Sound.{IsSound};
 ghost use Rattle.vcd_dump.specs.Dump.{dump_text};
 ghost use Rattle.runs.specs.Alone.{CanShow};
+ghost use Rattle.runs.specs.AtEnd.{IsAtEnd};
 ghost use Rattle.prepared_runs.specs.Ends.{BreaksOff, RunEndsBy};
 ghost use Rattle.runs.specs.Paces.{Suits};
 ghost use Rattle.runs.specs.Simulated.{IsKnown, dump_in, simulated};
@@ -118,11 +119,7 @@ fn dump_by_sweeps<W: Write, P: Progress>(
 pub fn complete<'r>(alloc: Global, run: &'r PreparedRun) -> Result<RunKernel<'r>, SimFault>
     requires exist { All (Exists run.now.design.circuit) run.now.schedule }
     requires few { length run.now.schedule ≤ most_events }
-    ensures running { IfOk result (λ kernel. kernel.failed ≡ false) }
-    ensures circuit { IfOk result (λ kernel. kernel.circuit ≡ run.now.design.circuit) }
-    ensures end { IfOk result (λ kernel. kernel.end ≡ run.now.horizon + 1) }
-    ensures known { IfOk result IsKnown }
-    ensures undrained { IfOk result (λ kernel. IsUndrained kernel.state) }
+    ensures ok { IfOk result (IsAtEnd run.now) }
     ensures err { IfErr result (λ fault. fault ≡ SimFault.Memory) }
 {
     let mut kernel = RunKernel::new(alloc, &run.design, run.horizon)?;

@@ -1,8 +1,8 @@
 //! The lines of a text that say something, without their comments.
-ghost use Rattle.std.specs.Prelude.{◌≡◌, ◌==◌, ◌^◌, ◌+◌, ◌-◌, ◌<◌, ◌≤◌, not, [], ◌∷◌, length, min, option_map, IfSome, MatchOption};
+ghost use Rattle.std.specs.Prelude.{◌≡◌, ◌==◌, ◌^◌, ◌+◌, ◌-◌, ◌<◌, [], ◌∷◌, length, IfSome};
 ghost use Rattle.std.specs.Option.{option_map_or};
-ghost use Rattle.std.specs.List.{position_or_len, prefix_len};
-ghost use Rattle.text_lines.specs.Text.{code_lines, code_of, is_empty, is_plain, is_white, lines_of, number_of, words_of};
+ghost use Rattle.std.specs.List.{position_or_len};
+ghost use Rattle.text_lines.specs.Text.{code_lines, code_of, lines_of};
 
 use crate::words::has_words;
 use std::marker::Model;

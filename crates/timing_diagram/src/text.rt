@@ -1,4 +1,4 @@
-ghost use Rattle.std.specs.Prelude.{◌≡◌, ◌<◌, ◌≤◌, ◌++◌, ◌*◌, length, All, OnOk};
+ghost use Rattle.std.specs.Prelude.{◌≡◌, ◌<◌, ◌++◌, ◌*◌, length, All, OnOk};
 ghost use Rattle.logic3.specs.Wave.{value_at};
 ghost use Rattle.vcd_dump.specs.Traces.{traces};
 ghost use Rattle.timing_diagram.specs.Columns.{column_count};

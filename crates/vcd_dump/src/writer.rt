@@ -1,8 +1,8 @@
-ghost use Rattle.std.specs.Prelude.{◌≡◌, ◌≢◌, ◌++◌, ◌≤◌, [], length, take, OnOk, OnErr, IfOk, IfErr};
+ghost use Rattle.std.specs.Prelude.{◌≡◌, ◌≢◌, ◌++◌, ◌≤◌, [], length, OnOk, OnErr, IfOk, IfErr};
 ghost use Rattle.std.specs.Io.KnownBytes.{Appends};
 ghost use Rattle.vcd_dump.specs.Bytes.{AppendsPrefix};
 ghost use Rattle.vcd_dump.specs.Dump.{time_line_after};
-ghost use Rattle.vcd_dump.specs.Spans.{line_text, zero_text};
+ghost use Rattle.vcd_dump.specs.Spans.{zero_text};
 ghost use Rattle.vcd_dump.specs.Written.{GoesOut, written_text, last_tick, written_span};
 
 use crate::fault::DumpFault;

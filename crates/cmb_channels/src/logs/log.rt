@@ -1,5 +1,5 @@
 //! The log of one net.
-ghost use Rattle.std.specs.Prelude.{◌≡◌, ◌+◌, ◌-◌, ◌<◌, ◌≤◌, ◌^◌, length, map, Some, slice_get, OnOk, OnErr, IfSome, OnSome, IfNone};
+ghost use Rattle.std.specs.Prelude.{◌≡◌, ◌-◌, ◌<◌, ◌≤◌, ◌^◌, length, Some, slice_get, OnOk, OnErr, IfSome, OnSome, IfNone};
 ghost use Rattle.std.specs.Option.{option_map};
 ghost use Rattle.cmb_channels.specs.declared.logs.log.Entry.{Entry};
 ghost use Rattle.cmb_channels.specs.Packing.{Fits};

@@ -10,7 +10,7 @@ use Rattle.vcd_dump.specs.declared.fault.DumpFault.TheVariants.{Failed}
 use Rattle.vcd_dump.specs.Spans.{StreamView, begun, parts_of, span_text, stream_at}
 use Rattle.vcd_dump.proofs.CallerLemmas.{stream_at-begun}
 use Rattle.run_progress.specs.Told.{RisesBelow, Told}
-use Rattle.run_progress.proofs.CallerLemmas.{Told-last, Told-next, Told-nothing, Told-wider, progress-behind, progress-nothing}
+use Rattle.run_progress.proofs.CallerLemmas.{Told-last, Told-next, Told-nothing, Told-wider, progress-nothing}
 use Rattle.runs.specs.Drained.{values_of}
 use Rattle.prepared_runs.specs.Ends.{BreaksOff}
 use Rattle.runs.specs.declared.pace.Pace.TheVariants.{Rounds}
