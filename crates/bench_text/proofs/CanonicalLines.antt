@@ -1,5 +1,5 @@
 -- What the lines of a canonical text say.
-use Rattle.std.proofs.Common.{◌≡◌, ℕ, ◌+◌, ◌==◌, not, Bool, true, false, cond, List, [], ◌∷◌, ◌++◌, map, codes, All, Ok, append_assoc, refl, sym, ap, ◌∙◌, one-add, arith}
+use Rattle.std.proofs.Common.{◌≡◌, ℕ, ◌+◌, ◌==◌, not, Bool, true, false, cond, List, [], ◌∷◌, ◌++◌, map, codes, All, Ok, append_assoc, refl, sym, ap, ◌∙◌, arith}
 use Rattle.std.specs.List.{filter, enumerate_from}
 use Rattle.std.proofs.lemmas.Bool.Decides.{nat_tests}
 use Rattle.std.proofs.lemmas.List.{append-nil}
@@ -7,10 +7,11 @@ use Rattle.std.proofs.lemmas.List.Elements.{All-head, All-tail, All-weaker}
 use Rattle.std.proofs.lemmas.List.Splits.{slice_split_at}
 use Rattle.text_lines.specs.Text.{◌>>=◌, lines_of, code_of, code_lines_from, words_of, is_empty}
 use Rattle.text_lines.specs.Fold.{fold_lines, one_a_line}
+use Rattle.text_lines.proofs.CallerLemmas.{code_of-no_hash}
 use Rattle.bench_text.specs.Line.{Statement, IsStatement}
 use Rattle.bench_text.specs.NetlistOf.{numbered_statement}
 use Rattle.bench_text.specs.Canonical.{canonical_line, canonical_lines}
-use Rattle.bench_text.proofs.LineBytes.{is_line_byte, IsLine}
+use Rattle.bench_text.proofs.LineBytes.{is_line_byte}
 use Rattle.bench_text.proofs.LineSaid.{IsCodeLine, IsCodeLine-canonical_line, statement_of-canonical_line}
 
 no_line_feed : (byte : ℕ) → is_line_byte byte ≡ true → (byte == 10) ≡ false
@@ -18,13 +19,6 @@ no_line_feed byte h = grind (arith, nat_tests)
 
 no_hash : (byte : ℕ) → is_line_byte byte ≡ true → (byte == 35) ≡ false
 no_hash byte h = grind (arith, nat_tests)
-
--- the line has no comment
-code_of-line : (line : List ℕ) → IsLine line → code_of line ≡ line
-code_of-line [] bytes = refl
-code_of-line (byte ∷ line) bytes =
-    rw (no_hash byte (All-head (λ byte. is_line_byte byte ≡ true) byte line bytes), one-add)
-    (ap (λ rest. byte ∷ rest) (code_of-line line (All-tail (λ byte. is_line_byte byte ≡ true) byte line bytes)))
 
 -- it is the first line of the code
 code_lines_from-line : (number : ℕ) (line rest : List ℕ) → IsCodeLine line →
@@ -37,7 +31,8 @@ code_lines_from-line number line rest code =
     ∙ slice_split_at (λ byte. byte == 10) line 10 rest
     (All-weaker (λ byte. is_line_byte byte ≡ true) (λ byte. (byte == 10) ≡ false) no_line_feed line code.bytes) refl in
     ap numbered cut
-    ∙ ap (λ first. filter has_words ((number, first) ∷ enumerate_from (number + 1) (map code_of (lines_of rest)))) (code_of-line line code.bytes)
+    ∙ ap (λ first. filter has_words ((number, first) ∷ enumerate_from (number + 1) (map code_of (lines_of rest)))) (code_of-no_hash line
+    (All-weaker (λ byte. is_line_byte byte ≡ true) (λ byte. (byte == 35) ≡ false) no_hash line code.bytes))
     ∙ ap (λ none. cond (not none) ((number, line) ∷ code_lines_from (number + 1) rest) (code_lines_from (number + 1) rest)) code.has_words
 
 -- each line says its statement

@@ -1,7 +1,6 @@
 -- The netlist of a text is well-formed.
 use Rattle.std.proofs.Common.{◌≡◌, [], ℕ, ◌+◌, ◌<◌, ◌≤◌, ◌^◌, Bool, true, false, cond, List, ◌∷◌, ◌++◌, length, Option, Some, None, Result, Ok, Err, position, bytes_eq, refl, ◌∙◌, subst, arith}
 use Rattle.std.specs.List.{filter_map, flat_map, sum_by}
-use Rattle.std.specs.Option.{is_some}
 use Rattle.std.proofs.lemmas.Bool.Decides.{nat_tests}
 use Rattle.std.proofs.lemmas.List.{length_push}
 use Rattle.bench_text.specs.declared.fault.BenchFault.{BenchFault}
@@ -11,15 +10,11 @@ use Rattle.bench_text.specs.Line.{Statement}
 use Rattle.netlist.specs.Names.{IsNames}
 use Rattle.netlist.specs.Netlist.{NetlistView, IsNetlist}
 use Rattle.bench_text.specs.NetlistOf.{Definition, definition_in, uses_in, output_in, defined_names, is_among, repeated_fault, is_over_limit, size_fault, fault_of, unless, netlist_with, netlist_of, netlist_of_statements, statements_of}
-use Rattle.netlist.proofs.CallerLemmas.{is_some-position, IsNames-push}
+use Rattle.netlist.proofs.CallerLemmas.{is_some-position, IsNames-push, none_from_is_some}
 use Rattle.text_lines.proofs.CallerLemmas.{bind-Ok, unless_too_long-Ok}
 use Rattle.bench_text.proofs.LinesLeft.{IsStatement-statements_of}
 use Rattle.bench_text.proofs.Named.{named_from, named_from-all}
 use Rattle.bench_text.proofs.WellFormed.{IsNetlist-with, both_None}
-
-none_from_is_some : {A : Type 0} (found : Option A) → is_some found ≡ false → found ≡ None
-none_from_is_some (Some x) e = cc
-none_from_is_some None e = refl
 
 -- names, followed by those of definitions that repeat none, are distinct
 IsNames-named_from : (names all : List (List ℕ)) (definitions : List Definition) → IsNames names → length names + length definitions ≤ 2 ^ 32 →

@@ -1,7 +1,7 @@
 -- The tokens of a line, taken from its front.
 use Rattle.std.proofs.Common.{◌≡◌, ℕ, ◌<◌, not, Bool, true, false, List, [], ◌∷◌, length, take, drop, get_or, None, refl, sym, ap, ◌∙◌, arith, one-add}
 use Rattle.std.specs.List.{slice_split, filter, flat_map, prefix_len}
-use Rattle.std.proofs.lemmas.Bool.{false_from_ne_true, false≢true}
+use Rattle.std.proofs.lemmas.Bool.{false_from_ne_true}
 use Rattle.std.proofs.lemmas.Bool.Decides.{nat_tests}
 use Rattle.text_lines.specs.Text.{is_white, is_empty, words_of}
 use Rattle.bench_text.specs.Line.{word, is_mark, spaced, token_of, tokens_of}
@@ -10,9 +10,6 @@ use Rattle.bench_text.specs.Seen.{is_word_byte, mark_of}
 -- white space is no mark
 pub is_mark-white : (byte : ℕ) → is_white byte ≡ true → is_mark byte ≡ false
 is_mark-white byte white = grind (arith, nat_tests)
-
-is_white-mark : (byte : ℕ) → is_mark byte ≡ true → is_white byte ≡ false
-is_white-mark byte mark = false_from_ne_true (is_white byte) (λ white. false≢true (sym (is_mark-white byte white) ∙ mark))
 
 -- white space comes first: it is no part of a token
 pub tokens_of-white : (byte : ℕ) (code : List ℕ) → is_white byte ≡ true → tokens_of (byte ∷ code) ≡ tokens_of code
@@ -26,10 +23,6 @@ tokens_of-past_white (byte ∷ code) = go (is_white byte) refl (tokens_of-past_w
         tokens_of (drop (prefix_len is_white (byte ∷ code)) (byte ∷ code)) ≡ tokens_of (byte ∷ code)
     go true w rest = rw (w, one-add) (rest ∙ sym (tokens_of-white byte code w))
     go false w rest = rw w refl
-
--- a mark comes first: it is a token by itself
-pub tokens_of-mark : (byte : ℕ) (code : List ℕ) → is_mark byte ≡ true → tokens_of (byte ∷ code) ≡ token_of (byte ∷ []) ∷ tokens_of code
-tokens_of-mark byte code mark = rw (mark, is_white-mark byte mark) refl
 
 -- where a line is cut first: the word bytes at its front, and then what its tokens are cut from
 record FirstPiece (code : List ℕ) : Type 0 where

@@ -3,7 +3,6 @@ mod Counted
 mod Inside
 mod LastTicks
 mod Marked
-mod NetFacts
 mod Pieces
 mod PinLists
 mod Places

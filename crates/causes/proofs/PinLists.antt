@@ -1,23 +1,7 @@
 -- What pins show, and since when, place by place.
 use Rattle.std.proofs.Common.{◌≡◌, ℕ, zero, suc, ◌<◌, List, [], ◌∷◌, length, get_or, refl, ap, arith}
 use Rattle.logic3.specs.declared.value.Value.{Value}
-use Rattle.design.specs.Equations.{later, pin_signals, values_at}
 use Rattle.causes.specs.Deciding.{pin_since, pins_since}
-
-pub length-values : (signals : ℕ → ℕ → Value) (tick : ℕ) (pins wires : List ℕ) → length wires ≡ length pins →
-    length (values_at tick (pin_signals signals pins wires)) ≡ length pins
-length-values signals tick [] wires long = refl
-length-values signals tick (pin ∷ pins) [] long = absurd (omega arith)
-length-values signals tick (pin ∷ pins) (wire ∷ wires) long = ap suc (length-values signals tick pins wires (omega arith))
-
-pub value_at_place : (signals : ℕ → ℕ → Value) (tick : ℕ) (pins wires : List ℕ) (place : ℕ) (d : Value) → length wires ≡ length pins →
-    place < length pins →
-    get_or (values_at tick (pin_signals signals pins wires)) place d ≡ later (get_or wires place 0) (signals (get_or pins place 0)) tick
-value_at_place signals tick [] wires place d long within = absurd (omega arith)
-value_at_place signals tick (pin ∷ pins) [] place d long within = absurd (omega arith)
-value_at_place signals tick (pin ∷ pins) (wire ∷ wires) zero d long within = refl
-value_at_place signals tick (pin ∷ pins) (wire ∷ wires) (suc place) d long within =
-    value_at_place signals tick pins wires place d (omega arith) (omega arith)
 
 pub length-since : (signals : ℕ → ℕ → Value) (tick : ℕ) (pins wires : List ℕ) → length wires ≡ length pins →
     length (pins_since signals tick pins wires) ≡ length pins

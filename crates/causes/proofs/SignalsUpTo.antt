@@ -1,8 +1,7 @@
 -- Waveforms that go on past a tick give the reasons that the circuit gives.
-use Rattle.std.proofs.Common.{◌≡◌, ℕ, zero, suc, ◌+◌, ◌-◌, ◌<◌, ◌≤◌, nat_lt, Bool, true, false, cond, List, [], ◌∷◌, length, get_or, Option, None, Some, refl, ap, sym, ◌∙◌, arith, slice_get, ◌⊎◌, inl, inr, add-one}
+use Rattle.std.proofs.Common.{◌≡◌, ℕ, zero, suc, ◌+◌, ◌-◌, ◌<◌, ◌≤◌, nat_lt, Bool, true, false, cond, List, [], ◌∷◌, length, Option, None, Some, refl, ap, sym, ◌∙◌, arith, slice_get, ◌⊎◌, inl, inr}
 use Rattle.std.specs.Option.{option_map_or}
 use Rattle.std.proofs.lemmas.Bool.{cases_lt, le-ltb}
-use Rattle.std.proofs.lemmas.List.FromFn.{length-map-range_with_len, get_or-map-range_with_len}
 use Rattle.std.proofs.lemmas.Option.{slice_get_past, slice_get-get_or, none-some, same_Some}
 use Rattle.logic3.specs.declared.value.Value.{Value}
 use Rattle.logic3.specs.declared.value.Value.TheVariants.{Unknown}
@@ -14,33 +13,20 @@ use Rattle.netlist.specs.declared.part.Part.{Part}
 use Rattle.netlist.specs.declared.part.Part.TheVariants.{Input, Gate, Flop}
 use Rattle.design.specs.Circuit.{Net, Circuit}
 use Rattle.design.specs.Samples.{asked_of_part, source_tick}
-use Rattle.design.specs.Equations.{equation_at, pin_signals, signals_in, value_of, value_within, values_at, waves_of}
-use Rattle.design.proofs.CallerLemmas.{same_asked, same_later, source_tick-is}
+use Rattle.design.specs.Equations.{signals_in, value_of, waves_of}
+use Rattle.design.proofs.CallerLemmas.{same_asked, source_tick-is, get_or-waves_of, length-waves_of, same_pin_signals, value_of-past}
 use Rattle.causes.specs.Causes.{ShowUpTo}
 use Rattle.causes.specs.Deciding.{deciding_place, pin_since, pins_since, since}
 use Rattle.causes.specs.Reasons.{gate_place, pin_reason, reason_at, reason_of_part}
 
-length-waves : (circuit : Circuit) (to : ℕ) → length (waves_of circuit to) ≡ length circuit
-unfolding waves_of
-length-waves circuit to = length-map-range_with_len (λ net. wave_of (value_of circuit net) 0 to) 0 (length circuit)
-
-wave_read : (circuit : Circuit) (to net : ℕ) → net < length circuit →
-    get_or (waves_of circuit to) net (wave_of (value_of circuit net) 0 to) ≡ wave_of (value_of circuit net) 0 to
-unfolding waves_of
-wave_read circuit to net below =
-    get_or-map-range_with_len (λ net. wave_of (value_of circuit net) 0 to) 0 (length circuit) net net (wave_of (value_of circuit net) 0 to) below (omega arith)
-
 wave_there : (circuit : Circuit) (to net : ℕ) → net < length circuit →
     slice_get (waves_of circuit to) net ≡ Some (wave_of (value_of circuit net) 0 to)
 wave_there circuit to net below =
-    slice_get-get_or (waves_of circuit to) net (wave_of (value_of circuit net) 0 to) (omega (arith, length-waves circuit to)) ∙ ap Some (wave_read circuit to net below)
-
-value_past : (circuit : Circuit) (net tick : ℕ) → length circuit ≤ net → value_of circuit net tick ≡ Unknown
-unfolding value_of
-value_past circuit net tick past = rw add-one (ap (λ place. equation_at place (value_within circuit tick) tick) (slice_get_past circuit net past))
+    slice_get-get_or (waves_of circuit to) net (wave_of (value_of circuit net) 0 to) (omega (arith, length-waves_of circuit to))
+    ∙ ap Some (get_or-waves_of circuit to net (wave_of (value_of circuit net) 0 to) below)
 
 pub wave_each : (circuit : Circuit) (tick : ℕ) (waves : List Wave) → ShowUpTo circuit tick waves → length waves ≡ length circuit
-wave_each circuit tick waves show = ap length show.same ∙ length-waves circuit show.to
+wave_each circuit tick waves show = ap length show.same ∙ length-waves_of circuit show.to
 
 -- up to the tick they show what the nets show
 pub shown_up_to : (circuit : Circuit) (tick : ℕ) (waves : List Wave) → ShowUpTo circuit tick waves → (net at : ℕ) → at ≤ tick →
@@ -53,8 +39,8 @@ shown_up_to circuit tick waves show net at le = ap (λ waves. signals_in waves n
         ∙ value_at-wave_of (value_of circuit net) 0 show.to at (omega arith) (let past = show.past in omega arith)
     go (inr past) =
         ap (λ place. option_map_or (λ (w : Wave). value_at w at) place Unknown)
-        (slice_get_past (waves_of circuit show.to) net (omega (arith, length-waves circuit show.to)))
-        ∙ sym (value_past circuit net at past)
+        (slice_get_past (waves_of circuit show.to) net (omega (arith, length-waves_of circuit show.to)))
+        ∙ sym (value_of-past circuit net at past)
 
 pub show_earlier : (circuit : Circuit) (tick early : ℕ) (waves : List Wave) → ShowUpTo circuit tick waves → early ≤ tick →
     ShowUpTo circuit early waves
@@ -72,15 +58,6 @@ module _ (f g : ℕ → ℕ → Value) where
   same_since net (suc tick) same =
       λ i. cond (is_same (same (suc tick) (omega arith) i) (same tick (omega arith) i)) (same_since net tick (λ at le. same at (omega arith)) i) (suc tick)
 
-  same_pin_values : (tick : ℕ) (pins wires : List ℕ) → ((net at : ℕ) → at ≤ tick → f net at ≡ g net at) →
-      values_at tick (pin_signals f pins wires) ≡ values_at tick (pin_signals g pins wires)
-  same_pin_values tick [] wires same = refl
-  same_pin_values tick (pin ∷ pins) [] same = refl
-  same_pin_values tick (pin ∷ pins) (wire ∷ wires) same =
-      let here = same_later (f pin) (g pin) tick wire (λ at is. same pin at (let e = source_tick-is wire tick at is in omega (arith, e))) in
-      let rest = same_pin_values tick pins wires same in
-      λ i. here i ∷ rest i
-
   same_pins_since : (tick : ℕ) (pins wires : List ℕ) → ((net at : ℕ) → at ≤ tick → f net at ≡ g net at) →
       pins_since f tick pins wires ≡ pins_since g tick pins wires
   same_pins_since tick [] wires same = refl
@@ -95,7 +72,7 @@ module _ (f g : ℕ → ℕ → Value) where
   same_gate_place : (kind : GateKind) (pins wires : List ℕ) (tick : ℕ) → ((net at : ℕ) → at ≤ tick → f net at ≡ g net at) →
       gate_place kind pins wires f tick ≡ gate_place kind pins wires g tick
   same_gate_place kind pins wires tick same =
-      λ i. deciding_place kind (same_pin_values tick pins wires same i) (same_pins_since tick pins wires same i)
+      λ i. deciding_place kind (same_pin_signals f g tick pins wires same i) (same_pins_since tick pins wires same i)
 
   gate_asked : (kind : GateKind) (net : Net) (tick asked : ℕ) → asked_of_part (Gate kind) net.timing tick ≡ Some asked → asked ≤ tick
   gate_asked kind net tick asked is = go (nat_lt tick net.timing.delay) is

@@ -5,14 +5,15 @@ use Rattle.std.proofs.lemmas.List.{get_or-set_same, get_or-set_other, map-append
 use Rattle.std.proofs.lemmas.List.Elements.{All-nil, All-push, All-weaker, All-pop, All-map, All-contains, Contains-get_or, Contains-push, Contains-push_cases, Contains-append_left}
 use Rattle.std.proofs.lemmas.List.Quantifiers.{all_pairs_push}
 use Rattle.netlist.specs.Netlist.{NetlistView, IsNetlist}
-use Rattle.netlist.proofs.CallerLemmas.{no_net}
+use Rattle.netlist.proofs.CallerLemmas.{no_net, AllPairs-front, AllPairs-last, seen_now, seen_still, seen_cases}
+use Rattle.netlist.specs.Marks.{is_seen}
 use Rattle.circuit_info.specs.declared.levels.Step.{Step}
 use Rattle.circuit_info.specs.Levels.{greatest, is_gate, is_gate_at, pins_at, level_at, level_above, AreLinked}
 use Rattle.circuit_info.specs.Loops.{HasLevel, at_source, above_pins}
-use Rattle.circuit_info.specs.Climb.{is_seen, is_known, levelled, KnownBefore, IsLevelled, Waits, gates_on, IsClimb}
+use Rattle.circuit_info.specs.Climb.{is_known, levelled, KnownBefore, IsLevelled, Waits, gates_on, IsClimb}
 use Rattle.circuit_info.proofs.Tops.{greatest_least, map_alike}
-use Rattle.circuit_info.proofs.Links.{AllPairs-front, AllPairs-last, AreJoined-front, AreJoined-push}
-use Rattle.circuit_info.proofs.Marks.{cases_zero, seen_now, seen_still, seen_cases, one_more_level}
+use Rattle.circuit_info.proofs.Links.{AreJoined-front, AreJoined-push}
+use Rattle.circuit_info.proofs.Marks.{cases_zero, one_more_level}
 
 pub gates_on_push : (path : List Step) (step : Step) → gates_on (path ++ step ∷ []) ≡ gates_on path ++ step.gate ∷ []
 gates_on_push path step = map-append (λ (step : Step). step.gate) path (step ∷ [])

@@ -1,7 +1,7 @@
 -- Counts of the pins of all nets.
-use Rattle.std.proofs.Common.{◌≡◌, ℕ, suc, ◌+◌, ◌<◌, ◌≤◌, ◌==◌, List, [], ◌∷◌, length, get_or, set, take, count_by, true, false, sym, ap, ◌∙◌, arith, All, inl, inr}
+use Rattle.std.proofs.Common.{◌≡◌, ℕ, suc, ◌+◌, ◌<◌, ◌≤◌, ◌==◌, List, [], ◌∷◌, length, get_or, set, take, count_by, false, sym, ap, ◌∙◌, arith, All, inl, inr, refl}
 use Rattle.std.specs.List.{flat_map}
-use Rattle.std.proofs.lemmas.Bool.{cases_eq}
+use Rattle.std.proofs.lemmas.Bool.{cases_eq, eq-eqb}
 use Rattle.std.proofs.lemmas.Bool.Decides.{nat_tests}
 use Rattle.std.proofs.lemmas.List.{get_or-set_same, get_or-set_other, length-take-le}
 use Rattle.std.proofs.lemmas.List.Concat.{length-flat_map}
@@ -9,9 +9,6 @@ use Rattle.std.proofs.lemmas.List.Elements.{All-nil, All-append}
 use Rattle.std.proofs.lemmas.List.Sums.{count_by-le-length, count_by_more_yes, count_by_more_no}
 use Rattle.netlist.specs.Netlist.{NetView, NetlistView, IsNetlist}
 use Rattle.circuit_info.specs.Counts.{all_pins}
-
-is_itself : (net : ℕ) → (net == net) ≡ true
-is_itself net = grind (arith, nat_tests)
 
 test_fails : (m n : ℕ) → (m ≡ n → ⊥) → (m == n) ≡ false
 test_fails m n other = grind (arith, nat_tests)
@@ -41,7 +38,7 @@ counted_more counts pins i within below each net inside = elim (cases_eq (get_or
       ap (λ n. get_or (set counts (get_or pins i 0) (get_or counts (get_or pins i 0) 0 + 1)) n 0) (sym same)
       ∙ get_or-set_same counts (get_or pins i 0) _ 0 below
       ∙ ap (λ n. n + 1) (ap (λ n. get_or counts n 0) same ∙ each net inside)
-      ∙ sym (count_by_more_yes (λ pin. pin == net) pins i 0 within (ap (λ n. n == net) same ∙ is_itself net))
+      ∙ sym (count_by_more_yes (λ pin. pin == net) pins i 0 within (ap (λ n. n == net) same ∙ eq-eqb net net refl))
   | inr apart ↦
       get_or-set_other counts (get_or pins i 0) net _ 0 (λ same. apart (sym same))
       ∙ each net inside

@@ -3,9 +3,10 @@ use Rattle.std.proofs.Common.{◌≡◌, ℕ, zero, suc, ◌+◌, ◌==◌, ◌&
 use Rattle.std.proofs.lemmas.List.{get_or-map, length-map}
 use Rattle.std.proofs.lemmas.List.Elements.{All-contains}
 use Rattle.netlist.specs.Netlist.{NetlistView}
+use Rattle.netlist.specs.Marks.{is_seen}
 use Rattle.circuit_info.specs.Levels.{is_gate_at, pins_at, level_at, level_above, IsLevelling}
 use Rattle.circuit_info.specs.Loops.{HasLevel, at_source, above_pins}
-use Rattle.circuit_info.specs.Climb.{is_seen, is_known, IsLevelled, IsClimb, KnowsLevels}
+use Rattle.circuit_info.specs.Climb.{is_known, IsLevelled, IsClimb, KnowsLevels}
 use Rattle.circuit_info.proofs.Climbing.{unknown_gate}
 use Rattle.circuit_info.proofs.Levelling.{gate_below}
 use Rattle.circuit_info.proofs.Marks.{cases_zero}

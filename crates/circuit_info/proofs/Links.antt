@@ -1,20 +1,7 @@
 -- Lists of nets of which each but the last goes with the next one, by a relation.
-use Rattle.std.proofs.Common.{◌≡◌, ℕ, ◌+◌, ◌<◌, List, [], ◌∷◌, ◌++◌, length, get_or, refl, sym, subst, arith, AllPairs, ⊎_elim}
+use Rattle.std.proofs.Common.{◌≡◌, ℕ, ◌+◌, ◌<◌, List, [], ◌∷◌, ◌++◌, length, get_or, sym, subst, arith, ⊎_elim}
 use Rattle.std.proofs.lemmas.Bool.{cases_lt}
 use Rattle.std.proofs.lemmas.List.{length_push, get_or_push, get_or_append_left}
-
-pub AllPairs-front : {A : Type 0} (R : A → A → Type 0) (xs : List A) (y : A) → AllPairs R (xs ++ y ∷ []) → AllPairs R xs
-AllPairs-front R xs y all i j d before within =
-    subst (λ x. R x (get_or xs j d)) (get_or_append_left xs (y ∷ []) d i (omega (arith, before, within)))
-    (subst (R (get_or (xs ++ y ∷ []) i d)) (get_or_append_left xs (y ∷ []) d j within)
-    (all i j d before (omega (arith, within, length_push xs y))))
-
-pub AllPairs-last : {A : Type 0} (R : A → A → Type 0) (xs : List A) (y : A) → AllPairs R (xs ++ y ∷ []) →
-    (k : ℕ) (d : A) → k < length xs → R (get_or xs k d) y
-AllPairs-last R xs y all k d within =
-    subst (λ x. R x y) (get_or_append_left xs (y ∷ []) d k within)
-    (subst (R (get_or (xs ++ y ∷ []) k d)) (get_or_push xs y d (length xs) refl)
-    (all k (length xs) d within (omega (arith, length_push xs y))))
 
 module _ (R : ℕ → ℕ → Type 0) where
   abbrev pub AreJoined : List ℕ → Type 0

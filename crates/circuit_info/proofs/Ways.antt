@@ -5,13 +5,14 @@ use Rattle.std.proofs.lemmas.List.{get_or_default, get_or-take, get_or-drop, get
 use Rattle.std.proofs.lemmas.List.Elements.{Contains-push, Contains-push_cases, Contains-append_left}
 use Rattle.std.proofs.lemmas.List.Quantifiers.{all_pairs_push}
 use Rattle.netlist.specs.Netlist.{NetlistView}
+use Rattle.netlist.specs.Marks.{is_seen}
+use Rattle.netlist.proofs.CallerLemmas.{seen_now, seen_still, seen_cases}
 use Rattle.circuit_info.specs.Levels.{pins_at}
 use Rattle.circuit_info.specs.Loops.{HasLevel, above_pins, IsLeastWithout, LeadsOn, IsNamedLoop}
-use Rattle.circuit_info.specs.Climb.{is_seen, is_known, KnownBefore, KnowsLevels, IsWay, IsRestFrom}
+use Rattle.circuit_info.specs.Climb.{is_known, KnownBefore, KnowsLevels, IsWay, IsRestFrom}
 use Rattle.circuit_info.proofs.Climbing.{Differ}
 use Rattle.circuit_info.proofs.Levelling.{gate_below}
 use Rattle.circuit_info.proofs.Links.{AreJoined-front, AreJoined-push}
-use Rattle.circuit_info.proofs.Marks.{seen_now, seen_still, seen_cases}
 use Rattle.circuit_info.proofs.NamedLoops.{gate_without}
 
 module _ (netlist : NetlistView) where

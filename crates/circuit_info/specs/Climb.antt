@@ -1,19 +1,10 @@
 -- The walk from gates back over their pins: the levels that are known, the gates that it has entered, and those on its path.
 use Rattle.std.specs.Prelude.{◌≡◌, ◌≢◌, ℕ, ◌<◌, ◌≤◌, ◌==◌, ◌&&◌, ◌↔◌, not, Bool, false, IsTrue, List, [], ◌∷◌, ◌++◌, length, drop, map, count_by, slice_index_or, All, AllPairs, Contains, ◌⊎◌}
 use Rattle.netlist.specs.Netlist.{NetlistView}
+use Rattle.netlist.specs.Marks.{is_seen}
 use Rattle.circuit_info.specs.declared.levels.Step.{Step}
 use Rattle.circuit_info.specs.Levels.{is_gate_at, pins_at, level_at, level_above, AreLinked}
 use Rattle.circuit_info.specs.Loops.{HasLevel, IsWalk}
-
-abbrev pub is_seen : List Bool → ℕ → Bool
-is_seen seen net = slice_index_or seen net false
-
-abbrev pub unseen : List Bool → ℕ
-unseen seen = count_by not seen
-
--- what was seen still is
-abbrev pub KeepsSeen : List Bool → List Bool → Type 0
-KeepsSeen old new = (net : ℕ) → IsTrue (is_seen old net) → IsTrue (is_seen new net)
 
 -- the level of a net is known: no gate has level 0
 abbrev pub is_known : NetlistView → List ℕ → ℕ → Bool

@@ -5,6 +5,7 @@ use Rattle.logic3.specs.declared.gates.GateKind.TheVariants.{And, Nand, Or, Nor,
 use Rattle.netlist.specs.declared.part.Part.{Part}
 use Rattle.netlist.specs.declared.part.Part.TheVariants.{Input, Gate, Flop}
 use Rattle.netlist.specs.Netlist.{NetlistView, name_at}
+use Rattle.netlist.specs.Text.{names_behind}
 use Rattle.circuit_info.specs.Counts.{all_pins, fan_ins, gate_count, part_count, IsFanOuts, IsFirstGreatest}
 use Rattle.circuit_info.specs.Levels.{greatest, IsLevelling}
 use Rattle.circuit_info.specs.Loops.{IsNamedLoop}
@@ -44,10 +45,6 @@ pub record IsGreatestLine (netlist : NetlistView) (word numbers line : List ℕ)
   pub net : ℕ
   pub first : IsFirstGreatest numbers net
   pub says : line ≡ word ++ codes " " ++ decimal (slice_index_or numbers net 0) ++ codes " " ++ name_at netlist net ++ codes "\n"
-
--- the names of these nets, a blank before each
-abbrev pub names_behind : NetlistView → List ℕ → List ℕ
-names_behind netlist nets = flat_map (λ net. codes " " ++ name_at netlist net) nets
 
 -- the names of a loop's nets
 abbrev pub loop_line : NetlistView → List ℕ → List ℕ

@@ -5,9 +5,10 @@
 //! a level, and it leaves them all. It keeps its path in a list of its own, so that long chains of gates take no stack.
 ghost use Rattle.std.specs.Prelude.{◌≡◌, ℕ, ◌+◌, ◌<◌, ◌≤◌, [], ◌∷◌, ◌++◌, length, map, set, true, All, IfOk, OnOk};
 ghost use Rattle.netlist.specs.Netlist.{IsNetlist};
+ghost use Rattle.netlist.specs.Marks.{KeepsSeen};
 ghost use Rattle.circuit_info.specs.Levels.{greatest, level_at, IsLevelling};
 ghost use Rattle.circuit_info.specs.Loops.{HasLevel, IsDepths};
-ghost use Rattle.circuit_info.specs.Climb.{IsClimb, KeepsSeen, KnowsLevels};
+ghost use Rattle.circuit_info.specs.Climb.{IsClimb, KnowsLevels};
 
 use crate::counts::is_gate;
 use crate::known::first_unknown;

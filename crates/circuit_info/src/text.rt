@@ -1,13 +1,13 @@
 //! The text that tells what a circuit is.
 ghost use Rattle.std.specs.Prelude.{◌≡◌, ◌<◌, ◌++◌, length, All, IfOk, OnOk};
 ghost use Rattle.netlist.specs.Netlist.{IsNetlist};
-ghost use Rattle.circuit_info.specs.Text.{count_line, gate_lines, loop_line, names_behind, part_line, size_lines, unobserved_line, unobserved_lines, AddsLine, IsDepthLine, IsGreatestLine, IsInfoText};
+ghost use Rattle.circuit_info.specs.Text.{count_line, gate_lines, loop_line, part_line, size_lines, unobserved_line, unobserved_lines, AddsLine, IsDepthLine, IsGreatestLine, IsInfoText};
 
 use crate::counts::{all_pins, fan_ins, fan_outs, first_greatest, gate_count, part_count};
 use crate::levels::{Depths, greatest, levels_of};
 use itoa::Buffer;
 use logic3::GateKind;
-use netlist::{Netlist, Part};
+use netlist::{Netlist, Part, push_names};
 use std::alloc::{AllocError, Global};
 
 /// The text that tells what a netlist is, of whose nets these are unobserved: no output hangs on them.
@@ -139,18 +139,6 @@ fn push_loop(text: &mut Vec<u8>, netlist: &Netlist, nets: &[u32]) -> Result<(), 
     text.extend_from_slice(b"loop")?;
     push_names(text, netlist, nets)?;
     text.push(b'\n')?;
-    Ok(())
-}
-
-/// Adds the names of these nets, a blank before each.
-fn push_names(text: &mut Vec<u8>, netlist: &Netlist, nets: &[u32]) -> Result<(), AllocError>
-    requires { All (λ net. net < length netlist.now.nets) nets.now }
-    ensures { OnOk result (text.new.items ≡ text.old.items ++ names_behind netlist.now nets.now) }
-{
-    for net in nets {
-        text.push(b' ')?;
-        text.extend_from_slice(netlist.name(*net))?;
-    }
     Ok(())
 }
 

@@ -1,5 +1,5 @@
 -- Counts of messages, and how many of some numbers pass a test.
-use Rattle.std.proofs.Common.{◌≡◌, ℕ, suc, ◌+◌, ◌<◌, Bool, true, false, cond, nat_le, List, [], ◌∷◌, ◌++◌, length, count_by, All, refl, ap, sym, subst, ◌∙◌, ◌%◌, arith}
+use Rattle.std.proofs.Common.{◌≡◌, ℕ, suc, ◌+◌, ◌<◌, Bool, true, false, cond, nat_le, List, [], ◌∷◌, ◌++◌, length, count_by, All, refl, ap, sym, subst, ◌∙◌, arith}
 use Rattle.std.proofs.lemmas.Bool.{leb-true, leb-false}
 use Rattle.std.proofs.lemmas.List.Elements.{All-nil, All-cons, All-head, All-tail}
 use Rattle.std.proofs.lemmas.List.Sums.{sum_by-cons}
@@ -15,10 +15,6 @@ past_next from count below few = omega arith
 
 pub past_trimmed : (from count : ℕ) → from < two_to_64 → 0 < past from count → past (next_count from) count + 1 ≡ past from count
 past_trimmed from count below more = omega arith
-
--- what a difference of two counts is
-pub past_is : (from count result : ℕ) → from < two_to_64 → result < two_to_64 → (result + from) % two_to_64 ≡ count → result ≡ past from count
-past_is from count result below small e = omega arith
 
 -- ---- tests
 

@@ -1,26 +1,25 @@
 -- States that are alike but for what their nets show go on alike.
-use Rattle.std.proofs.Common.{◌≡◌, ℕ, zero, suc, ◌+◌, ◌<◌, ◌≤◌, ◌==◌, Bool, if◌then◌else◌, List, [], ◌∷◌, ◌++◌, map, Option, None, Some, slice_get, slice_index_or, All, refl, ap, sym, ◌∙◌, arith, ◌⊎◌, inl, inr}
+use Rattle.std.proofs.Common.{◌≡◌, ℕ, zero, suc, ◌+◌, ◌==◌, Bool, if◌then◌else◌, List, [], ◌∷◌, ◌++◌, map, Option, None, Some, slice_get, slice_index_or, All, refl, ap, sym, ◌∙◌, arith}
 use Rattle.std.specs.Option.{option_map, option_map_or}
 use Rattle.std.specs.List.{range_with_len, list_all}
-use Rattle.std.proofs.lemmas.Bool.{cases_lt}
 use Rattle.std.proofs.lemmas.List.{length-map}
 use Rattle.std.proofs.lemmas.List.Elements.{All-head, All-tail}
 use Rattle.std.proofs.lemmas.List.Folds.{list_all-map}
 use Rattle.std.proofs.lemmas.Option.{slice_get-map}
 use Rattle.std.proofs.lemmas.Simd.{map-map}
 use Rattle.logic3.specs.declared.value.Value.{Value}
-use Rattle.logic3.specs.Wave.{value_at, value_before, changes_between}
-use Rattle.logic3.proofs.CallerLemmas.{value_at-wave_of, changes_between-same}
+use Rattle.logic3.specs.Wave.{changes_between}
+use Rattle.logic3.proofs.CallerLemmas.{changes_between-same}
 use Rattle.design.specs.Circuit.{Circuit, IsCircuit}
 use Rattle.design.specs.Equations.{value_of}
 use Rattle.design.specs.Pins.{sources_of, net_of_pin, place_of_pin}
 use Rattle.cmb_channels.specs.declared.message.Message.{Message}
 use Rattle.cmb_channels.specs.Lists.{update, sent, taken}
 use Rattle.cmb_channels.proofs.CallerLemmas.{map-update}
-use Rattle.gate_process.specs.Knowledge.{Knowledge, knowledge_of, news_of}
+use Rattle.gate_process.specs.Knowledge.{Knowledge, news_of}
 use Rattle.gate_process.specs.Step.{ProcessState, least, next_frontier, kept, all_kept, reckoned, extended, advanced, news, heard, drained}
 use Rattle.gate_process.specs.Truth.{Meets, KnowsTruth}
-use Rattle.gate_process.proofs.CallerLemmas.{advanced_knows}
+use Rattle.gate_process.proofs.CallerLemmas.{before_true, reckoned_true}
 use Rattle.cmb_events.specs.declared.event.Event.{Event}
 use Rattle.cmb_events.specs.declared.event.Event.TheVariants.{Deliver, Advance}
 use Rattle.cmb_events.specs.Schedule.{Exists}
@@ -41,35 +40,6 @@ true_news signal process =
 
 module _ (signals : ℕ → ℕ → Value) (number : ℕ) (process : ProcessState) (meets : Meets signals number process.net)
     (h : KnowsTruth signals number process) where
-  -- what it knows after it advances is true
-  reckons : knowledge_of (reckoned process) process.floor (next_frontier process)
-      ≡ knowledge_of (signals number) process.floor (next_frontier process)
-  reckons = (advanced_knows signals number process meets h).known
-
-  -- it reckons the truth from its floor on
-  reckoned_at : (tick : ℕ) → process.floor ≤ tick → tick < next_frontier process → reckoned process tick ≡ signals number tick
-  reckoned_at tick from below =
-      sym (value_at-wave_of (reckoned process) process.floor (next_frontier process) tick from below)
-      ∙ ap (λ (k : Knowledge). value_at k.wave tick) reckons
-      ∙ value_at-wave_of (signals number) process.floor (next_frontier process) tick from below
-
-  -- so too before a tick that isn't before the floor
-  reckoned_before : (at : ℕ) → process.floor ≤ at → at ≤ next_frontier process →
-      value_before (reckoned process) at ≡ value_before (signals number) at
-  reckoned_before at from to = go (cases_lt process.floor at)
-    where
-      later : (at : ℕ) → process.floor < at → at ≤ next_frontier process → value_before (reckoned process) at ≡ value_before (signals number) at
-      later zero from to = refl
-      later (suc at) from to = reckoned_at at (omega arith) (omega arith)
-
-      go : (process.floor < at) ⊎ (at ≤ process.floor) → value_before (reckoned process) at ≡ value_before (signals number) at
-      go (inl late) = later at late to
-      go (inr early) =
-          let is : process.floor ≡ at = omega arith in
-          ap (value_before (reckoned process)) (sym is)
-          ∙ ap (λ (k : Knowledge). k.wave.before) reckons
-          ∙ ap (value_before (signals number)) is
-
   -- what it tells depends on the signal, and not on what it has kept of it
   pub news_are : news process ≡ true_news (signals number) process
   news_are =
@@ -77,8 +47,8 @@ module _ (signals : ℕ → ℕ → Value) (number : ℕ) (process : ProcessStat
       let ahead = h.ahead in
       ap (λ changes. if next_frontier process == process.known.frontier then [] else news_of changes (next_frontier process))
       (changes_between-same (reckoned process) (signals number) process.known.frontier (next_frontier process)
-      (reckoned_before process.known.frontier floor ahead)
-      (λ tick from below. reckoned_at tick (omega arith) below))
+      (before_true signals number process meets h process.known.frontier floor (omega arith))
+      (λ tick from below. reckoned_true signals number process meets h tick (omega arith) below))
 
 -- ---- a process but for what its net shows
 

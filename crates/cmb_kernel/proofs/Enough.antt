@@ -1,5 +1,5 @@
 -- How many rounds are enough.
-use Rattle.std.proofs.Common.{◌≡◌, ℕ, ◌+◌, ◌-◌, ◌*◌, ◌/◌, ◌%◌, ◌<◌, ◌≤◌, min, Bool, true, false, map, refl, ap, sym, subst, ◌∙◌, arith, ◌⊎◌, inl, inr}
+use Rattle.std.proofs.Common.{◌≡◌, ℕ, ◌+◌, ◌-◌, ◌*◌, ◌/◌, ◌%◌, ◌<◌, ◌≤◌, min, true, false, map, ap, sym, subst, ◌∙◌, arith, ◌⊎◌, inl, inr}
 use Rattle.std.proofs.lemmas.Bool.{cases_lt, eqb-false}
 use Rattle.std.proofs.Math.Nat.{mul_comm}
 use Rattle.design.specs.Circuit.{Circuit, IsCircuit}
@@ -76,14 +76,6 @@ module _ (start now : KernelView) (ok : IsCircuit start.circuit) (so_far : Round
         subst (λ (r : KernelView). r.end - least_frontier r.end r.state < now.end - least_frontier now.end now.state) (sym goes)
         (falls now.circuit now_ok now.end now.state (least_frontier now.end (round_of now.state)) so_far.sound incomplete
         (round_raises now.circuit now_ok now.end now.state so_far.sound))
-
-  -- a round is due only where the run wasn't complete at the start
-  pub was_incomplete : is_complete now.state ≡ false → is_complete start.state ≡ false
-  was_incomplete incomplete = go (is_complete start.state) refl
-    where
-      go : (complete : Bool) → is_complete start.state ≡ complete → is_complete start.state ≡ false
-      go true e = absurd (let same = so_far.idle e in cc)
-      go false e = e
 
   pub completed : IsSound start.circuit start.end start.state → is_complete now.state ≡ true →
       now ≡ record start { state = completed_within (most_rounds start.end start.circuit) start.state }

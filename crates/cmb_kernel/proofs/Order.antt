@@ -17,7 +17,7 @@ use Rattle.cmb_kernel.proofs.Mixed.{completed_floor, steps_floor}
 use Rattle.cmb_kernel.proofs.Running.{waves_complete}
 
 -- enough rounds are in them as soon as the run is complete
-completes : (count : ℕ) (state : State) → IsComplete (rounds count state) → IsComplete (completed_within count state)
+pub completes : (count : ℕ) (state : State) → IsComplete (rounds count state) → IsComplete (completed_within count state)
 completes zero state complete = complete
 completes (suc count) state complete = go (is_complete state) refl (completes count (round_of state) complete)
   where

@@ -87,7 +87,7 @@ module _ (circuit : Circuit) (ok : IsCircuit circuit) (last : ℕ) (state : Stat
       subst (λ c. slice_get c number ≡ Some process.net) sound.nets
       (slice_get-map (λ (p : ProcessState). p.net) state.processes number ∙ ap (option_map (λ (p : ProcessState). p.net)) e)
 
-  meets : (number : ℕ) (process : ProcessState) → slice_get state.processes number ≡ Some process → Meets (value_of circuit) number process.net
+  pub meets : (number : ℕ) (process : ProcessState) → slice_get state.processes number ≡ Some process → Meets (value_of circuit) number process.net
   meets number process e = meets_at circuit ok number process.net (net_at number process e)
 
   -- a pin has heard its source up to the source's frontier, once all that waits there is told

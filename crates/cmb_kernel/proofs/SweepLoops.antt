@@ -1,7 +1,7 @@
 -- The loops of a sweep: a pin that catches up, the pins of a net, and the nets.
-use Rattle.std.proofs.Common.{◌≡◌, ℕ, zero, suc, ◌+◌, ◌<◌, ◌≤◌, cond, List, [], ◌∷◌, ◌++◌, take, drop, length, get_or, refl, ap, sym, subst, ◌∙◌, arith, add-zero}
+use Rattle.std.proofs.Common.{◌≡◌, ℕ, zero, suc, ◌+◌, ◌<◌, ◌≤◌, cond, List, [], ◌∷◌, ◌++◌, take, length, get_or, refl, ap, sym, subst, ◌∙◌, arith, add-zero}
 use Rattle.std.specs.List.{range_with_len}
-use Rattle.std.proofs.lemmas.Bool.{lt-ltb, le-ltb}
+use Rattle.std.proofs.lemmas.Bool.{le-ltb}
 use Rattle.std.proofs.lemmas.List.{take_all, take_more}
 use Rattle.design.specs.Pins.{first_pin}
 use Rattle.cmb_channels.specs.declared.message.Message.{Message}
@@ -10,22 +10,10 @@ use Rattle.cmb_kernel.specs.State.{State, KernelView, received_at}
 use Rattle.cmb_kernel.specs.Step.{step}
 use Rattle.cmb_kernel.specs.Sweeps.{taken_below, caught_up, all_caught_up, swept_net, swept}
 use Rattle.cmb_kernel.specs.Sound.{IsSound}
-use Rattle.cmb_kernel.proofs.LeastFrontier.{at_pin, deliver_there}
+use Rattle.cmb_kernel.proofs.LeastFrontier.{at_pin}
 use Rattle.cmb_kernel.proofs.Moved.{moved_on}
 
 -- ---- a pin
-
--- a pin that takes one message more has as far to go as it had
-takes_one : (tick : ℕ) (state : State) (pin : ℕ) → pin < length state.lists → received_at state pin < tick → 0 < length (at_pin state pin) →
-    caught_up tick (step state (Deliver pin)) pin ≡ caught_up tick state pin
-takes_one tick state pin exists early some = go (at_pin state pin) refl some
-  where
-    go : (waiting : List Message) → at_pin state pin ≡ waiting → 0 < length waiting →
-        caught_up tick (step state (Deliver pin)) pin ≡ taken_below tick pin state waiting
-    go [] e none = absurd (omega (arith, none))
-    go (message ∷ messages) e some =
-        ap (taken_below tick pin (step state (Deliver pin))) (deliver_there state pin exists ∙ ap (λ ms. drop 1 ms) e)
-        ∙ sym (ap (λ b. cond b (taken_below tick pin (step state (Deliver pin)) messages) state) (lt-ltb (received_at state pin) tick early))
 
 -- it goes no farther where it knows enough
 pub knows_enough : (tick : ℕ) (state : State) (pin : ℕ) → tick ≤ received_at state pin → caught_up tick state pin ≡ state
@@ -49,18 +37,6 @@ pub record CatchesUp (tick pin : ℕ) (start now : KernelView) : Type 0 where
   pub run : now ≡ record start { state = now.state }
   pub sound : IsSound now.circuit now.end now.state
   pub left : caught_up tick now.state pin ≡ caught_up tick start.state pin
-
-pub catches_up_more : {tick pin : ℕ} {start now next : KernelView} → CatchesUp tick pin start now → pin < length now.state.lists →
-    received_at now.state pin < tick → 0 < length (at_pin now.state pin) → next ≡ record now { state = step now.state (Deliver pin) } →
-    IsSound next.circuit next.end next.state → CatchesUp tick pin start next
-catches_up_more {tick} {pin} {start} {now} so_far exists early some goes sound =
-    let came = ap (λ (r : KernelView). r.state) goes in
-    record {
-      run = goes ∙ ap (λ (r : KernelView). record r { state = step now.state (Deliver pin) }) so_far.run
-          ∙ ap (λ s. record start { state = s }) (sym came);
-      sound = sound;
-      left = ap (λ s. caught_up tick s pin) came ∙ takes_one tick now.state pin exists early some ∙ so_far.left;
-    }
 
 -- there it ends where it can take no more
 pub caught_up_here : {tick pin : ℕ} {start now : KernelView} → CatchesUp tick pin start now → caught_up tick now.state pin ≡ now.state →

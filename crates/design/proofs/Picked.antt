@@ -15,7 +15,7 @@ use Rattle.design.specs.Pins.{all_fed}
 use Rattle.design.specs.PickedDesign.{kept_net, net_in, picked_design, stimuli_in, timing_in}
 use Rattle.design.proofs.Joined.{untimed-timed_nets}
 use Rattle.design.proofs.Stored.{length-circuit}
-use Rattle.design.proofs.WellFormed.{net_there}
+use Rattle.design.proofs.WellFormed.{net_with}
 
 -- one more image at the end
 pub images_more : {A B C : Type 0} (seen : A → C) (image : B → C) (so_far : List A) (x : A) (xs : List B) (i : ℕ) (d : B) → i < length xs →
@@ -28,7 +28,7 @@ images_more seen image so_far x xs i d inside known here =
 pub net_in-told : {A : Type 0} (field : Net → A) (circuit : Circuit) (number : ℕ) (x : A) →
     option_map field (slice_get circuit number) ≡ Some x → x ≡ field (net_in circuit number)
 net_in-told field circuit number x told =
-    let found = net_there field (slice_get circuit number) x told in
+    let found = net_with field (slice_get circuit number) x told in
     sym found.2 ∙ ap field (sym (get_or_from_slice_get circuit number found.0 _ found.1))
 
 -- the net of a number in the netlist is that of the circuit without its timing

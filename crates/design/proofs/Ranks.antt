@@ -7,7 +7,7 @@ use Rattle.netlist.specs.declared.part.Part.{Part}
 use Rattle.netlist.specs.declared.part.Part.TheVariants.{Input, Gate, Flop}
 use Rattle.design.specs.Circuit.{Net, Circuit}
 use Rattle.design.specs.Flow.{rank, rank_at, IsGate}
-use Rattle.design.proofs.WellFormed.{net_there}
+use Rattle.design.proofs.WellFormed.{net_with}
 
 three_ranks : (part : Part) → rank part < 3
 three_ranks Input = omega arith
@@ -37,7 +37,7 @@ rank_past circuit net past = go (slice_get_cases circuit net).1
 pub rank_is : (circuit : Circuit) (net : ℕ) (part : Part) → option_map (λ (n : Net). n.part) (slice_get circuit net) ≡ Some part →
     rank_at circuit net ≡ rank part
 rank_is circuit net part part_is =
-    let found = net_there (λ (n : Net). n.part) (slice_get circuit net) part part_is in
+    let found = net_with (λ (n : Net). n.part) (slice_get circuit net) part part_is in
     ap rank_of found.1 ∙ ap rank found.2
 
 pub gate_within : (circuit : Circuit) (net : ℕ) → IsGate circuit net → net < length circuit

@@ -33,7 +33,7 @@ get_or-waves_of circuit to net d below =
     get_or-map-range_with_len (λ net. wave_of (value_of circuit net) 0 to) 0 (length circuit) net net d below (omega arith)
 
 -- a number that names no net shows X
-value_of-past : (circuit : Circuit) (net tick : ℕ) → length circuit ≤ net → value_of circuit net tick ≡ Unknown
+pub value_of-past : (circuit : Circuit) (net tick : ℕ) → length circuit ≤ net → value_of circuit net tick ≡ Unknown
 unfolding value_of
 value_of-past circuit net tick past = rw add-one (ap (λ place. equation_at place (value_within circuit tick) tick) (slice_get_past circuit net past))
 

@@ -1,7 +1,7 @@
 -- How often a net stands in a list.
 use Rattle.std.proofs.Common.{◌≡◌, ◌≢◌, ℕ, zero, suc, ◌+◌, ◌==◌, ◌<◌, ◌≤◌, Bool, true, false, cond, List, [], ◌∷◌, ◌++◌, get_or, take, refl, sym, ap, ◌∙◌, arith, AllPairs, Contains, ⊎_elim}
 use Rattle.std.specs.List.{filter, range_with_len}
-use Rattle.std.proofs.lemmas.Bool.{eqb-true, cases_lt}
+use Rattle.std.proofs.lemmas.Bool.{eqb-true, cases_lt, eq-eqb, eqb-false}
 use Rattle.std.proofs.lemmas.Bool.Decides.{nat_tests}
 use Rattle.std.proofs.lemmas.List.{get_or_default, get_or-take, length-take-le, map-id, append-nil, append_assoc}
 use Rattle.std.proofs.lemmas.List.Elements.{filter-append}
@@ -9,20 +9,14 @@ use Rattle.std.proofs.lemmas.List.FromFn.{map-range_with_len_more}
 use Rattle.std.proofs.lemmas.List.Sums.{sum_by-cons, sum_by-append, sum_by_push, sum_by_more, sum_by-take-le, get_or-le-sum_by}
 use Rattle.design.specs.Walk.{times}
 
-pub is_itself : (net : ℕ) → (net == net) ≡ true
-is_itself net = grind (arith, nat_tests)
-
 pub test_fails : (m n : ℕ) → m ≢ n → (m == n) ≡ false
 test_fails m n other = grind (arith, nat_tests)
-
-pub apart : (m n : ℕ) → (m == n) ≡ false → m ≢ n
-apart m n e = grind (arith, nat_tests)
 
 pub other_way : (m n : ℕ) → (m == n) ≡ false → (n == m) ≡ false
 other_way m n e = go (n == m) refl
   where
     go : (same : Bool) → (n == m) ≡ same → same ≡ false
-    go true same = absurd (apart m n e (sym (eqb-true n m same)))
+    go true same = absurd (eqb-false m n e (sym (eqb-true n m same)))
     go false same = refl
 
 -- how often a net stands in a list of one
@@ -33,7 +27,7 @@ abbrev stands : ℕ → ℕ → ℕ
 stands net other = the_count (other == net)
 
 stands_itself : (net : ℕ) → stands net net ≡ 1
-stands_itself net = ap (λ same. cond same 1 0) (is_itself net)
+stands_itself net = ap (λ same. cond same 1 0) (eq-eqb net net refl)
 
 pub times-append : (net : ℕ) (xs ys : List ℕ) → times net (xs ++ ys) ≡ times net xs + times net ys
 times-append net xs ys = sum_by-append (stands net) xs ys
@@ -77,7 +71,7 @@ once_from_times xs most i j d before below same =
 range_more : (n : ℕ) → range_with_len 0 (n + 1) ≡ range_with_len 0 n ++ n ∷ []
 range_more n = sym (map-id (range_with_len 0 (n + 1))) ∙ map-range_with_len_more (λ (k : ℕ). k) 0 n n (omega arith) ∙ ap (λ those. those ++ n ∷ []) (map-id (range_with_len 0 n))
 
-passing_more : (p : ℕ → Bool) (n : ℕ) →
+pub passing_more : (p : ℕ → Bool) (n : ℕ) →
     filter p (range_with_len 0 (n + 1)) ≡ filter p (range_with_len 0 n) ++ cond (p n) (n ∷ []) []
 passing_more p n = ap (filter p) (range_more n) ∙ filter-append p (range_with_len 0 n) (n ∷ [])
 

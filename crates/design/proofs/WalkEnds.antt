@@ -4,9 +4,10 @@ use Rattle.std.specs.List.{range_with_len}
 use Rattle.std.proofs.lemmas.Bool.{eqb-true, cases_lt}
 use Rattle.std.proofs.lemmas.List.FromFn.{length-map-range_with_len, get_or-map-range_with_len}
 use Rattle.std.proofs.lemmas.Option.{slice_get_within}
+use Rattle.netlist.specs.Marks.{is_seen}
 use Rattle.design.specs.Circuit.{Circuit}
 use Rattle.design.specs.Flow.{rank_at}
-use Rattle.design.specs.Walk.{is_seen, IsGateOrder, IsWalk}
+use Rattle.design.specs.Walk.{IsGateOrder, IsWalk}
 use Rattle.design.proofs.Times.{the_count, test_fails}
 use Rattle.design.proofs.Ranks.{rank_past}
 

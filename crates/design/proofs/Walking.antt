@@ -1,18 +1,19 @@
 -- The walk from gates back over their pins, step by step.
-use Rattle.std.proofs.Common.{◌≡◌, ℕ, zero, suc, ◌+◌, ◌==◌, ◌&&◌, ◌<◌, ◌≤◌, not, Bool, true, false, cond, IsTrue, true≢false, List, [], ◌∷◌, ◌++◌, length, get_or, set, map, Some, option_map, slice_get, refl, sym, ap, ◌∙◌, subst, arith, All, AllPairs, Contains, ◌⊎◌, inl, inr, ⊎_elim, length-set}
-use Rattle.std.proofs.lemmas.Bool.{eqb-true}
-use Rattle.std.proofs.lemmas.List.{get_or-set_same, get_or-set_other, length_push, get_or_push, get_or_append_left, get_or_default, map-append}
+use Rattle.std.proofs.Common.{◌≡◌, ℕ, zero, suc, ◌+◌, ◌==◌, ◌&&◌, ◌<◌, ◌≤◌, not, Bool, true, false, cond, IsTrue, true≢false, List, [], ◌∷◌, ◌++◌, length, get_or, set, map, Some, option_map, slice_get, refl, sym, ap, ◌∙◌, subst, arith, All, Contains, ◌⊎◌, inl, inr, ⊎_elim, length-set}
+use Rattle.std.proofs.lemmas.Bool.{eqb-true, eq-eqb, eqb-false}
+use Rattle.std.proofs.lemmas.List.{get_or-set_other, get_or_default, map-append}
 use Rattle.std.proofs.lemmas.List.Elements.{All-push, All-weaker, All-pop, All-map, All-contains, Contains-get_or, Contains-push, Contains-push_cases}
 use Rattle.std.proofs.lemmas.List.Quantifiers.{all_pairs_push}
-use Rattle.std.proofs.lemmas.List.Sums.{sum_by-set}
 use Rattle.std.proofs.lemmas.Option.{same_Some}
+use Rattle.netlist.proofs.CallerLemmas.{AllPairs-front, AllPairs-last, seen_now, seen_still}
+use Rattle.netlist.specs.Marks.{is_seen, unseen, KeepsSeen}
 use Rattle.design.specs.declared.order.Step.{Step}
 use Rattle.design.specs.Circuit.{Net, Circuit}
 use Rattle.design.specs.Flow.{rank_at, IsGate, Feeds, FlowsTo, straight, through}
-use Rattle.design.specs.Walk.{times, is_seen, unseen, KeepsSeen, SeenBefore, HasLooked, IsWalk}
-use Rattle.design.proofs.WellFormed.{net_there}
+use Rattle.design.specs.Walk.{times, SeenBefore, HasLooked, IsWalk}
+use Rattle.design.proofs.WellFormed.{net_with}
 use Rattle.design.proofs.Ranks.{gate_within}
-use Rattle.design.proofs.Times.{apart, other_way, times_push, some_time, contains_from_times, is_itself}
+use Rattle.design.proofs.Times.{other_way, times_push, some_time, contains_from_times}
 use Rattle.design.proofs.Behind.{Behind, AtEach-push, follows_from_each, each_from_follows}
 
 -- ---- what flows to a gate flows on
@@ -23,39 +24,11 @@ flows_on _ early (through middle to late feeds) = through middle to (flows_on mi
 
 -- ---- marks
 
-pub seen_now : (seen : List Bool) (net : ℕ) → net < length seen → IsTrue (is_seen (set seen net true) net)
-seen_now seen net below = get_or-set_same seen net true false below
-
 -- another net is as it was
 still_so : (seen : List Bool) (net other : ℕ) → (other == net) ≡ false → is_seen (set seen net true) other ≡ is_seen seen other
-still_so seen net other e = get_or-set_other seen net other true false (apart other net e)
-
-pub seen_still : (seen : List Bool) (net : ℕ) → net < length seen → KeepsSeen seen (set seen net true)
-seen_still seen net below other was = go (other == net) refl
-  where
-    go : (same : Bool) → (other == net) ≡ same → IsTrue (is_seen (set seen net true) other)
-    go true e = ap (is_seen (set seen net true)) (eqb-true other net e) ∙ seen_now seen net below
-    go false e = still_so seen net other e ∙ was
-
-pub fewer_unseen : (seen : List Bool) (net : ℕ) → net < length seen → is_seen seen net ≡ false → unseen (set seen net true) + 1 ≡ unseen seen
-fewer_unseen seen net below new =
-    let one = ap (λ mark. unseen (set seen net true) + cond (not mark) 1 0) (sym new) ∙ sum_by-set (λ mark. cond (not mark) 1 0) seen net true false below in
-    omega (arith, one)
+still_so seen net other e = get_or-set_other seen net other true false (eqb-false other net e)
 
 -- ---- lists
-
-AllPairs-front : {A : Type 0} (R : A → A → Type 0) (xs : List A) (y : A) → AllPairs R (xs ++ y ∷ []) → AllPairs R xs
-AllPairs-front R xs y all i j d before within =
-    subst (λ x. R x (get_or xs j d)) (get_or_append_left xs (y ∷ []) d i (omega (arith, before, within)))
-    (subst (R (get_or (xs ++ y ∷ []) i d)) (get_or_append_left xs (y ∷ []) d j within)
-    (all i j d before (omega (arith, within, length_push xs y))))
-
-AllPairs-last : {A : Type 0} (R : A → A → Type 0) (xs : List A) (y : A) → AllPairs R (xs ++ y ∷ []) →
-    (k : ℕ) (d : A) → k < length xs → R (get_or xs k d) y
-AllPairs-last R xs y all k d within =
-    subst (λ x. R x y) (get_or_append_left xs (y ∷ []) d k within)
-    (subst (R (get_or (xs ++ y ∷ []) k d)) (get_or_push xs y d (length xs) refl)
-    (all k (length xs) d within (omega (arith, length_push xs y))))
 
 cases_zero : (n : ℕ) → (n ≡ 0) ⊎ (0 < n)
 cases_zero zero = inl refl
@@ -113,7 +86,7 @@ module _ {circuit : Circuit} {seen : List Bool} {left : List ℕ} where
               let same : net ≡ gate = eqb-true net gate e in
               subst (λ net. times net left + (times net (gates_on path) + cond (gate == net) 1 0)
               ≡ cond ((rank_at circuit net == 1) && is_seen (set seen gate true) net) 1 0) (sym same)
-              (rw (is_itself gate, is_one (rank_at circuit gate) (walk.gates gate below new), seen_now seen gate here)
+              (rw (eq-eqb gate gate refl, is_one (rank_at circuit gate) (walk.gates gate below new), seen_now seen gate here)
               (omega (arith, none)))
             where
               none : times gate left + times gate (gates_on path) ≡ 0
@@ -148,7 +121,7 @@ module _ {circuit : Circuit} {seen : List Bool} {left : List ℕ} (rest : List S
   module _ (pins : List ℕ) (pins_are : option_map (λ (net : Net). net.pins) (slice_get circuit step.gate) ≡ Some pins) where
     pub last_looked : SeenBefore seen pins step.place
     last_looked =
-        let found = net_there (λ (net : Net). net.pins) (slice_get circuit step.gate) pins pins_are in
+        let found = net_with (λ (net : Net). net.pins) (slice_get circuit step.gate) pins pins_are in
         let looked = All-contains (HasLooked circuit seen) (rest ++ step ∷ []) step walk.looked (Contains-push rest step) in
         subst (λ pins. SeenBefore seen pins step.place) found.2 (looked found.0 found.1)
 
@@ -182,7 +155,7 @@ module _ {circuit : Circuit} {seen : List Bool} {left : List ℕ} (rest : List S
       where
         flow : FlowsTo circuit (get_or pins place 0) step.gate
         flow =
-            let found = net_there (λ (net : Net). net.pins) (slice_get circuit step.gate) pins pins_are in
+            let found = net_with (λ (net : Net). net.pins) (slice_get circuit step.gate) pins pins_are in
             straight step.gate (record {
               net = found.0;
               there = found.1;

@@ -51,10 +51,10 @@ IsCircuit-from_IsDesign design ok =
 -- ---- one net, by what the design tells of it
 
 -- where a field of the net at a place is known, there is a net
-pub net_there : {A : Type 0} (field : Net → A) (place : Option Net) (x : A) → option_map field place ≡ Some x →
+pub net_with : {A : Type 0} (field : Net → A) (place : Option Net) (x : A) → option_map field place ≡ Some x →
     (net : Net) × (place ≡ Some net) × (field net ≡ x)
-net_there field None x e = absurd (none-some x e)
-net_there field (Some net) x e = (net, refl, same_Some (field net) x e)
+net_with field None x e = absurd (none-some x e)
+net_with field (Some net) x e = (net, refl, same_Some (field net) x e)
 
 -- each net has as many pins as its part takes
 pub takes_its_pins : (design : DesignView) → IsDesign design → (number : ℕ) (part : Part) (pins : List ℕ) →
@@ -62,7 +62,7 @@ pub takes_its_pins : (design : DesignView) → IsDesign design → (number : ℕ
     option_map (λ (net : Net). net.pins) (slice_get design.circuit number) ≡ Some pins →
     takes_pins part (length pins) ≡ true
 takes_its_pins design ok number part pins part_is pins_are =
-    let found = net_there (λ (net : Net). net.part) (slice_get design.circuit number) part part_is in
+    let found = net_with (λ (net : Net). net.part) (slice_get design.circuit number) part part_is in
     let same : found.0.pins ≡ pins = let e = rw found.1 at pins_are in same_Some found.0.pins pins e in
     let takes = timed_nets (λ (net : NetView). takes_pins net.part (length net.pins) ≡ true) design ok ok.netlist.arities in
     let here = All-slice_get (λ (net : Net). takes_pins net.part (length net.pins) ≡ true) design.circuit number found.0 takes found.1 in
@@ -73,7 +73,7 @@ pub pins_below : (design : DesignView) → IsDesign design → (number : ℕ) (p
     option_map (λ (net : Net). net.pins) (slice_get design.circuit number) ≡ Some pins →
     All (λ pin. pin < length design.circuit) pins
 pins_below design ok number pins pins_are =
-    let found = net_there (λ (net : Net). net.pins) (slice_get design.circuit number) pins pins_are in
+    let found = net_with (λ (net : Net). net.pins) (slice_get design.circuit number) pins pins_are in
     let circuit = IsCircuit-from_IsDesign design ok in
     rw (← found.2) (All-slice_get (λ (net : Net). All (λ pin. pin < length design.circuit) net.pins) design.circuit number found.0 circuit.pins found.1)
 
@@ -82,7 +82,7 @@ pub has_timing : (circuit : Circuit) → IsCircuit circuit → (number : ℕ) (p
     option_map (λ (net : Net). net.part) (slice_get circuit number) ≡ Some part →
     option_map (λ (net : Net). net.timing) (slice_get circuit number) ≡ Some timing → HasTiming part timing
 has_timing circuit ok number part timing part_is timing_is =
-    let found = net_there (λ (net : Net). net.timing) (slice_get circuit number) timing timing_is in
+    let found = net_with (λ (net : Net). net.timing) (slice_get circuit number) timing timing_is in
     let same : found.0.part ≡ part = let e = rw found.1 at part_is in same_Some found.0.part part e in
     let timed = timed_at circuit ok number found.0 found.1 in
     rw (← found.2, ← same) timed.timing
@@ -92,7 +92,7 @@ pub has_wires : (circuit : Circuit) → IsCircuit circuit → (number : ℕ) (pi
     option_map (λ (net : Net). net.pins) (slice_get circuit number) ≡ Some pins →
     option_map (λ (net : Net). net.wires) (slice_get circuit number) ≡ Some wires → length wires ≡ length pins
 has_wires circuit ok number pins wires pins_are wires_are =
-    let found = net_there (λ (net : Net). net.wires) (slice_get circuit number) wires wires_are in
+    let found = net_with (λ (net : Net). net.wires) (slice_get circuit number) wires wires_are in
     let same : found.0.pins ≡ pins = let e = rw found.1 at pins_are in same_Some found.0.pins pins e in
     let timed = timed_at circuit ok number found.0 found.1 in
     rw (← found.2, ← same) timed.wires.each

@@ -1,6 +1,7 @@
 -- The walk from gates back over their pins: which nets were seen, the gates on its path, and those that it has left.
 use Rattle.std.specs.Prelude.{◌≡◌, ℕ, ◌+◌, ◌<◌, ◌==◌, ◌&&◌, not, Bool, false, IsTrue, if◌then◌else◌, List, ◌++◌, length, map, count_by, filter, slice_get, slice_index_or, Some, All, AllPairs}
 use Rattle.std.specs.List.{range_with_len}
+use Rattle.netlist.specs.Marks.{is_seen}
 use Rattle.design.specs.declared.order.Step.{Step}
 use Rattle.design.specs.Circuit.{Net, Circuit}
 use Rattle.design.specs.Flow.{rank_at, IsGate, FlowsTo, FollowsFlow}
@@ -21,16 +22,6 @@ with_gates circuit gates = nets_of_rank circuit 0 ++ gates ++ nets_of_rank circu
 pub record IsGateOrder (circuit : Circuit) (gates : List ℕ) : Type 0 where
   pub each : (net : ℕ) → times net gates ≡ (if rank_at circuit net == 1 then 1 else 0)
   pub follows : FollowsFlow circuit gates
-
-abbrev pub is_seen : List Bool → ℕ → Bool
-is_seen seen net = slice_index_or seen net false
-
-abbrev pub unseen : List Bool → ℕ
-unseen seen = count_by not seen
-
--- what was seen still is
-abbrev pub KeepsSeen : List Bool → List Bool → Type 0
-KeepsSeen old new = (net : ℕ) → IsTrue (is_seen old net) → IsTrue (is_seen new net)
 
 -- the pins before a place were seen
 abbrev pub SeenBefore : List Bool → List ℕ → ℕ → Type 0

@@ -5,9 +5,10 @@
 //! stack.
 ghost use Rattle.std.specs.Prelude.{◌≡◌, ◌≢◌, ℕ, ◌<◌, ◌≤◌, ◌==◌, not, [], ◌∷◌, ◌++◌, false, length, map, set, slice_index_or, true, All, AllPairs, Contains, IfOk, OnOk};
 ghost use Rattle.std.specs.List.{range_with_len};
+ghost use Rattle.netlist.specs.Marks.{is_seen, KeepsSeen};
 ghost use Rattle.design.specs.Design.{IsDesign};
 ghost use Rattle.design.specs.Flow.{rank, rank_at, FollowsFlow};
-ghost use Rattle.design.specs.Walk.{nets_of_rank, with_gates, is_seen, IsGateOrder, IsWalk, KeepsSeen, SeenBefore};
+ghost use Rattle.design.specs.Walk.{nets_of_rank, with_gates, IsGateOrder, IsWalk, SeenBefore};
 
 use crate::design::Design;
 use netlist::Part;

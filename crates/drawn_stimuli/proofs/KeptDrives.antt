@@ -1,8 +1,8 @@
 -- The drives kept so far, by net number.
-use Rattle.std.proofs.Common.{◌≡◌, ℕ, ◌≢◌, ◌+◌, ◌<◌, true, false, cond, not, List, [], ◌∷◌, ◌++◌, length, get_or, set, replicate, Option, None, Some, append_assoc, append-nil, refl, sym, ap, ◌∙◌}
+use Rattle.std.proofs.Common.{◌≡◌, ℕ, ◌≢◌, ◌+◌, ◌<◌, true, false, cond, not, List, [], ◌∷◌, ◌++◌, length, get_or, set, replicate, Option, None, Some, append_assoc, refl, sym, ap, ◌∙◌}
 use Rattle.std.specs.Option.{is_some, option_or}
 use Rattle.std.specs.Str.{bytes_eq}
-use Rattle.std.proofs.lemmas.List.{get_or-map, length-map, length_push}
+use Rattle.std.proofs.lemmas.List.{get_or-map, length_push}
 use Rattle.std.proofs.lemmas.List.Sums.{fold_push}
 use Rattle.netlist.specs.Netlist.{NetView, NetlistView, net_at, net_named}
 use Rattle.netlist.proofs.CallerLemmas.{HasDistinctNames, bytes_eq-other, bytes_eq-same, map-named, net_at-named, no_net}
@@ -28,25 +28,12 @@ pub Kept-first : (netlist : NetlistView) (all : List DriveView) (kept : List (Op
     Kept netlist all all 0 kept
 Kept-first netlist all kept none = record { earlier = []; count = refl; whole = refl; rest = refl; held = none ∙ none-kept netlist.nets }
 
--- in the end all are
-pub Kept-all : {netlist : NetlistView} {all : List DriveView} {place : ℕ} {kept : List (Option Drive)} → Kept netlist all [] place kept →
-    (first_fault netlist [] all ≡ None) × (kept ≡ drives_of_nets all netlist.nets)
-Kept-all {netlist = netlist} k = (k.rest, k.held ∙ ap (λ drives. drives_of_nets drives netlist.nets) (sym (append-nil k.earlier) ∙ k.whole))
-
-pub Kept-length : {netlist : NetlistView} {all left : List DriveView} {place : ℕ} {kept : List (Option Drive)} → Kept netlist all left place kept →
-    length kept ≡ length netlist.nets
-Kept-length {netlist = netlist} k = ap length k.held ∙ length-map netlist.nets (λ (net : NetView). drive_named k.earlier net.name)
-
 module _ {netlist : NetlistView} {all left rest : List DriveView} {place : ℕ} {kept : List (Option Drive)} {driven : DriveView}
     (k : Kept netlist all left place kept) (turn : left ≡ driven ∷ rest) where
   next-fault : (fault : Option DriveFault) → fault_behind netlist k.earlier driven ≡ fault →
       first_fault netlist [] all ≡ option_or fault (first_fault netlist (k.earlier ++ driven ∷ []) rest)
   next-fault fault same =
       k.rest ∙ ap (first_fault netlist k.earlier) turn ∙ ap (λ fault. option_or fault (first_fault netlist (k.earlier ++ driven ∷ []) rest)) same
-
-  -- a faulty drive is the first that is
-  pub Kept-stops : (fault : DriveFault) → fault_behind netlist k.earlier driven ≡ Some fault → first_fault netlist [] all ≡ Some fault
-  Kept-stops fault faulty = next-fault (Some fault) faulty
 
   -- another is kept for its net
   pub Kept-more : {net : ℕ} → HasDistinctNames netlist.nets → net_named netlist driven.name ≡ Some net →
@@ -81,13 +68,6 @@ module _ {netlist : NetlistView} {all left rest : List DriveView} {place : ℕ} 
 
 module _ (netlist : NetlistView) (earlier : List DriveView) (kept : List (Option Drive)) (place : ℕ) (driven : DriveView)
     (held : kept ≡ drives_of_nets earlier netlist.nets) (count : length earlier ≡ place) where
-  -- a name that no input has
-  pub fault_behind-unnamed : names_input netlist driven.name ≡ false → fault_behind netlist earlier driven ≡ Some (NotAnInput place)
-  fault_behind-unnamed unnamed =
-      ap (λ named. cond (not named) (Some (NotAnInput (length earlier)))
-      (cond (is_some (drive_named earlier driven.name)) (Some (Twice (length earlier))) (form_fault (length earlier) driven.drive))) unnamed
-      ∙ ap (λ n. Some (NotAnInput n)) count
-
   -- an input by what is kept of its net
   pub fault_behind-named : {net : ℕ} (d : Option Drive) → names_input netlist driven.name ≡ true → net_named netlist driven.name ≡ Some net →
       fault_behind netlist earlier driven ≡ cond (is_some (get_or kept net d)) (Some (Twice place)) (form_fault place driven.drive)

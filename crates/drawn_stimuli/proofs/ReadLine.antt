@@ -1,20 +1,20 @@
 -- What the reader of stimuli makes of a line.
-use Rattle.std.proofs.Common.{◌≡◌, ℕ, ◌+◌, ◌<◌, ◌≤◌, ◌^◌, ◌==◌, ◌||◌, ◌&&◌, not, Bool, true, false, cond, IsTrue, List, [], ◌∷◌, ◌++◌, length, map, filter, codes, decimal, All, option_map, None, Some, Ok, Err, append_assoc, refl, ap, ◌∙◌, one-add, arith}
+use Rattle.std.proofs.Common.{◌≡◌, ℕ, ◌+◌, ◌<◌, ◌≤◌, ◌==◌, ◌||◌, ◌&&◌, not, Bool, true, false, cond, IsTrue, List, [], ◌∷◌, ◌++◌, length, map, filter, codes, decimal, All, option_map, None, Some, Ok, Err, append_assoc, refl, ap, ◌∙◌, arith}
 use Rattle.std.specs.List.{enumerate_from, slice_split}
 use Rattle.std.specs.Char.{is_ascii_graphic}
 use Rattle.std.specs.Option.{option_map_or}
-use Rattle.std.specs.Str.{all_ascii_digits}
-use Rattle.std.specs.Str.Parse.{AllDigits, digits_value}
+use Rattle.std.specs.Str.Parse.{AllDigits}
 use Rattle.std.proofs.lemmas.Bool.{le-ltb}
 use Rattle.std.proofs.lemmas.Bool.Decides.{nat_tests}
 use Rattle.std.proofs.lemmas.Fmt.{decimal_is_IsNumeral}
-use Rattle.std.proofs.lemmas.List.Elements.{All-append, All-cons, All-head, All-nil, All-tail, All-weaker}
+use Rattle.std.proofs.lemmas.List.Elements.{All-append, All-cons, All-nil, All-weaker}
 use Rattle.std.proofs.lemmas.List.Splits.{slice_split_at, slice_split_none}
 use Rattle.std.proofs.lemmas.List.Sums.{AllPass-from_list_all, list_all-from_AllPass}
 use Rattle.std.proofs.lemmas.Str.Parse.{digit_from_value}
 use Rattle.logic3.specs.declared.value.Value.{Value}
 use Rattle.logic3.specs.declared.value.Value.TheVariants.{Zero, One, Unknown}
-use Rattle.text_lines.specs.Text.{code_lines_from, code_of, is_empty, is_white, lines_of, number_of, words_of}
+use Rattle.text_lines.specs.Text.{code_lines_from, code_of, is_empty, is_white, lines_of, words_of}
+use Rattle.text_lines.proofs.CallerLemmas.{code_of-no_hash, number_of-decimal}
 use Rattle.netlist.specs.Name.{IsName, is_name_byte}
 use Rattle.netlist.specs.Netlist.{NetView, NetlistView}
 use Rattle.timing_text.specs.declared.fault.StimulusFault.TheVariants.{BadLine}
@@ -58,13 +58,6 @@ no_line_feed byte h = grind (arith, nat_tests)
 no_hash : (byte : ℕ) → is_line_byte byte ≡ true → (byte == 35) ≡ false
 no_hash byte h = grind (arith, nat_tests)
 
--- a line has no comment
-code_of-line : (line : List ℕ) → IsLine line → code_of line ≡ line
-code_of-line [] bytes = refl
-code_of-line (byte ∷ line) bytes =
-    rw (no_hash byte (All-head (λ byte. is_line_byte byte ≡ true) byte line bytes), one-add)
-    (ap (λ rest. byte ∷ rest) (code_of-line line (All-tail (λ byte. is_line_byte byte ≡ true) byte line bytes)))
-
 -- ---- the words of a line
 
 IsWord-name : (name : List ℕ) → IsName name → IsWord name
@@ -81,21 +74,6 @@ IsWord-value : (value : Value) → IsWord (value_text value)
 IsWord-value Zero = AllPass-from_list_all is_word_byte (codes "0") refl
 IsWord-value One = AllPass-from_list_all is_word_byte (codes "1") refl
 IsWord-value Unknown = AllPass-from_list_all is_word_byte (codes "x") refl
-
-all_digits : (word : List ℕ) → AllDigits 10 word → all_ascii_digits word ≡ true
-all_digits [] h = refl
-all_digits (c ∷ word) h =
-    let range = digit_from_value c h.0 in let rest = all_digits word h.1 in rw rest (grind (arith, nat_tests, range))
-
-number_of-digits : (word : List ℕ) → 0 < length word → AllDigits 10 word → number_of word ≡ Some (digits_value 10 word)
-number_of-digits [] some h = absurd (omega arith)
-number_of-digits (c ∷ word) some h = rw (all_digits (c ∷ word) h) refl
-
--- a number is read back
-number_of-decimal : (n : ℕ) → n < 2 ^ 64 → number_of (decimal n) ≡ Some n
-number_of-decimal n small =
-    let numeral = decimal_is_IsNumeral n small in
-    number_of-digits (decimal n) numeral.0.0 numeral.0.1 ∙ ap Some numeral.1
 
 value_of_word-value : (value : Value) → value_of_word (value_text value) ≡ Some value
 value_of_word-value Zero = refl
@@ -193,7 +171,8 @@ module _ (netlist : NetlistView) (s : NamedChange) (can : IsDrawnChange netlist 
       ∙ slice_split_at (λ byte. byte == 10) (code_of_change s) 10 rest
       (All-weaker (λ byte. is_line_byte byte ≡ true) (λ byte. (byte == 10) ≡ false) no_line_feed (code_of_change s) bytes) refl in
       ap numbered cut
-      ∙ ap (λ first. filter has_words ((number, first) ∷ enumerate_from (number + 1) (map code_of (lines_of rest)))) (code_of-line (code_of_change s) bytes)
+      ∙ ap (λ first. filter has_words ((number, first) ∷ enumerate_from (number + 1) (map code_of (lines_of rest)))) (code_of-no_hash (code_of_change s)
+      (All-weaker (λ byte. is_line_byte byte ≡ true) (λ byte. (byte == 35) ≡ false) no_hash (code_of_change s) bytes))
       ∙ ap (λ words. cond (not (is_empty words)) ((number, code_of_change s) ∷ code_lines_from (number + 1) rest) (code_lines_from (number + 1) rest)) words
 
   stimulus_in-change : stimulus_in (code_of_change s) ≡ Some (record { tick = s.change.tick; name = s.name; value = value_text s.change.value })

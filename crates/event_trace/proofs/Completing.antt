@@ -1,23 +1,22 @@
 -- Rounds one after another, with their lines, until a run is complete.
-use Rattle.std.proofs.Common.{◌≡◌, ℕ, zero, suc, ◌+◌, ◌-◌, ◌*◌, ◌/◌, ◌%◌, ◌<◌, ◌≤◌, ◌==◌, min, true, false, cond, List, [], ◌∷◌, ◌++◌, Option, slice_index_or, refl, ap, sym, subst, ◌∙◌, arith, append_assoc, append-nil, ◌⊎◌, inl, inr, eq-eqb}
+use Rattle.std.proofs.Common.{◌≡◌, ℕ, zero, suc, ◌+◌, ◌-◌, ◌*◌, ◌/◌, ◌%◌, ◌<◌, ◌≤◌, min, true, false, cond, List, [], ◌∷◌, ◌++◌, Option, slice_index_or, refl, ap, sym, subst, ◌∙◌, arith, append_assoc, append-nil, ◌⊎◌, inl, inr}
 use Rattle.std.proofs.lemmas.Bool.{cases_lt}
 use Rattle.std.proofs.lemmas.Grind.{flat_map-append}
-use Rattle.std.proofs.lemmas.List.Sums.{list_all-from_AllPass}
 use Rattle.std.proofs.Math.Nat.{mul_comm}
 use Rattle.design.specs.Circuit.{Circuit, IsCircuit}
 use Rattle.cmb_channels.specs.declared.message.Message.{Message}
 use Rattle.cmb_events.specs.declared.event.Event.{Event}
 use Rattle.cmb_events.specs.declared.event.Event.TheVariants.{Deliver, Advance}
-use Rattle.gate_process.specs.Step.{ProcessState}
 use Rattle.cmb_kernel.specs.State.{State, KernelView, IsComplete, is_complete, least_delay, least_frontier, most_rounds}
 use Rattle.cmb_kernel.specs.Step.{one_more, step, steps, after_deliver, with_round, round_events, round_of, rounds, completed_within}
 use Rattle.cmb_kernel.specs.Sound.{IsSound}
-use Rattle.cmb_kernel.proofs.CallerLemmas.{falls, rises_by_delay}
+use Rattle.cmb_kernel.proofs.CallerLemmas.{falls, rises_by_delay, is_complete-from}
 use Rattle.vcd_dump.specs.Bytes.{AppendsPrefix}
 use Rattle.vcd_dump.specs.Written.{GoesOut}
+use Rattle.vcd_dump.proofs.CallerLemmas.{GoesOut-then, GoesOut-fault}
 use Rattle.event_trace.specs.Lines.{Line, begins, line_text, lines_text}
 use Rattle.event_trace.specs.Trace.{line_of, lines_of, round_lines, lines_within}
-use Rattle.event_trace.proofs.GoingOut.{GoesOut-fault, GoesOut-none, GoesOut-then}
+use Rattle.event_trace.proofs.GoingOut.{GoesOut-none}
 
 -- ---- the number of rounds plays no part in events
 
@@ -76,12 +75,6 @@ most_enough circuit ok last = go (cases_lt 0 last)
         (rises_by_delay circuit last 0 (min last (0 + least_delay last circuit)) ok (omega arith) later))
     go (inr none) = omega arith
 
--- a complete state passes the test
-complete_test : (state : State) → IsComplete state → is_complete state ≡ true
-complete_test state complete =
-    list_all-from_AllPass (λ (p : ProcessState). p.known.frontier == p.end) state.processes
-    (λ number default below. eq-eqb _ _ (complete number default below))
-
 -- ---- rounds with their lines
 
 -- what went out, what waits and the lines of the rounds to come are the whole; and these rounds lead to the end
@@ -128,7 +121,7 @@ module _ (circuit : Circuit) (ending : State) (old now : Option (List ℕ)) (who
       where
         go : (left : ℕ) → IsComplete (rounds left (with_rounds number state)) → completed_within left (with_rounds number state) ≡ ending →
             GoesOut old now whole (text ++ lines_text circuit (lines_within left (with_rounds number state))) → OneLess
-        go zero complete ends goes = absurd (let done : is_complete state ≡ true = complete_test (with_rounds number state) complete in cc)
+        go zero complete ends goes = absurd (let done : is_complete state ≡ true = is_complete-from (with_rounds number state) complete in cc)
         go (suc left) complete ends goes = record {
           left = left;
           complete = subst (λ (s : State). IsComplete (rounds left s)) (round_apart number state) complete;

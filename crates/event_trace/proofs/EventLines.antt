@@ -1,14 +1,13 @@
 -- The lines of events, from what a kernel's readers say.
-use Rattle.std.proofs.Common.{◌≡◌, ℕ, ◌+◌, ◌-◌, ◌<◌, ◌≤◌, List, [], ◌∷◌, length, Option, None, Some, slice_get, ap, sym, subst, ◌∙◌, arith}
-use Rattle.std.specs.Option.{option_map, option_map_or, ForSome}
+use Rattle.std.proofs.Common.{◌≡◌, ℕ, ◌<◌, ◌≤◌, List, [], ◌∷◌, length, Option, None, Some, slice_get, ap, sym, ◌∙◌, arith}
+use Rattle.std.specs.Option.{option_map, option_map_or}
 use Rattle.std.proofs.lemmas.Option.{same_Some}
 use Rattle.logic3.specs.declared.value.Value.{Value}
 use Rattle.logic3.specs.declared.change.Change.{Change}
 use Rattle.logic3.specs.Wave.{Wave, changes_between, wave_of}
 use Rattle.design.specs.Circuit.{Net, Circuit, IsCircuit, pin_count}
 use Rattle.design.specs.Equations.{value_of}
-use Rattle.design.specs.Pins.{sources_of, first_pin, net_of_pin, place_of_pin}
-use Rattle.design.proofs.CallerLemmas.{pin_is}
+use Rattle.design.specs.Pins.{sources_of, net_of_pin, place_of_pin}
 use Rattle.cmb_events.specs.declared.event.Event.{Event}
 use Rattle.cmb_events.specs.declared.event.Event.TheVariants.{Deliver, Advance}
 use Rattle.cmb_kernel.specs.State.{KernelView, IsUndrained, frontier_at, floor_at, received_at}
@@ -21,26 +20,6 @@ use Rattle.event_trace.specs.Told.{told_by, told_between}
 use Rattle.event_trace.specs.Trace.{line_of}
 use Rattle.event_trace.proofs.News.{advance_told, advance_ahead, deliver_told}
 
--- the net of a pin has a first pin
-pub some_pin : (circuit : Circuit) (pin net : ℕ) → pin < pin_count circuit → net ≡ net_of_pin circuit pin →
-    ForSome (slice_get circuit net) (λ (n : Net). 0 < length n.pins)
-some_pin circuit pin net exists net_is n at =
-    let there = pin_is circuit pin exists in
-    let here : slice_get circuit (net_of_pin circuit pin) ≡ Some n = subst (λ m. slice_get circuit m ≡ Some n) net_is at in
-    let same : there.net ≡ n = same_Some there.net n (sym there.at ∙ here) in
-    let long = ap (λ (m : Net). length m.pins) same in
-    let within = there.within in
-    omega arith
-
--- the place of a pin, counted from the first pin of its net
-pub place_is : (circuit : Circuit) (pin net first : ℕ) → pin < pin_count circuit → net ≡ net_of_pin circuit pin →
-    first ≡ first_pin circuit net + 0 → (first ≤ pin) × (pin - first ≡ place_of_pin circuit pin)
-place_is circuit pin net first exists net_is first_is =
-    let there = pin_is circuit pin exists in
-    let starts = ap (first_pin circuit) net_is in
-    let number = there.number_is in
-    (omega arith, omega arith)
-
 named : (entry : Option Net) (name : List ℕ) → option_map (λ (n : Net). n.name) entry ≡ Some name → name ≡ option_map_or (λ (n : Net). n.name) entry []
 named None name e = cc
 named (Some n) name e = sym (same_Some n.name name e)
@@ -48,9 +27,6 @@ named (Some n) name e = sym (same_Some n.name name e)
 -- a kernel to which an event happened
 module _ (kernel new : KernelView) (event : Event) (goes : new ≡ record kernel { state = step kernel.state event }) (ok : IsCircuit kernel.circuit)
     (sound : IsSound kernel.circuit kernel.end kernel.state) (undrained : IsUndrained kernel.state) where
-  state_is : new.state ≡ step kernel.state event
-  state_is = ap (λ (k : KernelView). k.state) goes
-
   pub still_undrained : IsUndrained new.state
   still_undrained net =
       ap (λ s. floor_at s net) (ap (λ (k : KernelView). k.state) goes) ∙ steps_floor kernel.state (event ∷ []) net ∙ undrained net

@@ -1,18 +1,17 @@
 -- What events tell of the nets' signals.
 use Rattle.std.proofs.Common.{◌≡◌, ℕ, ◌+◌, ◌-◌, ◌<◌, ◌≤◌, ◌==◌, Bool, true, false, cond, List, [], ◌∷◌, ◌++◌, length, take, Some, slice_get, slice_index_or, refl, ap, sym, subst, ◌∙◌, arith, eq-eqb, flat_map}
 use Rattle.std.specs.List.{range_with_len}
-use Rattle.std.specs.Option.{option_map, option_map_or}
+use Rattle.std.specs.Option.{option_map_or}
 use Rattle.std.proofs.lemmas.Bool.Decides.{nat_tests}
-use Rattle.std.proofs.lemmas.List.{length-map}
-use Rattle.std.proofs.lemmas.Option.{slice_get-map, slice_get_within, same_Some}
+use Rattle.std.proofs.lemmas.Option.{slice_get_within, same_Some}
 use Rattle.logic3.specs.declared.value.Value.{Value}
 use Rattle.logic3.specs.declared.change.Change.{Change}
 use Rattle.logic3.specs.Wave.{change_at, changes_between}
 use Rattle.logic3.proofs.CallerLemmas.{changes_between-split}
 use Rattle.design.specs.Circuit.{Net, Circuit, IsCircuit, pin_count}
-use Rattle.design.specs.Equations.{equation_at, value_of}
+use Rattle.design.specs.Equations.{value_of}
 use Rattle.design.specs.Pins.{sources_of, net_of_pin, place_of_pin}
-use Rattle.design.proofs.CallerLemmas.{timed_at, value_solves, source_at, pin_is}
+use Rattle.design.proofs.CallerLemmas.{source_at, pin_is}
 use Rattle.cmb_channels.specs.declared.message.Message.{Message}
 use Rattle.cmb_channels.specs.declared.message.Message.TheVariants.{Change as Changes, Null}
 use Rattle.cmb_channels.specs.Lists.{update}
@@ -25,6 +24,7 @@ use Rattle.cmb_events.specs.declared.event.Event.TheVariants.{Deliver, Advance}
 use Rattle.cmb_kernel.specs.State.{State, nets_of, frontier_at, received_of, received_at}
 use Rattle.cmb_kernel.specs.Step.{news_at, after_deliver, step}
 use Rattle.cmb_kernel.specs.Sound.{IsSound}
+use Rattle.cmb_kernel.proofs.CallerLemmas.{meets, net_count, net_at}
 use Rattle.event_trace.specs.Shown.{changes_in}
 use Rattle.event_trace.specs.Told.{told_between}
 
@@ -76,22 +76,8 @@ news_are signals number process meets knows =
         ap (λ cs. news_of cs (next_frontier process)) (sym changes ∙ sym true_changes)
 
 module _ (circuit : Circuit) (ok : IsCircuit circuit) (last : ℕ) (state : State) (sound : IsSound circuit last state) where
-  net_count : length state.processes ≡ length circuit
-  net_count = sym (length-map state.processes (λ (p : ProcessState). p.net)) ∙ ap length sound.nets
-
-  net_at : (number : ℕ) (process : ProcessState) → slice_get state.processes number ≡ Some process → slice_get circuit number ≡ Some process.net
-  net_at number process e =
-      ap (λ c. slice_get c number) (sym sound.nets)
-      ∙ slice_get-map (λ (p : ProcessState). p.net) state.processes number ∙ ap (option_map (λ (p : ProcessState). p.net)) e
-
-  pub meets : (number : ℕ) (process : ProcessState) → slice_get state.processes number ≡ Some process → Meets (value_of circuit) number process.net
-  meets number process e = record {
-    timed = timed_at circuit ok number process.net (net_at number process e);
-    solves = λ tick. value_solves circuit ok number tick ∙ ap (λ place. equation_at place (value_of circuit) tick) (net_at number process e);
-  }
-
   pub process_at : (number : ℕ) → number < length circuit → (process : ProcessState) × (slice_get state.processes number ≡ Some process)
-  process_at number below = let count = net_count in get_below state.processes number (omega arith)
+  process_at number below = let count = net_count circuit last state sound in get_below state.processes number (omega arith)
 
   -- ---- what an advance tells
 
@@ -109,7 +95,7 @@ module _ (circuit : Circuit) (ok : IsCircuit circuit) (last : ℕ) (state : Stat
       let before = frontier_before net process.0 process.1 in
       let after = frontier_after net process.0 process.1 in
       ap (λ place. option_map_or news place []) process.1
-      ∙ news_are (value_of circuit) net process.0 (meets net process.0 process.1) (sound.processes net process.0 process.1)
+      ∙ news_are (value_of circuit) net process.0 (meets circuit ok last state sound net process.0 process.1) (sound.processes net process.0 process.1)
       ∙ (λ i. told_between (value_of circuit net) (sym before i) (sym after i))
 
   pub advance_ahead : (net : ℕ) → net < length circuit → frontier_at state net ≤ frontier_at (step state (Advance net)) net

@@ -1,12 +1,10 @@
 -- What advances tell of a net is its waveform.
-use Rattle.std.proofs.Common.{◌≡◌, ℕ, zero, suc, ◌-◌, ◌*◌, ◌<◌, ◌≤◌, ◌==◌, Bool, true, false, cond, List, [], ◌∷◌, ◌++◌, map, length, slice_get, slice_index_or, flat_map, All, refl, ap, sym, subst, ◌∙◌, arith, append-nil, eqb-true}
+use Rattle.std.proofs.Common.{◌≡◌, ℕ, zero, suc, ◌-◌, ◌*◌, ◌<◌, ◌≤◌, ◌==◌, Bool, true, false, cond, List, [], ◌∷◌, ◌++◌, length, slice_get, slice_index_or, flat_map, All, refl, ap, sym, subst, ◌∙◌, arith, append-nil, eqb-true}
 use Rattle.std.specs.List.{range_with_len}
 use Rattle.std.specs.Option.{option_map_or}
 use Rattle.std.proofs.lemmas.Bool.{eqb-false}
 use Rattle.std.proofs.lemmas.Grind.{flat_map-append}
 use Rattle.std.proofs.lemmas.List.Elements.{All-cons, All-head, All-nil, All-tail}
-use Rattle.std.proofs.lemmas.List.Sums.{AllPass-from_list_all}
-use Rattle.std.proofs.lemmas.Option.{get_or_from_slice_get, slice_get_within}
 use Rattle.logic3.specs.declared.value.Value.{Value}
 use Rattle.logic3.specs.Wave.{change_at, changes_between, wave_of}
 use Rattle.logic3.proofs.CallerLemmas.{changes_between-split}
@@ -14,8 +12,8 @@ use Rattle.design.specs.Circuit.{Circuit, IsCircuit}
 use Rattle.design.specs.Equations.{value_of}
 use Rattle.design.specs.Pins.{net_of_pin, place_of_pin}
 use Rattle.cmb_channels.specs.declared.message.Message.{Message}
-use Rattle.cmb_channels.proofs.CallerLemmas.{map-update, view_at, view_of_update_other}
-use Rattle.gate_process.specs.Step.{ProcessState, started_process, advanced, news, heard}
+use Rattle.cmb_channels.proofs.CallerLemmas.{map-update, view_of_update_other}
+use Rattle.gate_process.specs.Step.{ProcessState, advanced, news, heard}
 use Rattle.gate_process.proofs.CallerLemmas.{news_true}
 use Rattle.cmb_events.specs.declared.event.Event.{Event}
 use Rattle.cmb_events.specs.declared.event.Event.TheVariants.{Deliver, Advance}
@@ -24,12 +22,12 @@ use Rattle.cmb_kernel.specs.State.{State, started, nets_of, frontier_at, is_comp
 use Rattle.cmb_kernel.specs.Step.{after_deliver, step, steps, round_events, round_of, rounds, completed_within}
 use Rattle.cmb_kernel.specs.Sound.{IsSound}
 use Rattle.cmb_kernel.specs.Useful.{NoneFalls}
+use Rattle.cmb_kernel.proofs.CallerLemmas.{completes, frontier_when_complete, meets, round_exists, started_frontier}
 use Rattle.event_trace.specs.Lines.{Line, ends}
 use Rattle.event_trace.specs.Shown.{changes_in, told_of, changes_told_of}
 use Rattle.event_trace.specs.Trace.{line_of, lines_of, round_lines, lines_within, trace_lines}
 use Rattle.event_trace.proofs.Completing.{most_enough}
-use Rattle.event_trace.proofs.News.{frontier_after, frontier_before, meets, process_at, told_changes}
-use Rattle.event_trace.proofs.RoundEvents.{round_exists}
+use Rattle.event_trace.proofs.News.{frontier_after, frontier_before, process_at, told_changes}
 
 -- no changes between a tick and itself
 none_between : (signal : ℕ → Value) (from to : ℕ) → from ≡ to → changes_between signal from to ≡ []
@@ -140,33 +138,6 @@ module _ (circuit : Circuit) (ok : IsCircuit circuit) (last : ℕ) (laws : Laws 
 
 -- ---- the beginning and the end
 
-started_frontier : (end : ℕ) (circuit : Circuit) (net : ℕ) →
-    slice_index_or (map (λ (p : ProcessState). p.known.frontier) (map (started_process end) circuit)) net 0 ≡ 0
-started_frontier end [] net = refl
-started_frontier end (first ∷ nets) zero = refl
-started_frontier end (first ∷ nets) (suc net) = started_frontier end nets net
-
--- the fewest rounds complete it, if so many are enough
-completed : (count : ℕ) (state : State) → IsComplete (rounds count state) → IsComplete (completed_within count state)
-completed zero state complete = complete
-completed (suc count) state complete = go (is_complete state) refl (completed count (round_of state) complete)
-  where
-    go : (test : Bool) → is_complete state ≡ test → IsComplete (completed_within count (round_of state)) →
-        IsComplete (cond test state (completed_within count (round_of state)))
-    go true e rest = λ number default inside.
-        eqb-true _ _ (AllPass-from_list_all (λ (p : ProcessState). p.known.frontier == p.end) state.processes e number default inside)
-    go false e rest = rest
-
-complete_frontier : (circuit : Circuit) → IsCircuit circuit → (last : ℕ) (state : State) → IsSound circuit last state → IsComplete state →
-    (net : ℕ) → net < length circuit → frontier_at state net ≡ last
-complete_frontier circuit ok last state sound complete net below =
-    let process = process_at circuit ok last state sound net below in
-    let within : net < length state.processes = slice_get_within state.processes net process.0 process.1 in
-    let same = get_or_from_slice_get state.processes net process.0 process.0 process.1 in
-    view_at (λ (p : ProcessState). p.known.frontier) state.processes net process.0 process.1
-    ∙ subst (λ (p : ProcessState). p.known.frontier ≡ p.end) same (complete net process.0 within)
-    ∙ sound.ends net process.0 process.1
-
 pub waveform_told : (circuit : Circuit) → IsCircuit circuit → (end : ℕ) → Laws circuit end → IsSound circuit end (started circuit end) →
     ((state : State) → IsSound circuit end state → (count : ℕ) → end ≤ count * least_delay end circuit → IsComplete (rounds count state)) →
     (events : List Event) → All (Exists circuit) events → (net : ℕ) → net < length circuit →
@@ -179,8 +150,8 @@ waveform_told circuit ok end laws sound enough events exist net below =
     let first = events_tell circuit ok end laws net below start sound events exist in
     let second = rounds_tell circuit ok end laws net below most after sound_after in
     let all = tells_more circuit ok end laws net below start after (completed_within most after) (lines_of start events) (lines_within most after) first second.told in
-    let complete = completed most after (enough after sound_after most (most_enough circuit ok end)) in
+    let complete = completes most after (enough after sound_after most (most_enough circuit ok end)) in
     let begins_at = started_frontier end circuit net in
-    let ends_at = complete_frontier circuit ok end (completed_within most after) second.sound complete net below in
+    let ends_at = frontier_when_complete circuit end (completed_within most after) second.sound complete net below in
     flat_map-append (told_of net) (lines_of start events ++ lines_within most after) (ends (completed_within most after).counts ∷ [])
     ∙ append-nil _ ∙ all.tells ∙ (λ i. changes_between (value_of circuit net) (begins_at i) (ends_at i))

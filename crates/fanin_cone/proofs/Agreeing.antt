@@ -7,10 +7,11 @@ use Rattle.std.proofs.lemmas.List.Elements.{All-contains}
 use Rattle.netlist.specs.Netlist.{NetView, NetlistView, IsNetlist, net_named, name_at}
 use Rattle.design.specs.Circuit.{Net}
 use Rattle.design.specs.Design.{DesignView, IsDesign}
+use Rattle.design.proofs.CallerLemmas.{net_with}
 use Rattle.netlist.proofs.CallerLemmas.{net_at-named}
 use Rattle.fanin_cone.specs.Cone.{InCone, start, pin, IsConeOf}
 use Rattle.fanin_cone.specs.Agreement.{net_of, IsSameNet, AgreesAt, AgreesOn}
-use Rattle.fanin_cone.proofs.DesignNets.{net_there, net_with, name_at-circuit}
+use Rattle.fanin_cone.proofs.DesignNets.{net_there, name_at-circuit}
 use Rattle.fanin_cone.proofs.Listed.{Contains-from_map, Contains-one}
 use Rattle.fanin_cone.proofs.NetNames.{number_of_net, pins_below}
 use Rattle.fanin_cone.proofs.NetOf.{net_of-found, net_of-none, net_of-own}

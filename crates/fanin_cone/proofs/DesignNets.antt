@@ -1,10 +1,11 @@
 -- The nets of a design by number, in its netlist and in its circuit.
-use Rattle.std.proofs.Common.{◌≡◌, ℕ, zero, suc, ◌<◌, List, [], ◌∷◌, length, get_or, option_map, Option, None, Some, slice_get, refl, sym, ap, ◌∙◌, arith}
+use Rattle.std.proofs.Common.{◌≡◌, ℕ, zero, suc, ◌<◌, List, [], ◌∷◌, length, get_or, option_map, Some, slice_get, refl, sym, ap, ◌∙◌, arith}
 use Rattle.std.proofs.lemmas.List.{get_or-map}
-use Rattle.std.proofs.lemmas.Option.{slice_get_within, get_or_from_slice_get, none-some, same_Some}
+use Rattle.std.proofs.lemmas.Option.{slice_get_within, get_or_from_slice_get}
 use Rattle.netlist.specs.Netlist.{NetView, net_at, name_at}
 use Rattle.design.specs.Circuit.{Net, Circuit}
 use Rattle.design.specs.Design.{DesignView, IsDesign, untimed}
+use Rattle.design.proofs.CallerLemmas.{net_with}
 use Rattle.netlist.proofs.CallerLemmas.{no_net}
 
 -- a number below the number of nets has a net
@@ -12,12 +13,6 @@ pub net_there : (circuit : Circuit) (number : ℕ) → number < length circuit �
 net_there [] number below = absurd (omega arith)
 net_there (net ∷ nets) zero below = (net, refl)
 net_there (net ∷ nets) (suc number) below = net_there nets number (omega arith)
-
--- where a field of the net at a number is known, there is a net
-pub net_with : {A : Type 0} (field : Net → A) (place : Option Net) (x : A) → option_map field place ≡ Some x →
-    (net : Net) × (place ≡ Some net) × (field net ≡ x)
-net_with field None x e = absurd (none-some x e)
-net_with field (Some net) x e = (net, refl, same_Some (field net) x e)
 
 -- the net of a number in the netlist is that of the circuit without its timing
 pub net_at-untimed : (design : DesignView) → IsDesign design → (number : ℕ) (net : Net) → slice_get design.circuit number ≡ Some net →

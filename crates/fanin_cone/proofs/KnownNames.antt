@@ -1,14 +1,14 @@
 -- Names whose nets are known.
-use Rattle.std.proofs.Common.{sym, ◌≡◌, ℕ, zero, suc, ◌+◌, ◌<◌, ◌≤◌, ◌++◌, nat_lt, true, false, List, [], ◌∷◌, length, map, filter_map, get_or, take, Option, None, Some, refl, ap, ◌∙◌, arith, All}
+use Rattle.std.proofs.Common.{sym, ◌≡◌, ℕ, zero, suc, ◌+◌, ◌<◌, ◌≤◌, ◌++◌, nat_lt, true, false, List, [], ◌∷◌, length, map, filter_map, get_or, take, None, Some, refl, ap, ◌∙◌, arith, All}
 use Rattle.std.specs.List.{position_or_len}
-use Rattle.std.specs.Option.{is_none, is_some}
+use Rattle.std.specs.Option.{is_none}
 use Rattle.std.proofs.lemmas.Bool.Decides.{nat_tests}
 use Rattle.std.proofs.lemmas.List.{take_more, map-append}
 use Rattle.std.proofs.lemmas.List.Elements.{All-nil, All-cons}
 use Rattle.std.proofs.lemmas.List.Folds.{list_any_none}
 use Rattle.std.proofs.lemmas.List.Sums.{position_or_len_is}
 use Rattle.netlist.specs.Netlist.{NetlistView, net_named, name_at}
-use Rattle.netlist.proofs.CallerLemmas.{is_some-position, net_at-named}
+use Rattle.netlist.proofs.CallerLemmas.{is_some-position, net_at-named, none_from_is_some}
 use Rattle.fanin_cone.specs.Extract.{first_unknown}
 
 -- the names have these numbers
@@ -54,14 +54,10 @@ none_unknown netlist (name ∷ names) (n ∷ numbers) known =
     let rest : HaveNumbers netlist names numbers = cc in
     All-cons (λ name. is_none (net_named netlist name) ≡ false) name names (ap is_none first) (none_unknown netlist names numbers rest)
 
-nothing : {A : Type 0} (o : Option A) → is_some o ≡ false → o ≡ None
-nothing None e = refl
-nothing (Some x) e = cc
-
 pub first_unknown-known : (netlist : NetlistView) (names : List (List ℕ)) (numbers : List ℕ) → HaveNumbers netlist names numbers →
     first_unknown netlist names ≡ None
 first_unknown-known netlist names numbers known =
-    nothing (first_unknown netlist names)
+    none_from_is_some (first_unknown netlist names)
     (is_some-position (λ name. is_none (net_named netlist name)) names
     ∙ list_any_none (λ name. is_none (net_named netlist name)) names (none_unknown netlist names numbers known))
 

@@ -9,8 +9,7 @@ use Rattle.netlist.specs.declared.part.Part.TheVariants.{Input}
 use Rattle.design.specs.Circuit.{Net}
 use Rattle.timing_text.specs.Ranges.{HasStimuli}
 use Rattle.design.specs.Design.{DesignView, IsDesign}
-use Rattle.design.proofs.CallerLemmas.{timed_at, IsCircuit-from_IsDesign}
-use Rattle.fanin_cone.proofs.DesignNets.{net_with}
+use Rattle.design.proofs.CallerLemmas.{timed_at, IsCircuit-from_IsDesign, net_with}
 
 -- where those that pass stand before those that do not, they are the first ones
 pub take-partition : {A : Type 0} (p : A → Bool) (xs : List A) (i : ℕ) → i ≤ length xs →

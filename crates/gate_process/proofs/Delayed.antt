@@ -4,7 +4,7 @@ use Rattle.std.specs.List.{prefix_len}
 use Rattle.std.specs.Option.{option_map, option_map_or}
 use Rattle.std.proofs.lemmas.Bool.{cases_lt, le-leb, lt-leb}
 use Rattle.std.proofs.lemmas.List.{get_or-map, length-map, map-append}
-use Rattle.std.proofs.lemmas.Option.{slice_get-map, same_Some}
+use Rattle.std.proofs.lemmas.Option.{same_Some}
 use Rattle.logic3.specs.declared.value.Value.{Value}
 use Rattle.logic3.specs.declared.value.Value.TheVariants.{Unknown}
 use Rattle.logic3.specs.declared.change.Change.{Change}
@@ -12,7 +12,7 @@ use Rattle.logic3.specs.Rising.{TicksRise}
 use Rattle.logic3.specs.Wave.{Wave, value_after, value_at, value_in_the_end}
 use Rattle.design.specs.Equations.{later}
 use Rattle.gate_process.specs.Knowledge.{Knowledge, delayed, seen, unknown_from, as_known}
-use Rattle.gate_process.proofs.Passed.{due_by, value_before_first}
+use Rattle.gate_process.proofs.Passed.{due_by}
 
 -- changes, so many ticks later
 abbrev pub delayed_change : ℕ → Change → Change
@@ -96,19 +96,6 @@ pub first_delayed : (wire : ℕ) (changes ending : List Change) (first : Change)
 first_delayed wire [] ending first is = cc
 first_delayed wire (change ∷ changes) ending first is = ap (λ (c : Change). Some (c.tick + wire)) (sym (same_Some change first is))
 
-pub first_unknown_delayed : (wire : ℕ) (changes : List Change) (unknown : Option ℕ) → slice_get changes 0 ≡ None →
-    option_map (λ from. from + wire) unknown
-    ≡ option_map (λ (change : Change). change.tick) (slice_get (delayed_changes wire (changes ++ unknown_from unknown)) 0)
-first_unknown_delayed wire [] None is = refl
-first_unknown_delayed wire [] (Some from) is = refl
-first_unknown_delayed wire (change ∷ changes) unknown is = cc
-
--- seen later, it ends later
-pub known_later : (wire : ℕ) (known : Knowledge) → delayed wire (as_known known) ≡ as_known (seen wire known)
-known_later wire known =
-    ap (λ changes. record { before = known.wave.before; changes = changes })
-    (map-append (delayed_change wire) known.wave.changes (unknown_from (Some known.frontier)))
-
 -- ---- its changes
 
 pub delayed_rise : (wire : ℕ) (changes : List Change) → TicksRise changes → TicksRise (delayed_changes wire changes)
@@ -140,10 +127,3 @@ last_delayed wire before [] zero = refl
 last_delayed wire before [] (suc count) = refl
 last_delayed wire before (first ∷ changes) zero = refl
 last_delayed wire before (first ∷ changes) (suc count) = last_delayed wire first.value changes count
-
--- before the first of them is seen the value is the one before it
-pub before_first_delayed : (wire : ℕ) (before : Value) (changes : List Change) (first : Change) (tick : ℕ) → TicksRise changes →
-    slice_get changes 0 ≡ Some first → tick < first.tick + wire → value_after before (delayed_changes wire changes) tick ≡ before
-before_first_delayed wire before changes first tick rise is early =
-    value_before_first before (delayed_changes wire changes) (delayed_change wire first) tick (delayed_rise wire changes rise)
-    (slice_get-map (delayed_change wire) changes 0 ∙ ap (option_map (delayed_change wire)) is) early

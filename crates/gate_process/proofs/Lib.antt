@@ -9,6 +9,7 @@ mod Forgets
 mod Frontiers
 mod Heard
 mod Kept
+mod Lasting
 mod Nets
 mod Passed
 mod Quiet

@@ -76,14 +76,6 @@ value_now before changes tick rise =
     sym (value_before_all (value_in_the_end before (take (due_by tick changes) changes)) (drop (due_by tick changes) changes) tick (left_after changes tick rise))
     ∙ left_shows before changes tick tick (omega arith)
 
--- before the first change the value is the one before it
-pub value_before_first : (before : Value) (changes : List Change) (first : Change) (tick : ℕ) → TicksRise changes →
-    slice_get changes 0 ≡ Some first → tick < first.tick → value_after before changes tick ≡ before
-value_before_first before [] first tick rise is early = refl
-value_before_first before (change ∷ changes) first tick rise is early =
-    let here = ap (λ (c : Change). c.tick) (same_Some change first is) in
-    value_before_all before (change ∷ changes) tick (all_after change changes tick rise (omega (arith, here, early)))
-
 -- ---- the first change
 
 -- the value before a change at the end of a list

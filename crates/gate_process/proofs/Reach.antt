@@ -131,17 +131,6 @@ module _ (signal : ℕ → Value) where
         omega (arith, before) in
         subst (λ t. signal t ≡ Unknown) same (first_unknown-there (max from sure) (end - max from sure) first)
 
-    -- it is reckoned at least as far as all pins are known, and at most to the end
-    pub most-sure : (part : Part) → sure ≤ most_of_part part end sure
-    most-sure Input = omega arith
-    most-sure (Gate kind) = within
-    most-sure Flop = omega arith
-
-    pub most-end : (part : Part) → most_of_part part end sure ≤ end
-    most-end Input = within
-    most-end (Gate kind) = omega arith
-    most-end Flop = within
-
     -- it stays where it can be reckoned no farther, or shows an X
     pub reach-stays : (part : Part) → from ≤ reach_of_part part signal end from sure →
         (most_of_part part end sure ≤ from) ⊎ ((sure ≤ from) × (signal from ≡ Unknown)) → from ≡ reach_of_part part signal end from sure

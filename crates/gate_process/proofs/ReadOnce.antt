@@ -78,6 +78,3 @@ module _ (start : List Wave) (tick limit place : ℕ) (read : List Wave) (next :
   module _ (done : length read ≤ place) where
     pub all_seen : (t : ℕ) → take place (seen_at t start) ≡ seen_at t start
     all_seen t = let count = so_far.count in take_all place (seen_at t start) (omega (arith, done, count, length-seen t start))
-
-    pub read_steady : (t : ℕ) → tick ≤ t → t < next → seen_at t start ≡ seen_at tick start
-    read_steady t a b = sym (all_seen t) ∙ so_far.steady t a b ∙ all_seen tick

@@ -193,7 +193,7 @@ module _ (signals : ℕ → ℕ → Value) (number : ℕ) (process : ProcessStat
       go false early = absurd (let l = ltb-false at process.known.frontier early in omega arith)
 
   -- the value before a tick that isn't after the frontier
-  before_true : (at : ℕ) → process.floor ≤ at → at ≤ process.known.frontier → value_before (reckoned process) at ≡ value_before (signals number) at
+  pub before_true : (at : ℕ) → process.floor ≤ at → at ≤ process.known.frontier → value_before (reckoned process) at ≡ value_before (signals number) at
   before_true at from to =
       before_reckoned at to
       ∙ ap (λ (k : Knowledge). value_before (value_at k.wave) at) h.known

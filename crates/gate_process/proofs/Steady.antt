@@ -65,19 +65,6 @@ module _ (net : Net) (clock : HasClock net.part net.timing) where
 
   -- while it reads nothing
   module _ (read : List Wave) (tick limit : ℕ) (nothing : read_tick net.part net.timing tick ≡ None) where
-    pub unread_later : tick < limit → tick < option_map_or (min limit) (first_asker net 0) 0
-    unread_later h = go (first_asker net 0) refl
-      where
-        late : (first : ℕ) → first_asker net 0 ≡ Some first → (tick < first) ⊎ (first ≤ tick) → tick < first
-        late first begins (inl h) = h
-        late first begins (inr h) =
-            let from = asked-from net.timing net.part clock 0 first tick begins h in
-            absurd (none-some from.0 (sym nothing ∙ reads_asked net.part net.timing 0 first tick begins ∙ from.1))
-
-        go : (first : Option ℕ) → first_asker net 0 ≡ first → tick < option_map_or (min limit) first 0
-        go None none = absurd (none-some tick (sym nothing ∙ reads_itself net.part net.timing 0 tick none))
-        go (Some first) begins = let after = late first begins (cases_lt tick first) in omega (arith, after, h)
-
     pub unread_steady : (late : ℕ) → late < option_map_or (min limit) (first_asker net 0) 0 → shown net read late ≡ shown net read tick
     unread_steady late h = go (first_asker net 0) refl h
       where

@@ -17,14 +17,10 @@ use Rattle.cmb_kernel.specs.Step.{after_deliver, completed_within, step, steps}
 use Rattle.cmb_kernel.specs.Sound.{IsSound, waves_kept}
 use Rattle.cmb_kernel.specs.Sweeps.{EventsLead}
 use Rattle.cmb_kernel.specs.Useful.{is_useful, progress, useful_count}
-use Rattle.cmb_kernel.proofs.CallerLemmas.{shows_as_rounds, steps_floor}
+use Rattle.cmb_kernel.proofs.CallerLemmas.{shows_as_rounds, steps_floor, steps-append}
 use Rattle.kernel_uses.specs.Runs.{IsCompleted, IsLed, UsefulEventsLead}
 
 -- ---- one event more
-
-steps-more : (state : State) (events : List Event) (event : Event) → steps state (events ++ event ∷ []) ≡ step (steps state events) event
-steps-more state [] event = refl
-steps-more state (first ∷ events) event = steps-more (step state first) events event
 
 useful-more : (state : State) (events : List Event) (event : Event) → is_useful (steps state events) event ≡ true →
     useful_count state (events ++ event ∷ []) ≡ useful_count state events + 1
@@ -40,7 +36,7 @@ module _ (circuit : Circuit) where
   leads_more {old} {now} event so_far exists = record {
     events = so_far.events ++ event ∷ [];
     exist = All-append (Exists circuit) so_far.events (event ∷ []) so_far.exist (All-cons (Exists circuit) event [] exists (All-nil (Exists circuit)));
-    leads = steps-more old so_far.events event ∙ ap (λ s. step s event) so_far.leads;
+    leads = steps-append old so_far.events (event ∷ []) ∙ ap (λ s. step s event) so_far.leads;
   }
 
   pub useful_nowhere : (state : State) → UsefulEventsLead circuit state state 0
@@ -51,7 +47,7 @@ module _ (circuit : Circuit) where
   useful_leads_more {old} {now} {count} event so_far exists useful = record {
     events = so_far.events ++ event ∷ [];
     exist = All-append (Exists circuit) so_far.events (event ∷ []) so_far.exist (All-cons (Exists circuit) event [] exists (All-nil (Exists circuit)));
-    leads = steps-more old so_far.events event ∙ ap (λ s. step s event) so_far.leads;
+    leads = steps-append old so_far.events (event ∷ []) ∙ ap (λ s. step s event) so_far.leads;
     useful = useful-more old so_far.events event (ap (λ s. is_useful s event) so_far.leads ∙ useful) ∙ ap (λ n. n + 1) so_far.useful;
     all = length-append so_far.events (event ∷ []) ∙ ap (λ n. n + 1) so_far.all;
   }
@@ -117,11 +113,6 @@ module _ {old now : KernelView} (led : IsLed old now) where
     where
       floors : (net : ℕ) → floor_at now.state net ≡ floor_at old.state net
       floors net = sym (ap (λ s. floor_at s net) led.events.leads) ∙ steps_floor old.state led.events.events net
-
--- one run of events behind another
-steps-append : (state : State) (first later : List Event) → steps state (first ++ later) ≡ steps (steps state first) later
-steps-append state [] later = refl
-steps-append state (event ∷ first) later = steps-append (step state event) first later
 
 pub led_on : {old now next : KernelView} → IsLed old now → IsLed now next → IsLed old next
 led_on {old} {now} {next} first later = record {

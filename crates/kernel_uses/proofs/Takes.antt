@@ -1,7 +1,6 @@
 -- What a pin takes, and what a net hears by that.
-use Rattle.std.proofs.Common.{◌≡◌, ◌≢◌, ℕ, zero, suc, ◌+◌, ◌<◌, ◌≤◌, List, [], ◌∷◌, length, drop, false, true, Some, slice_get, slice_index_or, refl, ap, sym, subst, ◌∙◌, arith, ◌⊎◌, inl, inr}
+use Rattle.std.proofs.Common.{◌≡◌, ◌≢◌, ℕ, zero, suc, ◌+◌, ◌<◌, ◌≤◌, List, [], ◌∷◌, length, false, true, Some, slice_get, slice_index_or, refl, ap, sym, subst, ◌∙◌, arith, ◌⊎◌, inl, inr}
 use Rattle.std.proofs.lemmas.Bool.{cases_eq}
-use Rattle.std.proofs.lemmas.List.{length-drop}
 use Rattle.design.specs.Circuit.{Net, Circuit, IsCircuit, pin_count}
 use Rattle.design.specs.Pins.{first_pin, net_of_pin, place_of_pin}
 use Rattle.design.proofs.CallerLemmas.{PinIs, pin_is, same_pin}
@@ -15,7 +14,7 @@ use Rattle.cmb_kernel.specs.Sound.{IsSound, ForSound}
 use Rattle.cmb_kernel.specs.Useful.{is_useful, remaining}
 use Rattle.kernel_uses.specs.Runs.{IsLed}
 use Rattle.kernel_uses.specs.Work.{IsIdle, HasTaken, HasHeard}
-use Rattle.kernel_uses.proofs.Leads.{led_circuit, led_event, led_exists, led_nowhere, led_on}
+use Rattle.kernel_uses.proofs.Leads.{led_circuit, led_event, led_exists, led_on}
 
 pub most_in_all : (last middle first : ℕ) → last ≤ middle → middle ≤ first → last ≤ first
 most_in_all last middle first less most = omega arith
@@ -38,14 +37,6 @@ UsefulLowers = ForSound (λ circuit last state. (event : Event) → Exists circu
 
 -- ---- a pin takes
 
-pub taken_none : (old : KernelView) (pin : ℕ) → IsSound old.circuit old.end old.state → HasTaken pin old old
-taken_none old pin sound = record {
-  led = led_nowhere old sound;
-  lists = λ other apart. refl;
-  told = λ net below apart. refl;
-  left = omega arith;
-}
-
 pub taken_more : (old now next : KernelView) (pin : ℕ) → IsCircuit old.circuit → old.failed ≡ false → OneListAlone → OthersTell → NoneRaises →
     HasTaken pin old now → next ≡ record now { state = step now.state (Deliver pin) } → Exists now.circuit (Deliver pin) →
     (next.failed ≡ false → IsSound next.circuit next.end next.state) → HasTaken pin old next
@@ -60,10 +51,6 @@ taken_more old now next pin ok running lists others raises so_far goes exists so
       so_far.left;
 }
 
--- one message less waits
-pub fewer_wait : (messages fewer : List Message) → fewer ≡ drop 1 messages → 0 < length messages → length fewer < length messages
-fewer_wait messages fewer is some = let one = ap length is ∙ length-drop 1 messages in omega (arith, one)
-
 pub none_waits : (messages : List Message) → length messages ≤ 0 → messages ≡ []
 none_waits [] none = refl
 none_waits (message ∷ messages) none = absurd (omega arith)
@@ -76,14 +63,6 @@ pub record HeardSome (net places : ℕ) (old now : KernelView) : Type 0 where
   pub heard : (place : ℕ) → place < places → slice_index_or now.state.lists (first_pin old.circuit net + place) [] ≡ []
   pub idle : (other : ℕ) → other < length old.circuit → other ≢ net → IsIdle old.circuit old.state other → IsIdle old.circuit now.state other
   pub left : remaining old.circuit old.end now.state ≤ remaining old.circuit old.end old.state
-
-pub heard_none : (net : ℕ) (old : KernelView) → IsSound old.circuit old.end old.state → HeardSome net 0 old old
-heard_none net old sound = record {
-  led = led_nowhere old sound;
-  heard = λ place none. absurd (omega arith);
-  idle = λ other below apart idle. idle;
-  left = omega arith;
-}
 
 module _ (net place : ℕ) (old now next : KernelView) (pin : ℕ) (so_far : HeardSome net place old now) (taken : HasTaken pin now next)
     (empty : slice_index_or next.state.lists pin [] ≡ []) (at : pin ≡ first_pin old.circuit net + place) (owner : net_of_pin old.circuit pin ≡ net) where

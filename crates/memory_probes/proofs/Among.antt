@@ -6,7 +6,7 @@ use Rattle.std.proofs.lemmas.List.{length-set, get_or-set_same}
 use Rattle.std.proofs.lemmas.Option.{same_Some, slice_get-get_or, slice_get_within}
 use Rattle.cmb_channels.specs.declared.message.Message.{Message}
 use Rattle.gate_process.specs.Step.{ProcessView, running, heard}
-use Rattle.memory_probes.proofs.Listeners.{Stays, stays}
+use Rattle.gate_process.proofs.CallerLemmas.{Lasting, lasts_heard}
 
 get_of_set_same : (xs : List ProcessView) (at : ℕ) (x : ProcessView) → at < length xs → slice_get (slice_set xs at x) at ≡ Some x
 get_of_set_same xs at x within =
@@ -16,15 +16,15 @@ get_of_set_same xs at x within =
 pub stays_among : {E : Type 0} (old new : List ProcessView) (net : ℕ) (message : Message) (result : Result (Unit {0}) E) (process other : ProcessView) →
     slice_get old net ≡ Some process →
     OnOk result (ForSome (slice_get old net) (λ (p : ProcessView). new ≡ slice_set old net (running (heard 0 message p.state)))) →
-    OnErr result (new ≡ old) → slice_get new net ≡ Some other → Stays process other
+    OnErr result (new ≡ old) → slice_get new net ≡ Some other → Lasting process other
 stays_among {E = E} old new net message (Ok done) process other at ok err there =
     let next = running (heard 0 message process.state) in
     let is : slice_get new net ≡ Some next =
     ap (λ (ps : List ProcessView). slice_get ps net) (ok process at)
     ∙ get_of_set_same old net next (slice_get_within old net process at) in
-    stays {E = E} process other 0 message (Ok done) (same_Some other next (sym there ∙ is)) tt
+    lasts_heard {E = E} process other 0 message (Ok done) (same_Some other next (sym there ∙ is)) tt
 stays_among {E = E} old new net message (Err fault) process other at ok err there =
-    stays {E = E} process other 0 message (Err fault) tt
+    lasts_heard {E = E} process other 0 message (Err fault) tt
     (same_Some other process (sym there ∙ ap (λ (ps : List ProcessView). slice_get ps net) err ∙ at))
 
 pub length_among : {E : Type 0} (old new : List ProcessView) (net : ℕ) (message : Message) (result : Result (Unit {0}) E) (process : ProcessView) →

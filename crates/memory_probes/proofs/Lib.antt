@@ -1,2 +1,1 @@
 mod Among
-mod Listeners

@@ -1,5 +1,5 @@
 -- Whether a name is another, or among others, and where.
-use Rattle.std.proofs.Common.{◌≡◌, ◌≢◌, ℕ, [], suc, ◌+◌, ◌||◌, not, Bool, true, false, cond, ltb, List, ◌∷◌, length, position, bytes_eq, Some, None, refl, arith}
+use Rattle.std.proofs.Common.{◌≡◌, ◌≢◌, ℕ, [], suc, ◌+◌, ◌||◌, not, Bool, true, false, cond, ltb, List, ◌∷◌, length, position, bytes_eq, Some, None, refl, arith, Option}
 use Rattle.std.specs.List.{list_any, position_or_len}
 use Rattle.std.specs.Option.{is_some}
 use Rattle.std.proofs.lemmas.Bool.{false_from_ne_true}
@@ -29,3 +29,7 @@ is_some-position p xs = rw (list_any-place p xs) (go (ltb (position_or_len p xs)
     go : (b : Bool) → is_some (cond b (Some (position_or_len p xs)) None) ≡ b
     go true = refl
     go false = refl
+
+pub none_from_is_some : {A : Type 0} (found : Option A) → is_some found ≡ false → found ≡ None
+none_from_is_some (Some x) e = cc
+none_from_is_some None e = refl

@@ -6,6 +6,7 @@ use Rattle.std.proofs.lemmas.List.{append-nil, take_more, get_or-set_same, get_o
 use Rattle.std.proofs.lemmas.List.Elements.{filter-append, All-cons, All-nil, All-filter, All-head, All-tail, All-weaker, filter_passes}
 use Rattle.std.proofs.lemmas.List.Kept.{AllPairs-cons, AllPairs-filter}
 use Rattle.std.proofs.lemmas.List.Folds.{list_any_more}
+use Rattle.std.proofs.lemmas.Bool.{eqb-false, eqb-true}
 use Rattle.netlist.specs.Repeats.{distinct}
 
 -- one more number at the end
@@ -28,12 +29,6 @@ or_false false = refl
 or_true : (b : Bool) → true ≡ (b || true)
 or_true true = refl
 or_true false = refl
-
-same_number : (m n : ℕ) → (m == n) ≡ true → m ≡ n
-same_number m n e = grind (arith, nat_tests)
-
-other_number : (m n : ℕ) → (m == n) ≡ false → m ≢ n
-other_number m n e = grind (arith, nat_tests)
 
 -- the number at a place, and marks at the numbers before it
 module _ (numbers : List ℕ) (i : ℕ) (inside : i < length numbers) (marks : List Bool) (bound : ℕ) (size : length marks ≡ bound)
@@ -59,7 +54,7 @@ module _ (numbers : List ℕ) (i : ℕ) (inside : i < length numbers) (marks : L
     where
       go : (same : Bool) → (k == this) ≡ same → list_any (λ m. k == m) (take i numbers) ≡ (list_any (λ m. k == m) (take i numbers) || k == this)
       go true e =
-          sym (known k within) ∙ ap (λ k. get_or marks k false) (same_number k this e) ∙ came
+          sym (known k within) ∙ ap (λ k. get_or marks k false) (eqb-true k this e) ∙ came
           ∙ or_true (list_any (λ m. k == m) (take i numbers)) ∙ ap (λ same. list_any (λ m. k == m) (take i numbers) || same) (sym e)
       go false e = or_false (list_any (λ m. k == m) (take i numbers)) ∙ ap (λ same. list_any (λ m. k == m) (take i numbers) || same) (sym e)
 
@@ -68,10 +63,10 @@ module _ (numbers : List ℕ) (i : ℕ) (inside : i < length numbers) (marks : L
     where
       go : (same : Bool) → (k == this) ≡ same → get_or (set marks this true) k false ≡ (list_any (λ m. k == m) (take i numbers) || k == this)
       go true e =
-          ap (λ k. get_or (set marks this true) k false) (same_number k this e) ∙ get_or-set_same marks this true false (omega arith)
+          ap (λ k. get_or (set marks this true) k false) (eqb-true k this e) ∙ get_or-set_same marks this true false (omega arith)
           ∙ or_true (list_any (λ m. k == m) (take i numbers)) ∙ ap (λ same. list_any (λ m. k == m) (take i numbers) || same) (sym e)
       go false e =
-          get_or-set_other marks this k true false (other_number k this e) ∙ known k within
+          get_or-set_other marks this k true false (eqb-false k this e) ∙ known k within
           ∙ or_false (list_any (λ m. k == m) (take i numbers)) ∙ ap (λ same. list_any (λ m. k == m) (take i numbers) || same) (sym e)
 
 pub All-distinct : (P : ℕ → Type 0) (numbers : List ℕ) → All P numbers → All P (distinct numbers)

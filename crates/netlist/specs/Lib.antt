@@ -7,3 +7,5 @@ pub mod Names
 pub mod Joined
 pub mod Pick
 pub mod Repeats
+pub mod Marks
+pub mod Text

@@ -1,6 +1,6 @@
 -- Readings that come one behind the other.
 use Rattle.std.proofs.Common.{◌≡◌, ℕ, List, [], ◌∷◌, ◌++◌, map, None, Some, refl, ap, sym, subst, ◌∙◌, inl, inr, append_assoc}
-use Rattle.std.proofs.lemmas.List.{append-nil, map-append}
+use Rattle.std.proofs.lemmas.List.{map-append}
 use Rattle.program_io.specs.declared.input.ReadFault.{ReadFault}
 use Rattle.program_io.specs.declared.input.ReadFault.TheVariants as read
 use Rattle.program_io.specs.declared.program_fault.ProgramFault.{ProgramFault}
@@ -18,10 +18,6 @@ AddsReadings-more old mid None first second one other = tt
 AddsReadings-more old None (Some now) first second one other = cc
 AddsReadings-more old (Some earlier) (Some now) first second one other =
     sym (with_more-twice old first second) ∙ ap (λ known. with_more known second) one ∙ other
-
-pub ReadsAll-none : (known : KnownReadings) → ReadsAll [] known known
-ReadsAll-none None = tt
-ReadsAll-none (Some readings) = ap Some (append-nil readings)
 
 pub ReadsAll-append : (first second : List (List ℕ)) (old mid new : KnownReadings) → ReadsAll first old mid → ReadsAll second mid new →
     ReadsAll (first ++ second) old new

@@ -1,8 +1,7 @@
 -- How a run ends, from how its parts do.
-use Rattle.std.proofs.Common.{ℕ, List, length, take, Option, Result, Ok, Err, IsOkAnd, OnOk, ◌≡◌, ◌≢◌, refl, sym, subst, arith}
-use Rattle.std.specs.Io.KnownBytes.{Appends, Keeps}
+use Rattle.std.proofs.Common.{ℕ, List, Option, Result, Ok, Err, ◌≡◌, ◌≢◌, refl}
+use Rattle.std.specs.Io.KnownBytes.{Keeps}
 use Rattle.std.proofs.KnownBytes.{Appends-nil, Appends-kept, Keeps-refl}
-use Rattle.std.proofs.lemmas.List.{take_all}
 use Rattle.vcd_dump.specs.declared.fault.DumpFault.{DumpFault}
 use Rattle.vcd_dump.specs.declared.fault.DumpFault.TheVariants as dump
 use Rattle.vcd_dump.specs.Bytes.{AppendsPrefix}
@@ -33,26 +32,11 @@ AppendsPrefix-kept old new text kept = (0, Appends-kept old old new _ (Appends-n
 pub BreaksOff-memory : (old : Option (List ℕ)) (text : List ℕ) → BreaksOff old old text Memory
 BreaksOff-memory old text = AppendsPrefix-kept old old text (Keeps-refl old)
 
--- the whole of a text is a first part of it
-pub AppendsPrefix-whole : (old new : Option (List ℕ)) (text : List ℕ) → Appends old new text → AppendsPrefix old new text
-AppendsPrefix-whole old new text done =
-    let whole : take (length text) text ≡ text = take_all (length text) text (omega arith) in
-    (length text, subst (Appends old new) (sym whole) done)
-
 module _ {F : Type 0} where
-  pub IsOkAnd-flushed : (answer : Result (List ℕ) F) (old new flushed : Option (List ℕ)) → IsOkAnd answer (Appends old new) → Keeps new flushed →
-      IsOkAnd answer (Appends old flushed)
-  IsOkAnd-flushed (Ok text) old new flushed done kept = Appends-kept old new flushed text done kept
-  IsOkAnd-flushed (Err fault) old new flushed done kept = absurd done
-
   -- whatever the end, what went out is a first part of the answer
   pub WritesPart-kept : (answer : Result (List ℕ) F) (old new : Option (List ℕ)) → Keeps old new → WritesPart answer old new
   WritesPart-kept (Ok text) old new kept = AppendsPrefix-kept old new text kept
   WritesPart-kept (Err fault) old new kept = kept
-
-  pub WritesPart-done : (answer : Result (List ℕ) F) (old new : Option (List ℕ)) → IsOkAnd answer (Appends old new) → WritesPart answer old new
-  WritesPart-done (Ok text) old new done = AppendsPrefix-whole old new text done
-  WritesPart-done (Err fault) old new done = absurd done
 
 -- before a byte is written the run ends by what refuses it
 pub RunEndsBy-IsRefusal : {A : Type 0} (refused : Result A SimFault) (answer : Result (List ℕ) SimFault) (old : Option (List ℕ)) (fault : SimFault) →
@@ -60,10 +44,3 @@ pub RunEndsBy-IsRefusal : {A : Type 0} (refused : Result A SimFault) (answer : R
 RunEndsBy-IsRefusal refused answer old (Dump fault) lifts refusal = absurd refusal
 RunEndsBy-IsRefusal refused answer old Memory lifts refusal = WritesPart-kept answer old old (Keeps-refl old)
 RunEndsBy-IsRefusal refused answer old _ lifts refusal = (lifts refusal, Keeps-refl old)
-
--- ---- results of a last step
-
-module _ {A E : Type 0} where
-  pub OnOk-holds : (result : Result A E) (P : Type 0) → P → OnOk result P
-  OnOk-holds (Ok value) P holds = holds
-  OnOk-holds (Err fault) P holds = tt

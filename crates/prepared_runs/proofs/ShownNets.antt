@@ -2,14 +2,13 @@
 use Rattle.std.proofs.Common.{◌≡◌, ◌≢◌, ℕ, ◌+◌, ◌<◌, ◌≤◌, true, List, [], ◌∷◌, length, filter_map, map, get_or, Option, None, Some, Ok, All, AllPairs, Contains, refl, sym, ap, subst, ◌∙◌, arith}
 use Rattle.std.specs.List.{cons_option, range_with_len}
 use Rattle.std.specs.Option.{is_none, ok_or}
-use Rattle.std.proofs.lemmas.List.{length-map}
 use Rattle.std.proofs.lemmas.List.Elements.{All-cons, All-head, All-nil, All-tail, All-map, Contains-get_or}
 use Rattle.std.proofs.lemmas.Bool.{eqb-true}
 use Rattle.std.proofs.lemmas.Bool.Decides.{Decides-eqb}
 use Rattle.std.proofs.lemmas.Map.Made.{IsDistinct-from_AllPairs}
 use Rattle.std.proofs.lemmas.Map.Steps.{length-le_from_distinct_below}
 use Rattle.std.proofs.lemmas.Map.Views.{Contains-from_any}
-use Rattle.std.proofs.lemmas.List.FromFn.{length-range_with_len, get_or-range_with_len, length-map-range_with_len, get_or-map-range_with_len}
+use Rattle.std.proofs.lemmas.List.FromFn.{length-range_with_len, get_or-range_with_len, get_or-map-range_with_len}
 use Rattle.logic3.specs.declared.value.Value.{Value}
 use Rattle.logic3.specs.declared.value.Value.TheVariants.{Unknown}
 use Rattle.logic3.specs.declared.change.Change.{Change}
@@ -18,9 +17,10 @@ use Rattle.logic3.proofs.CallerLemmas.{Contains-wave_of_iff}
 use Rattle.netlist.specs.Names.{seen_names}
 use Rattle.netlist.specs.Netlist.{NetlistView, IsNetlist, net_named}
 use Rattle.netlist.proofs.CallerLemmas.{All-distinct, AllPairs-distinct, net_at-named}
-use Rattle.design.specs.Circuit.{Net, Circuit}
-use Rattle.design.specs.Design.{DesignView, IsDesign, untimed}
+use Rattle.design.specs.Circuit.{Circuit}
+use Rattle.design.specs.Design.{DesignView, IsDesign}
 use Rattle.design.specs.Equations.{value_of, waves_of}
+use Rattle.design.proofs.CallerLemmas.{length-circuit}
 use Rattle.fanin_cone.specs.Extract.{first_unknown}
 use Rattle.fanin_cone.proofs.CallerLemmas.{filter_map-known, first_unknown-known}
 use Rattle.prepared_runs.specs.declared.view.Show.{Show}
@@ -28,10 +28,6 @@ use Rattle.prepared_runs.specs.declared.view.Show.TheVariants as show
 use Rattle.prepared_runs.specs.declared.fault.SimFault.TheVariants.{UnknownNet}
 use Rattle.prepared_runs.specs.Source.{net_or_unknown, shown_nets}
 use Rattle.prepared_runs.specs.Shown.{wave_at, waves_up_to}
-
--- a design's circuit has the nets of its netlist
-pub length-circuit : (design : DesignView) → IsDesign design → length design.circuit ≡ length design.netlist.nets
-length-circuit design formed = sym (length-map design.circuit (λ (net : Net). untimed net)) ∙ ap length formed.same_nets
 
 all_below : (n : ℕ) → All (λ net. net < n) (range_with_len 0 n)
 all_below n k d inside =
@@ -116,10 +112,6 @@ All-within circuit horizon nets =
     (λ k d inside. ticks_within (value_of circuit (get_or nets k d)) horizon)
 
 -- ---- the waveforms of all nets, and those of the shown ones
-
-pub length-waves_of : (circuit : Circuit) (to : ℕ) → length (waves_of circuit to) ≡ length circuit
-unfolding waves_of
-length-waves_of circuit to = length-map-range_with_len (λ net. wave_of (value_of circuit net) 0 to) 0 (length circuit)
 
 -- where all nets are shown, their waveforms are all of them
 pub waves_of-all : (kind : Show) (design : DesignView) (horizon : ℕ) (nets : List ℕ) → IsDesign design → kind ≡ show.All →

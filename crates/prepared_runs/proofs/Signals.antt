@@ -1,6 +1,6 @@
 -- A dump depends on what its signals show up to the horizon alone.
-use Rattle.std.proofs.Common.{◌≡◌, ℕ, zero, suc, ◌+◌, ◌-◌, ◌<◌, ◌≤◌, ◌==◌, ◌&&◌, not, if◌then◌else◌, List, [], ◌∷◌, ◌++◌, map, flat_map, refl, ap, ◌∙◌, arith}
-use Rattle.std.specs.List.{range_with_len, enumerate_from}
+use Rattle.std.proofs.Common.{◌≡◌, ℕ, ◌+◌, ◌-◌, ◌≤◌, ◌==◌, ◌&&◌, not, if◌then◌else◌, List, [], ◌∷◌, ◌++◌, map, flat_map, refl, ap, ◌∙◌, arith}
+use Rattle.std.specs.List.{enumerate_from}
 use Rattle.logic3.specs.declared.value.Value.{Value}
 use Rattle.logic3.specs.Value.{is_same}
 use Rattle.logic3.specs.Wave.{Wave, value_at, wave_of}
@@ -13,6 +13,7 @@ use Rattle.vcd_dump.specs.declared.unit.TimeUnit.{TimeUnit}
 use Rattle.vcd_dump.specs.Codes.{code_at}
 use Rattle.vcd_dump.specs.Dump.{Variable, variable_at, declaration, change_text, change_line, time_line, changes_at, lines_at, dump_text}
 use Rattle.vcd_dump.specs.Traces.{name_of, traces}
+use Rattle.vcd_dump.proofs.CallerLemmas.{same_from}
 use Rattle.prepared_runs.specs.declared.view.View.{View}
 use Rattle.prepared_runs.specs.Source.{shown_nets, signals_of, dump_of_design}
 use Rattle.prepared_runs.specs.Shown.{waves_up_to}
@@ -29,14 +30,6 @@ flat_map-same first second write same place [] = refl
 flat_map-same first second write same place (x ∷ xs) =
     let here = same place x in
     let rest = flat_map-same first second write same (place + 1) xs in cc
-
--- so is what is written at each tick of a span
-flat_map-range : (first second : ℕ → List ℕ) (from ticks : ℕ) → ((tick : ℕ) → from ≤ tick → tick < from + ticks → first tick ≡ second tick) →
-    flat_map first (range_with_len from ticks) ≡ flat_map second (range_with_len from ticks)
-flat_map-range first second from zero same = refl
-flat_map-range first second from (suc ticks) same =
-    let here = same from (omega arith) (omega arith) in
-    let rest = flat_map-range first second (from + 1) ticks (λ tick a b. same tick (omega arith) (omega arith)) in cc
 
 module _ {A : Type 0} (name : A → List ℕ) (first second : A → ℕ → Value) (horizon : ℕ)
     (same : (x : A) (tick : ℕ) → tick ≤ horizon → first x tick ≡ second x tick) (xs : List A) where
@@ -59,7 +52,7 @@ module _ {A : Type 0} (name : A → List ℕ) (first second : A → ℕ → Valu
       let declared = flat_map-same (λ x. (name x, first x)) (λ x. (name x, second x)) declaration (λ place x. refl) 0 xs in
       let values = flat_map-same (λ x. (name x, first x)) (λ x. (name x, second x)) (change_line 0)
       (λ place x. ap (λ value. change_text value (code_at place)) (same x 0 (omega arith))) 0 xs in
-      let changes = flat_map-range (lines_at (variables_from (λ x. (name x, first x)) 0 xs) horizon)
+      let changes = same_from (lines_at (variables_from (λ x. (name x, first x)) 0 xs) horizon)
       (lines_at (variables_from (λ x. (name x, second x)) 0 xs) horizon) 1 horizon (λ tick a b. lines_at-same tick (omega arith)) in
       rw (declared, values, changes) refl
 

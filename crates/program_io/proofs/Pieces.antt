@@ -1,5 +1,5 @@
 -- Texts that are written one behind the other.
-use Rattle.std.proofs.Common.{◌≡◌, ℕ, zero, suc, ◌+◌, ◌<◌, List, [], ◌∷◌, ◌++◌, Bor, Option, Some, Result, Ok, Err, OnOk, OnErr, length, take, drop, slice_get, slice_index_or, ap, sym, subst, ◌∙◌, take-append-drop, arith}
+use Rattle.std.proofs.Common.{◌≡◌, ℕ, zero, suc, ◌+◌, ◌<◌, List, [], ◌∷◌, ◌++◌, Bor, Option, Some, length, take, drop, slice_get, slice_index_or, ap, sym, subst, ◌∙◌, take-append-drop, arith}
 use Rattle.std.specs.List.{concat}
 use Rattle.std.specs.Io.KnownBytes.{Appends}
 use Rattle.std.proofs.KnownBytes.{Appends-trans}
@@ -8,7 +8,6 @@ use Rattle.std.proofs.lemmas.List.Folds.{concat-append}
 use Rattle.std.proofs.lemmas.Option.{slice_get_within, get_or_from_slice_get}
 use Rattle.netlist.specs.Names.{seen_names}
 use Rattle.vcd_dump.specs.Bytes.{AppendsPrefix}
-use Rattle.prepared_runs.proofs.CallerLemmas.{AppendsPrefix-whole}
 use Rattle.vcd_dump.proofs.CallerLemmas.{AppendsPrefix-after, AppendsPrefix-longer}
 
 -- the text at a place
@@ -38,9 +37,3 @@ module _ (texts : List (List ℕ)) (at : ℕ) (text : List ℕ) (is : slice_get 
       ap concat (sym (take-append-drop (at + 1) texts)) ∙ concat-append (take (at + 1) texts) (drop (at + 1) texts) in
       subst (AppendsPrefix old new) (sym whole) (AppendsPrefix-longer old new (concat (take (at + 1) texts)) (concat (drop (at + 1) texts))
       (subst (AppendsPrefix old new) (sym concat-next) (AppendsPrefix-after old mid new (concat (take at texts)) text first fault)))
-
--- what a write left is a first part, whatever its answer
-pub AppendsPrefix-either : {A E : Type 0} (result : Result A E) (old new : Option (List ℕ)) (text : List ℕ) → OnOk result (Appends old new text) →
-    OnErr result (AppendsPrefix old new text) → AppendsPrefix old new text
-AppendsPrefix-either (Ok value) old new text done part = AppendsPrefix-whole old new text done
-AppendsPrefix-either (Err fault) old new text done part = part

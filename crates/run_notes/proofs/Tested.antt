@@ -1,6 +1,6 @@
 -- What the tests of a net say of it.
-use Rattle.std.proofs.Common.{◌≡◌, ℕ, suc, ◌==◌, ◌<◌, ◌≤◌, ◌&&◌, ◌⊎◌, inl, inr, Bool, true, false, true≢false, nat_lt, not, List, [], ◌∷◌, length, option_map, Option, None, Some, Contains, refl, sym, ap, ◌∙◌, arith, add-one}
-use Rattle.std.specs.List.{list_any, slice_get}
+use Rattle.std.proofs.Common.{◌≡◌, ℕ, suc, ◌==◌, ◌<◌, ◌≤◌, ◌&&◌, ◌⊎◌, inl, inr, Bool, true, false, true≢false, not, List, [], ◌∷◌, length, Option, None, Some, Contains, refl, sym, ap, ◌∙◌, arith, add-one}
+use Rattle.std.specs.List.{slice_get}
 use Rattle.std.proofs.lemmas.Bool.Decides.{nat_tests}
 use Rattle.std.specs.Option.{option_map_or}
 use Rattle.logic3.specs.declared.change.Change.{Change}
@@ -11,30 +11,13 @@ use Rattle.netlist.specs.declared.part.Part.TheVariants.{Input, Gate, Flop}
 use Rattle.design.specs.Circuit.{Net, Circuit}
 use Rattle.design.specs.Equations.{equation_at, value_of, value_within}
 use Rattle.run_notes.specs.declared.remark.Remark.TheVariants.{Undriven, Unknown}
-use Rattle.run_notes.specs.Remarks.{is_input, is_late, is_noted, is_undriven, is_unknown, net_is, noted_nets}
+use Rattle.run_notes.specs.Remarks.{is_input, is_noted, is_undriven, is_unknown, net_is, noted_nets}
 use Rattle.run_notes.proofs.Listed.{Contains-listed, passes_listed}
 use Rattle.run_notes.proofs.Throughout.{is_unknown-at, is_unknown-from}
 
 -- one more than a number isn't 0
 some : (n : ℕ) → (suc n == 0) ≡ true → ⊥
 some n e = grind (arith, nat_tests)
-
--- ---- by what is known of the net
-
-pub undriven_by_parts : (found : Option Net) (part : Part) (stimuli : List Change) → option_map (λ (n : Net). n.part) found ≡ Some part →
-    option_map (λ (n : Net). n.stimuli) found ≡ Some stimuli → (is_input part && (length stimuli == 0)) ≡ option_map_or is_undriven found false
-undriven_by_parts None part stimuli driven changes = cc
-undriven_by_parts (Some net) part stimuli driven changes =
-    let same : net.part ≡ part = cc in
-    let as_well : net.stimuli ≡ stimuli = cc in
-    sym ((λ i. is_input (same i) && (length (as_well i) == 0)))
-
-pub late_by_stimuli : (found : Option Net) (horizon : ℕ) (stimuli : List Change) → option_map (λ (n : Net). n.stimuli) found ≡ Some stimuli →
-    list_any (λ (change : Change). nat_lt horizon change.tick) stimuli ≡ option_map_or (is_late horizon) found false
-late_by_stimuli None horizon stimuli changes = cc
-late_by_stimuli (Some net) horizon stimuli changes =
-    let same : net.stimuli ≡ stimuli = cc in
-    sym (ap (λ (those : List Change). list_any (λ (change : Change). nat_lt horizon change.tick) those) same)
 
 -- ---- what a noted net shows
 

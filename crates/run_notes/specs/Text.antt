@@ -1,6 +1,7 @@
 -- Notes as text, a line each.
 use Rattle.std.specs.Prelude.{ℕ, ◌==◌, if◌then◌else◌, List, [], ◌++◌, codes, flat_map, length}
 use Rattle.netlist.specs.Netlist.{NetlistView, name_at}
+use Rattle.netlist.specs.Text.{names_behind}
 use Rattle.design.specs.Design.{DesignView}
 use Rattle.run_notes.specs.declared.remark.Remark.{Remark}
 use Rattle.run_notes.specs.declared.remark.Remark.TheVariants.{Undriven, Late, Unknown}
@@ -11,10 +12,6 @@ abbrev pub words_of : Remark → List ℕ
 words_of Undriven = codes "inputs without a stimulus, X throughout"
 words_of Late = codes "inputs with stimuli past the horizon, which play no part"
 words_of Unknown = codes "other nets that are X throughout"
-
--- the names of these nets, a blank before each
-abbrev pub names_behind : NetlistView → List ℕ → List ℕ
-names_behind netlist nets = flat_map (λ net. codes " " ++ name_at netlist net) nets
 
 -- the line that names some nets; none where there are no nets
 abbrev pub nets_note : NetlistView → List ℕ → List ℕ → List ℕ

@@ -1,8 +1,8 @@
 //! Notes as text, a line each.
 ghost use Rattle.std.specs.Prelude.{◌≡◌, ◌<◌, ◌++◌, length, All, OnOk};
-ghost use Rattle.run_notes.specs.Text.{names_behind, nets_note, outputs_note};
+ghost use Rattle.run_notes.specs.Text.{nets_note, outputs_note};
 
-use netlist::Netlist;
+use netlist::{Netlist, push_names};
 use std::alloc::AllocError;
 
 /// Adds the line that tells that there are no outputs, where there are none.
@@ -33,17 +33,5 @@ pub(crate) fn push_nets_note(
     text.push(b':')?;
     push_names(text, netlist, nets)?;
     text.push(b'\n')?;
-    Ok(())
-}
-
-/// Adds the names of these nets, a blank before each.
-fn push_names(text: &mut Vec<u8>, netlist: &Netlist, nets: &[u32]) -> Result<(), AllocError>
-    requires { All (λ net. net < length netlist.now.nets) nets.now }
-    ensures { OnOk result (text.new.items ≡ text.old.items ++ names_behind netlist.now nets.now) }
-{
-    for net in nets {
-        text.push(b' ')?;
-        text.extend_from_slice(netlist.name(*net))?;
-    }
     Ok(())
 }

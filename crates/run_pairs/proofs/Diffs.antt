@@ -2,7 +2,7 @@
 use Rattle.std.proofs.Common.{◌≡◌, ℕ, ◌+◌, ◌<◌, ◌≤◌, ◌&&◌, ◌==◌, ◌↔◌, nat_lt, Bool, true, false, cond, IsTrue, List, [], ◌∷◌, ◌++◌, take, length, map, find, get_or, bytes_eq, flat_map, All, Option, Some, None, Result, Ok, Err, Bor, refl, sym, ap, subst, ◌∙◌, arith, true≢false}
 use Rattle.std.specs.List.{list_all}
 use Rattle.std.proofs.lemmas.List.{flat_map_more, get_or-map, length-map, map-append, take_more}
-use Rattle.std.proofs.lemmas.List.Elements.{All-head, All-nil, All-push, All-tail}
+use Rattle.std.proofs.lemmas.List.Elements.{All-head, All-push, All-tail}
 use Rattle.std.proofs.lemmas.List.Folds.{list_all-append}
 use Rattle.text_lines.specs.Text.{◌>>=◌}
 use Rattle.logic3.specs.declared.value.Value.{Value}
@@ -18,12 +18,12 @@ use Rattle.timing_text.specs.Ranges.{most_ticks}
 use Rattle.design.specs.Circuit.{Net}
 use Rattle.design.specs.Design.{DesignView, IsDesign}
 use Rattle.design.specs.Equations.{value_of}
-use Rattle.design.proofs.CallerLemmas.{net_named-circuit}
+use Rattle.design.proofs.CallerLemmas.{net_named-circuit, length-circuit}
 use Rattle.cmb_kernel.specs.State.{KernelView, frontier_at}
 use Rattle.fanin_cone.specs.Agreement.{AgreesAt, net_of}
 use Rattle.fanin_cone.specs.Cone.{start}
 use Rattle.wave_diff.specs.declared.comparison.Comparison.{Comparison}
-use Rattle.wave_diff.specs.declared.comparison.Comparison.TheVariants.{Same, Differs, OnlyIn}
+use Rattle.wave_diff.specs.declared.comparison.Comparison.TheVariants.{Same, Differs}
 use Rattle.wave_diff.specs.declared.comparison.Side.TheVariants as only
 use Rattle.wave_diff.specs.declared.difference.Difference.{Difference}
 use Rattle.wave_diff.specs.declared.fault.ComparedFault.TheVariants.{BadEvery, PastHorizon}
@@ -43,7 +43,7 @@ use Rattle.prepared_runs.specs.Source.{SourceView, or_fault}
 use Rattle.prepared_runs.specs.Prepared.{RunView, run_of_source}
 use Rattle.run_pairs.specs.Twins.{CanCompare, on}
 use Rattle.runs.proofs.CallerLemmas.{same_values}
-use Rattle.prepared_runs.proofs.CallerLemmas.{length-circuit, ready_of_run}
+use Rattle.prepared_runs.proofs.CallerLemmas.{ready_of_run}
 
 -- ---- the pair
 
@@ -140,13 +140,7 @@ ticks_of_diff-end ticks compared made = go (nat_lt most_ticks ticks.horizon) mad
 -- ---- the comparison of a name
 
 module _ (one other : RunView) (ticks : ComparedTicks) (name : List ℕ) where
-  pub IsComparisonOf-only_second : net_named one.design.netlist name ≡ None → IsComparisonOf one other ticks name (OnlyIn only.Second)
-  IsComparisonOf-only_second lacks = rw lacks refl
-
   module _ (net : ℕ) (found : net_named one.design.netlist name ≡ Some net) where
-    pub IsComparisonOf-only_first : net_named other.design.netlist name ≡ None → IsComparisonOf one other ticks name (OnlyIn only.First)
-    IsComparisonOf-only_first lacks = rw (found, lacks) refl
-
     module _ (other_net : ℕ) (other_found : net_named other.design.netlist name ≡ Some other_net) where
       pub IsComparisonOf-differs : (difference : Difference) →
           first_difference (value_of one.design.circuit net) (value_of other.design.circuit other_net) ticks ≡ Some difference →
@@ -216,15 +210,6 @@ one_diff pair text other_text same other_same is also =
 -- ---- the lines
 
 module _ (one other : RunView) (ticks : ComparedTicks) where
-  pub IsDiff-none : IsDiff (pair_by one other ticks []) [] true
-  IsDiff-none = record {
-    diffs = [];
-    names = refl;
-    each = All-nil (IsOf (pair_by one other ticks []));
-    lines = refl;
-    all_same = refl;
-  }
-
   -- one more name
   pub IsDiff-more : (names : List (List ℕ)) (text : List ℕ) (same : Bool) (name : List ℕ) (comparison : Comparison) →
       IsDiff (pair_by one other ticks names) text same → IsComparisonOf one other ticks name comparison →

@@ -1,4 +1,3 @@
 pub mod CallerLemmas
 mod Endings
-mod Prefixes
 mod Telling

@@ -4,6 +4,7 @@ use Rattle.std.proofs.lemmas.List.Elements.{All-head, All-nil, All-tail}
 use Rattle.netlist.specs.Netlist.{name_at}
 use Rattle.design.specs.Design.{DesignView, IsDesign}
 use Rattle.design.specs.Equations.{value_of}
+use Rattle.design.proofs.CallerLemmas.{length-circuit}
 use Rattle.cmb_events.specs.declared.event.Event.{Event}
 use Rattle.cmb_events.specs.Schedule.{most_events, Exists}
 use Rattle.fanin_cone.specs.Extract.{IsDesignOfCones}
@@ -15,7 +16,7 @@ use Rattle.prepared_runs.specs.declared.view.Show.{Show}
 use Rattle.prepared_runs.specs.declared.view.View.{View}
 use Rattle.runs.specs.Alone.{CanShow, ShowsTheSame}
 use Rattle.prepared_runs.specs.Source.{dump_of_design, shown_nets, signals_of}
-use Rattle.prepared_runs.proofs.CallerLemmas.{length-circuit, All-shown_nets, AllPairs-shown_nets, dump_of_design-nets, name_is}
+use Rattle.prepared_runs.proofs.CallerLemmas.{All-shown_nets, AllPairs-shown_nets, dump_of_design-nets, name_is}
 
 -- what is the same of each of two is the same of both
 both_maps : {A B C D : Type 0} (f : A → C) (g : A → D) (also_f : B → C) (also_g : B → D) (xs : List A) (ys : List B) →

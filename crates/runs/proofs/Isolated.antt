@@ -4,6 +4,7 @@ use Rattle.logic3.specs.declared.value.Value.{Value}
 use Rattle.netlist.specs.Netlist.{net_named}
 use Rattle.design.specs.Design.{DesignView, IsDesign}
 use Rattle.design.specs.Equations.{value_of}
+use Rattle.design.proofs.CallerLemmas.{length-circuit}
 use Rattle.netlist.proofs.CallerLemmas.{net_at-named}
 use Rattle.fanin_cone.specs.Agreement.{AgreesOn}
 use Rattle.fanin_cone.specs.Cone.{InCone, start}
@@ -13,7 +14,7 @@ use Rattle.vcd_dump.specs.Traces.{name_of}
 use Rattle.runs.specs.Isolation.{AcceptedRun, AgreeingRuns, EndsShowing, IsShown}
 use Rattle.prepared_runs.specs.Source.{dump_of_design}
 use Rattle.runs.proofs.Reports.{simulated-good}
-use Rattle.prepared_runs.proofs.CallerLemmas.{length-circuit, ready_of_run, ShowsValues-run_of_source, name_is}
+use Rattle.prepared_runs.proofs.CallerLemmas.{ready_of_run, ShowsValues-run_of_source, name_is}
 use Rattle.runs.proofs.Simulated.{few_rounds}
 
 -- an accepted run ends, and shows for a shown net what its equations give

@@ -1,5 +1,5 @@
 -- A pass over the segments of an order: each net comes the least delay farther, or to the end.
-use Rattle.std.proofs.Common.{◌≡◌, ℕ, ◌+◌, ◌-◌, ◌<◌, ◌≤◌, min, List, take, drop, length, get_or, suc, refl, ap, sym, subst, ◌∙◌, arith, drop-cons, drop_of_length-le, take-add}
+use Rattle.std.proofs.Common.{◌≡◌, ℕ, ◌+◌, ◌-◌, ◌<◌, ◌≤◌, min, List, take, drop, length, get_or, suc, ap, sym, subst, ◌∙◌, arith, drop-cons, drop_of_length-le, take-add}
 use Rattle.std.specs.List.{All}
 use Rattle.std.proofs.lemmas.List.{take_all}
 use Rattle.std.proofs.lemmas.List.Elements.{All-append}
@@ -13,14 +13,6 @@ use Rattle.cmb_kernel.proofs.CallerLemmas.{least_frontier-le, least_frontier_gre
 use Rattle.runs.specs.Paces.{AllFarther, GoesOn}
 
 -- ---- a run goes on
-
-pub GoesOn-none : (run : KernelView) → IsSound run.circuit run.end run.state → GoesOn run run
-GoesOn-none run sound = record {
-  run = refl;
-  sound = sound;
-  none_falls = record { nets = λ net. omega arith; pins = λ pin. omega arith };
-  floors = λ net. refl;
-}
 
 pub GoesOn-trans : {start now next : KernelView} → GoesOn start now → GoesOn now next → GoesOn start next
 GoesOn-trans {start} {now} {next} came goes = record {

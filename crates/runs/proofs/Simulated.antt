@@ -1,18 +1,12 @@
 -- What a run by the kernel reaches.
-use Rattle.std.proofs.Common.{◌≡◌, ℕ, zero, suc, ◌+◌, ◌≤◌, Bool, true, false, cond, List, [], ◌∷◌, length, map, Option, None, Some, All, Result, Err, refl, ap, ◌∙◌, arith}
+use Rattle.std.proofs.Common.{◌≡◌, ℕ, zero, suc, ◌+◌, ◌≤◌, Bool, true, false, cond, List, [], ◌∷◌, map, refl, ap, ◌∙◌, arith}
 use Rattle.std.specs.Prelude.{slice_index_or}
-use Rattle.std.proofs.lemmas.Bool.{lt-ltb, le-ltb}
-use Rattle.std.proofs.lemmas.List.Elements.{All-head, All-tail}
 use Rattle.logic3.specs.Wave.{wave_of}
-use Rattle.design.specs.Circuit.{Circuit, pin_count}
 use Rattle.design.specs.Equations.{value_of}
 use Rattle.cmb_channels.specs.declared.message.Message.{Message}
 use Rattle.cmb_events.specs.declared.event.Event.{Event}
 use Rattle.cmb_events.specs.declared.event.Event.TheVariants.{Deliver, Advance}
-use Rattle.cmb_kernel.specs.declared.fault.KernelFault.{KernelFault}
 use Rattle.cmb_kernel.specs.declared.fault.KernelFault.TheVariants as kernel
-use Rattle.cmb_kernel.specs.Refusals.{answer, first_fault, list_fault, refusal}
-use Rattle.cmb_events.specs.Schedule.{most_events, Exists}
 use Rattle.cmb_kernel.specs.State.{KernelView, State, fresh, is_complete, most_rounds, started}
 use Rattle.cmb_kernel.specs.Step.{after_deliver, completed_within, round_events, round_of, step, steps}
 use Rattle.prepared_runs.specs.Shown.{waves_up_to}
@@ -20,31 +14,6 @@ use Rattle.prepared_runs.specs.Prepared.{RunView}
 use Rattle.runs.specs.Simulated.{report_of, reported}
 
 -- ---- no event of a schedule is refused
-
-first_fault-exist : (circuit : Circuit) (at : ℕ) (events : List Event) → All (Exists circuit) events → first_fault circuit at events ≡ None
-first_fault-exist circuit at [] exist = refl
-first_fault-exist circuit at (Deliver pin ∷ events) exist =
-    rw (lt-ltb pin (pin_count circuit) (All-head (Exists circuit) (Deliver pin) events exist))
-    (first_fault-exist circuit (at + 1) events (All-tail (Exists circuit) (Deliver pin) events exist))
-first_fault-exist circuit at (Advance net ∷ events) exist =
-    rw (lt-ltb net (length circuit) (All-head (Exists circuit) (Advance net) events exist))
-    (first_fault-exist circuit (at + 1) events (All-tail (Exists circuit) (Advance net) events exist))
-
-pub unrefused : (run : KernelView) (events : List Event) → run.failed ≡ false → All (Exists run.circuit) events → length events ≤ most_events →
-    refusal run (list_fault run.circuit events) ≡ None
-unrefused run events running exist few = rw (running, le-ltb most_events (length events) few) (first_fault-exist run.circuit 0 events exist)
-
-unsaid : (fault : KernelFault) (refused : Option KernelFault) → refused ≡ None →
-    ◌≡◌ {A = Result (Unit {0}) KernelFault} (Err fault) (answer refused tt) → ⊥
-unsaid fault None none said = cc
-unsaid fault (Some other) none said = cc
-
--- so only memory can want
-pub memory_wants : (fault : KernelFault) (refused : Option KernelFault) → refused ≡ None →
-    (¬ ◌≡◌ {A = Result (Unit {0}) KernelFault} (Err fault) (Err kernel.Memory) →
-    ◌≡◌ {A = Result (Unit {0}) KernelFault} (Err fault) (answer refused tt)) → fault ≡ kernel.Memory
-memory_wants kernel.Memory refused none told = refl
-memory_wants _ refused none told = absurd (unsaid _ refused none (told (λ e. (cc))))
 
 -- ---- the rounds
 

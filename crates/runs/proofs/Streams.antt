@@ -12,13 +12,13 @@ use Rattle.vcd_dump.specs.Bytes.{AppendsPrefix}
 use Rattle.vcd_dump.specs.Dump.{declarations, dump_text}
 use Rattle.vcd_dump.specs.Spans.{StreamView, last_text, parts_of, span_text, stream_at}
 use Rattle.vcd_dump.specs.Traces.{named}
-use Rattle.vcd_dump.proofs.CallerLemmas.{AppendsPrefix-after, AppendsPrefix-longer, dump_text-nets, span_text-more}
+use Rattle.vcd_dump.proofs.CallerLemmas.{AppendsPrefix-after, AppendsPrefix-longer, dump_text-nets, span_text-more, AppendsPrefix-whole}
 use Rattle.prepared_runs.specs.declared.fault.SimFault.{SimFault}
 use Rattle.prepared_runs.specs.declared.fault.SimFault.TheVariants.{Dump, Memory}
 use Rattle.runs.specs.Drained.{values_of}
 use Rattle.prepared_runs.specs.Ends.{BreaksOff}
 use Rattle.prepared_runs.specs.Faults.{sim_of_dump}
-use Rattle.prepared_runs.proofs.CallerLemmas.{AppendsPrefix-whole, BreaksOff-dump}
+use Rattle.prepared_runs.proofs.CallerLemmas.{BreaksOff-dump}
 use Rattle.prepared_runs.specs.Source.{signals_of}
 
 -- ---- what breaks off

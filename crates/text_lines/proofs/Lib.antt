@@ -3,3 +3,4 @@ mod Cuts
 mod Digits
 mod FirstWord
 mod FoldLemmas
+mod Written

@@ -32,6 +32,3 @@ pub map-more : (f : ℕ → ℕ) (at end : ℕ) (xs ys : List ℕ) → at < end 
 map-more f at end xs ys inside is =
     let one : end - at ≡ suc (end - (at + 1)) = omega arith in
     rw (is, one) (append_assoc xs (f at ∷ []) (map f (range_with_len (at + 1) (end - (at + 1)))))
-
-pub map-none : (f : ℕ → ℕ) (at end : ℕ) (xs : List ℕ) → end ≤ at → xs ++ map f (range_with_len at (end - at)) ≡ xs
-map-none f at end xs past = let none : end - at ≡ 0 = omega arith in rw none (append-nil xs)

@@ -58,7 +58,7 @@ between-last text from to h =
     ∙ ap (λ xs. between text from to ++ xs)
     (between-first text to (to + 1) (omega arith) ∙ ap (λ xs. text to ++ xs) (between-none text (to + 1)) ∙ append-nil (text to))
 
-same_from : (f g : ℕ → List ℕ) (from count : ℕ) → ((k : ℕ) → from ≤ k → k < from + count → f k ≡ g k) →
+pub same_from : (f g : ℕ → List ℕ) (from count : ℕ) → ((k : ℕ) → from ≤ k → k < from + count → f k ≡ g k) →
     flat_map f (range_with_len from count) ≡ flat_map g (range_with_len from count)
 same_from f g from zero same = refl
 same_from f g from (suc count) same =

@@ -6,6 +6,7 @@ use Rattle.std.proofs.lemmas.Bool.{cases_lt, le-ltb, lt-ltb}
 use Rattle.std.proofs.lemmas.List.{map-append}
 use Rattle.std.proofs.lemmas.List.Elements.{filter_map-append}
 use Rattle.std.proofs.lemmas.Grind.{flat_map-append}
+use Rattle.netlist.proofs.CallerLemmas.{bytes_eq-same}
 use Rattle.logic3.specs.declared.value.Value.{Value}
 use Rattle.logic3.specs.declared.value.Value.TheVariants.{Zero, One, Unknown}
 use Rattle.logic3.specs.Value.{is_same, value_text}
@@ -13,7 +14,7 @@ use Rattle.logic3.proofs.CallerLemmas.{is_same-true}
 use Rattle.text_lines.specs.Text.{is_empty}
 use Rattle.vcd_dump.specs.Dump.{Variable, changes_at}
 use Rattle.vcd_dump.specs.Shown.{is_time_above, change_of, value_of_byte, is_time, value_in_body}
-use Rattle.vcd_dump.proofs.Lists.{bytes_eq-same, before_first-append, before_first-cut, after_first-cut, last_or-append}
+use Rattle.vcd_dump.proofs.Lists.{before_first-append, before_first-cut, after_first-cut, last_or-append}
 use Rattle.vcd_dump.proofs.Times.{time_token, is_time-time_token, is_time_above-time_token}
 
 -- ---- the tokens of the body

@@ -1,6 +1,6 @@
 -- Texts that are written piece by piece.
 use Rattle.std.proofs.Common.{◌≡◌, ℕ, suc, ◌+◌, Result, Ok, Err, OnOk, OnErr, min, List, [], ◌∷◌, ◌++◌, Option, length, take, refl, ap, sym, subst, ◌∙◌, arith}
-use Rattle.std.proofs.lemmas.List.{take_at, take_min, take-append-le}
+use Rattle.std.proofs.lemmas.List.{take_at, take_min, take-append-le, take_all}
 use Rattle.std.specs.Io.KnownBytes.{Appends}
 use Rattle.std.proofs.KnownBytes.{Appends-trans}
 use Rattle.vcd_dump.specs.Bytes.{AppendsPrefix}
@@ -28,12 +28,17 @@ AppendsPrefix-after old mid new xs ys first (n, then') =
 pub AppendsPrefix-piece : (old new : Option (List ℕ)) (xs rest : List ℕ) → Appends old new xs → AppendsPrefix old new (xs ++ rest)
 AppendsPrefix-piece old new xs rest first = (length xs, subst (Appends old new) (sym (take_at xs rest (length xs) refl)) first)
 
--- what holds anyway holds at a fault
-pub OnErr-always : {T E P : Type 0} (r : Result T E) → P → OnErr r P
-OnErr-always (Ok x) h = tt
-OnErr-always (Err e) h = h
-
 -- what holds anyway holds at a success
 pub OnOk-always : {T E P : Type 0} (r : Result T E) → P → OnOk r P
 OnOk-always (Ok x) h = h
 OnOk-always (Err e) h = tt
+
+-- the whole of a text is a first part of it
+pub AppendsPrefix-whole : (old new : Option (List ℕ)) (text : List ℕ) → Appends old new text → AppendsPrefix old new text
+AppendsPrefix-whole old new text done = (length text, subst (Appends old new) (sym (take_all (length text) text (omega arith))) done)
+
+-- what a write left is a first part, whatever its answer
+pub AppendsPrefix-either : {A E : Type 0} (result : Result A E) (old new : Option (List ℕ)) (text : List ℕ) → OnOk result (Appends old new text) →
+    OnErr result (AppendsPrefix old new text) → AppendsPrefix old new text
+AppendsPrefix-either (Ok value) old new text done part = AppendsPrefix-whole old new text done
+AppendsPrefix-either (Err fault) old new text done part = part

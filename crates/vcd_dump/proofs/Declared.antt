@@ -3,11 +3,12 @@ use Rattle.std.proofs.Common.{◌≡◌, ℕ, false, List, [], ◌∷◌, ◌++�
 use Rattle.std.specs.Prelude.{bytes_eq}
 use Rattle.std.specs.List.{flat_map, AllByRecursion}
 use Rattle.std.proofs.lemmas.Grind.{flat_map-append}
+use Rattle.netlist.proofs.CallerLemmas.{bytes_eq-same}
 use Rattle.vcd_dump.specs.declared.unit.TimeUnit.{TimeUnit}
 use Rattle.vcd_dump.specs.declared.unit.TimeUnit.TheVariants.{S, Ms, Us, Ns, Ps, Fs}
 use Rattle.vcd_dump.specs.Dump.{Variable, unit_text}
 use Rattle.vcd_dump.specs.Shown.{code_of_name, body_of}
-use Rattle.vcd_dump.proofs.Lists.{bytes_eq-same, AllByRecursion-front, after_first-append}
+use Rattle.vcd_dump.proofs.Lists.{AllByRecursion-front, after_first-append}
 use Rattle.vcd_dump.proofs.Tokens.{IsToken, IsWordByte}
 use Rattle.vcd_dump.proofs.Body.{body_tokens}
 

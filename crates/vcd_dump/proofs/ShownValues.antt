@@ -8,11 +8,12 @@ use Rattle.std.proofs.lemmas.Bool.Decides.{nat_tests}
 use Rattle.std.proofs.lemmas.List.Elements.{recursion_from_All}
 use Rattle.logic3.specs.declared.value.Value.{Value}
 use Rattle.netlist.specs.Name.{IsName, is_name_byte}
+use Rattle.netlist.proofs.CallerLemmas.{bytes_eq-other}
 use Rattle.vcd_dump.specs.declared.unit.TimeUnit.{TimeUnit}
 use Rattle.vcd_dump.specs.Codes.{code_at}
 use Rattle.vcd_dump.specs.Dump.{Trace, Variable, variable_at, dump_of, dump_text}
 use Rattle.vcd_dump.specs.Shown.{code_of_name, body_of, value_in_body, shown_value}
-use Rattle.vcd_dump.proofs.Lists.{bytes_eq-false, AllByRecursion-weaker, slice_get-between}
+use Rattle.vcd_dump.proofs.Lists.{AllByRecursion-weaker, slice_get-between}
 use Rattle.vcd_dump.proofs.Tokens.{IsWordByte, IsToken-from_bytes}
 use Rattle.vcd_dump.proofs.CodeLemmas.{code_at-same, length-code_at, code_within-word_bytes, IsToken-code_at}
 use Rattle.vcd_dump.proofs.Body.{OtherCodes, value_in_body-tokens}
@@ -32,9 +33,9 @@ IsOther-name (byte ∷ name) proper = record {
   token = IsToken-from_bytes byte name
       (AllByRecursion-weaker (byte ∷ name) IsWordByte-name_byte
       (recursion_from_All (λ b. IsTrue (is_name_byte b)) (byte ∷ name) proper.bytes));
-  no_var = bytes_eq-false (byte ∷ name) (codes "$var")
+  no_var = bytes_eq-other (byte ∷ name) (codes "$var")
       (λ same. let dollar : byte ≡ 36 = cc in proper.no_dollar dollar);
-  no_end = bytes_eq-false (codes "$enddefinitions") (byte ∷ name)
+  no_end = bytes_eq-other (codes "$enddefinitions") (byte ∷ name)
       (λ same. let dollar : byte ≡ 36 = cc in proper.no_dollar dollar);
 }
 
@@ -44,9 +45,9 @@ IsOther-code place early =
     let short = length-code_at place early in
     record {
       token = IsToken-code_at place;
-      no_var = bytes_eq-false (code_at place) (codes "$var")
+      no_var = bytes_eq-other (code_at place) (codes "$var")
           (λ same. let long : length (code_at place) ≡ 4 = ap length same in omega arith);
-      no_end = bytes_eq-false (codes "$enddefinitions") (code_at place)
+      no_end = bytes_eq-other (codes "$enddefinitions") (code_at place)
           (λ same. let long : 15 ≡ length (code_at place) = ap length same in omega arith);
     }
 
@@ -82,7 +83,7 @@ OtherCodes-variables : (place from : ℕ) (entries : List Trace) →
     OtherCodes (code_at place) (variables_from from entries)
 OtherCodes-variables place from [] apart = tt
 OtherCodes-variables place from (entry ∷ entries) apart = (
-  bytes_eq-false (code_at from) (code_at place)
+  bytes_eq-other (code_at from) (code_at place)
       (λ same. apart from (omega arith) (omega arith) (code_at-same from place same)),
   OtherCodes-variables place (from + 1) entries (λ n low high. apart n (omega arith) (omega arith)),
 )
@@ -92,7 +93,7 @@ OtherNames-variables : (from : ℕ) (us : List Trace) (v : Trace) (ws : List Tra
     AllPairs (λ (earlier later : Trace). earlier.0 ≢ later.0) (us ++ v ∷ ws) → OtherNames v.0 (variables_from from us)
 OtherNames-variables from [] v ws apart = tt
 OtherNames-variables from (u ∷ us) v ws apart = (
-  bytes_eq-false u.0 v.0
+  bytes_eq-other u.0 v.0
       (λ same. apart 0 (suc (length us)) v (omega arith) (omega (arith, length-append us (v ∷ ws)))
       (same ∙ ap (λ (entry : Trace). entry.0) (sym (get_or-append_seam us v ws v)))),
   OtherNames-variables (from + 1) us v ws (λ i j d below within. apart (suc i) (suc j) d (omega arith) (omega arith)),

@@ -1,14 +1,13 @@
 -- The tokens of times, and what they say.
-use Rattle.std.proofs.Common.{◌≡◌, ℕ, ◌<◌, ◌^◌, nat_lt, true, false, List, [], ◌∷◌, ◌++◌, length, Some, refl, ap, ◌∙◌, arith, codes}
+use Rattle.std.proofs.Common.{◌≡◌, ℕ, ◌<◌, ◌^◌, nat_lt, true, false, List, [], ◌∷◌, ◌++◌, Some, refl, ap, arith, codes}
 use Rattle.std.specs.Prelude.{decimal, is_some}
 use Rattle.std.specs.Option.{option_map_or}
 use Rattle.std.specs.List.{AllByRecursion}
-use Rattle.std.specs.Str.{all_ascii_digits}
-use Rattle.std.specs.Str.Parse.{AllDigits, digits_value}
+use Rattle.std.specs.Str.Parse.{AllDigits}
 use Rattle.std.proofs.lemmas.Bool.Decides.{nat_tests}
 use Rattle.std.proofs.lemmas.Str.Parse.{digit_from_value}
 use Rattle.std.proofs.lemmas.Fmt.{decimal_is_IsNumeral}
-use Rattle.text_lines.specs.Text.{number_of}
+use Rattle.text_lines.proofs.CallerLemmas.{number_of-decimal}
 use Rattle.vcd_dump.specs.Shown.{is_time, is_time_above, time_of}
 use Rattle.vcd_dump.proofs.Tokens.{IsToken, IsToken-from_bytes, IsWordByte}
 
@@ -16,22 +15,9 @@ use Rattle.vcd_dump.proofs.Tokens.{IsToken, IsToken-from_bytes, IsWordByte}
 abbrev pub time_token : ℕ → List ℕ
 time_token tick = codes "#" ++ decimal tick
 
--- the bytes of a number are digits
-all_digits : (word : List ℕ) → AllDigits 10 word → all_ascii_digits word ≡ true
-all_digits [] h = refl
-all_digits (c ∷ word) h =
-    let range = digit_from_value c h.0 in let rest = all_digits word h.1 in rw rest (grind (arith, nat_tests, range))
-
--- digits are read as their value
-number_of-digits : (word : List ℕ) → 0 < length word → AllDigits 10 word → number_of word ≡ Some (digits_value 10 word)
-number_of-digits [] some h = absurd (omega arith)
-number_of-digits (c ∷ word) some h = rw (all_digits (c ∷ word) h) refl
-
 -- a time is read back
 time_of-time_token : (at : ℕ) → at < 2 ^ 64 → time_of (time_token at) ≡ Some at
-time_of-time_token at small =
-    let numeral = decimal_is_IsNumeral at small in
-    number_of-digits (decimal at) numeral.0.0 numeral.0.1 ∙ ap Some numeral.1
+time_of-time_token at small = number_of-decimal at small
 
 -- a time is one
 pub is_time-time_token : (at : ℕ) → at < 2 ^ 64 → is_time (time_token at) ≡ true

@@ -1,6 +1,5 @@
 use Rattle.std.proofs.Common.{Some, ap, ◌∙◌}
-use Rattle.design.proofs.CallerLemmas.{pins_below}
-use Rattle.causes.proofs.NetFacts.{gate_arity, one_wire_each, flop_wire}
+use Rattle.design.proofs.CallerLemmas.{pins_below, IsCircuit-from_IsDesign, flop_arity, gate_arity, has_wires}
 use Rattle.causes.proofs.reasons.reason_at.Goals as goal
 
 pub gate_reason-requires-clause-arity : goal.gate_reason-requires-clause-arity
@@ -13,8 +12,11 @@ gate_reason-requires-clause-pins c =
 
 pub gate_reason-requires-clause-wires : goal.gate_reason-requires-clause-wires
 gate_reason-requires-clause-wires c =
-    one_wire_each c.args.design.now c.requires.formed c.args.net _ _ c.pins_of-pins.ensures c.wires_of-wires.ensures
+    has_wires c.args.design.now.circuit (IsCircuit-from_IsDesign c.args.design.now c.requires.formed) c.args.net _ _
+    c.pins_of-pins.ensures c.wires_of-wires.ensures
 
 pub flop_reason-requires : goal.flop_reason-requires
 flop_reason-requires c =
-    flop_wire c.args.design.now c.requires.formed c.args.net _ _ (c.part-part.ensures ∙ ap Some c.in-Flop.is) c.pins_of-pins.ensures c.wires_of-wires.ensures
+    has_wires c.args.design.now.circuit (IsCircuit-from_IsDesign c.args.design.now c.requires.formed) c.args.net _ _
+    c.pins_of-pins.ensures c.wires_of-wires.ensures
+    ∙ flop_arity c.args.design.now c.requires.formed c.args.net _ (c.part-part.ensures ∙ ap Some c.in-Flop.is) c.pins_of-pins.ensures

@@ -1,4 +1,5 @@
-use Rattle.circuit_info.specs.Climb.{unseen, IsWay}
+use Rattle.netlist.specs.Marks.{unseen}
+use Rattle.circuit_info.specs.Climb.{IsWay}
 use Rattle.circuit_info.proofs.loops.named_loop.Given as goal
 
 abbrev pub invariant-loop-passed : goal.invariant-loop-passed

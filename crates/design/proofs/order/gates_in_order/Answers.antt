@@ -1,5 +1,5 @@
 use Rattle.std.proofs.Common.{◌≡◌, [], false, get_or, sym, ap, ◌∙◌, arith}
-use Rattle.design.specs.Walk.{is_seen}
+use Rattle.netlist.specs.Marks.{is_seen}
 use Rattle.design.proofs.Walking.{IsWalk-enter}
 use Rattle.design.proofs.WalkEnds.{IsWalk-start, IsGateOrder-walk}
 use Rattle.design.proofs.order.gates_in_order.Goals as goal

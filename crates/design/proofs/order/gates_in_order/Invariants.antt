@@ -1,5 +1,6 @@
 use Rattle.std.proofs.Common.{◌≡◌, ℕ, ◌<◌, [], IsTrue}
-use Rattle.design.specs.Walk.{is_seen, IsWalk}
+use Rattle.netlist.specs.Marks.{is_seen}
+use Rattle.design.specs.Walk.{IsWalk}
 use Rattle.design.proofs.order.gates_in_order.Given as goal
 
 abbrev pub invariant-loop-net : goal.invariant-loop-net

@@ -5,7 +5,7 @@ use Rattle.std.proofs.lemmas.Option.{same_Some}
 use Rattle.design.specs.Circuit.{Net}
 use Rattle.design.specs.Flow.{IsGate}
 use Rattle.design.specs.Segments.{past_of}
-use Rattle.design.proofs.WellFormed.{net_there, pins_below}
+use Rattle.design.proofs.WellFormed.{net_with, pins_below}
 use Rattle.design.proofs.segments.past_gates.Goals as goal
 
 pub part-requires-in-loop-pin : goal.part-requires-in-loop-pin
@@ -21,7 +21,7 @@ pub returns-clause-each : goal.returns-clause-each
 returns-clause-each c = λ source gate feeds.
     let circuit = c.args.design.now.circuit in
     let pins = c.pins_of-pins.result.now in
-    let found = net_there (λ (n : Net). n.pins) _ pins c.pins_of-pins.ensures in
+    let found = net_with (λ (n : Net). n.pins) _ pins c.pins_of-pins.ensures in
     let same : feeds.net ≡ found.0 = same_Some feeds.net found.0 (sym feeds.there ∙ found.1) in
     let holds = rw (same, found.2) at feeds.at_pin in
     let all : All (λ s. IsGate circuit s → past_of c.args.past.now s ≤ c.loop-pin.last) pins =

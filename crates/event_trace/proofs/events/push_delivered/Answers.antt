@@ -1,7 +1,8 @@
 use Rattle.std.proofs.Common.{◌≡◌, ◌<◌, ◌-◌, Some, slice_get, sym, subst, ap, ◌∙◌, ◌++◌}
+use Rattle.cmb_kernel.proofs.CallerLemmas.{some_pin, place_is}
 use Rattle.design.specs.Circuit.{Circuit, pin_count}
 use Rattle.design.specs.Pins.{sources_of}
-use Rattle.event_trace.proofs.EventLines.{some_pin, place_is, delivered_line}
+use Rattle.event_trace.proofs.EventLines.{delivered_line}
 use Rattle.event_trace.proofs.events.push_delivered.Goals as goal
 
 pub pin-requires-clause-place : goal.pin-requires-clause-place

@@ -1,9 +1,9 @@
 use Rattle.std.proofs.Common.{refl, sym, subst, ap, ◌∙◌}
+use Rattle.logic3.proofs.CallerLemmas.{OnErr_always}
 use Rattle.cmb_kernel.specs.declared.counts.Counts.{Counts}
 use Rattle.cmb_kernel.specs.State.{State, KernelView, floor_at, most_rounds}
 use Rattle.cmb_kernel.specs.Step.{round_events}
 use Rattle.cmb_kernel.proofs.CallerLemmas.{steps_floor}
-use Rattle.vcd_dump.proofs.CallerLemmas.{OnErr-always}
 use Rattle.cmb_kernel.specs.Sound.{IsSound}
 use Rattle.event_trace.proofs.Completing.{all_left, broken_round, less_left, most_enough, none_left, one_more_round, run_on}
 use Rattle.event_trace.proofs.rounds.walk_rounds.Goals as goal
@@ -56,7 +56,7 @@ returns-in_err-walk_round-clause-err g c =
     let held = g.W.Write.contents in
     let kernel = c.loop-alloc.kernel in
     let incomplete = sym c.is_complete.ensures.complete ∙ c.loop-alloc-test.true in
-    OnErr-always c.from_residual.result
+    OnErr_always c.from_residual.result
     (broken_round _ _ (held c.args.out.now) (held c.loop-alloc.out) _ c.loop-alloc.rounds kernel.state c.loop-alloc.text.items c.loop-alloc.invariant.rounds incomplete
     c.saturating_add-rounds.result c.saturating_add-rounds.ensures (held c.walk_round.new.out) c.in_err-walk_round.ensures.err)
 

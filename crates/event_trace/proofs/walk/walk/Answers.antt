@@ -1,13 +1,13 @@
 use Rattle.std.proofs.Common.{subst, ap, arith, ◌∙◌}
+use Rattle.logic3.proofs.CallerLemmas.{OnErr_always}
 use Rattle.cmb_kernel.specs.State.{KernelView}
 use Rattle.vcd_dump.specs.Written.{GoesOut}
-use Rattle.vcd_dump.proofs.CallerLemmas.{OnErr-always}
-use Rattle.event_trace.proofs.GoingOut.{GoesOut-fault, GoesOut-stopped, GoesOut-then}
+use Rattle.vcd_dump.proofs.CallerLemmas.{GoesOut-then, GoesOut-stopped, GoesOut-fault}
 use Rattle.event_trace.proofs.Walking.{goes_on, lines_on, undrained_on}
 use Rattle.event_trace.proofs.walk.walk.Goals as goal
 
 pub returns-in_err-push_event-clause-err : goal.returns-in_err-push_event-clause-err
-returns-in_err-push_event-clause-err g c = OnErr-always c.from_residual.result (GoesOut-stopped _ _ _ _ c.loop-event.invariant.text)
+returns-in_err-push_event-clause-err g c = OnErr_always c.from_residual.result (GoesOut-stopped _ _ _ _ c.loop-event.invariant.text)
 
 pub returns-in_err-send_long-clause-err : goal.returns-in_err-send_long-clause-err
 returns-in_err-send_long-clause-err g c =
@@ -16,7 +16,7 @@ returns-in_err-send_long-clause-err g c =
     let index = c.loop-event.event-index in
     let is = lines_on c.loop-event.kernel c.push_event.new.kernel events index (omega arith) c.in_ok-push_event.ensures.ok
     c.args.design.now.circuit c.loop-event.text.items c.push_event.new.text.items c.in_ok-push_event.ensures.text in
-    OnErr-always c.from_residual-in_err-send_long.result
+    OnErr_always c.from_residual-in_err-send_long.result
     (GoesOut-fault (held c.args.out.now) (held c.loop-event.out) (held c.send_long.new.out) _ c.push_event.new.text.items _
     (subst (GoesOut _ _ _) is c.loop-event.invariant.text) c.in_err-send_long.ensures.err)
 

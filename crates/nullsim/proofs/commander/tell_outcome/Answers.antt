@@ -1,4 +1,4 @@
-use Rattle.program_io.proofs.CallerLemmas.{AppendsPrefix-either}
+use Rattle.vcd_dump.proofs.CallerLemmas.{AppendsPrefix-either}
 use Rattle.nullsim.proofs.commander.tell_outcome.Goals as goal
 
 pub returns-in-Counted-clause-told : goal.returns-in-Counted-clause-told

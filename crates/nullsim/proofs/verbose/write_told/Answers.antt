@@ -1,4 +1,4 @@
-use Rattle.program_io.proofs.CallerLemmas.{AppendsPrefix-either}
+use Rattle.vcd_dump.proofs.CallerLemmas.{AppendsPrefix-either}
 use Rattle.nullsim.proofs.verbose.write_told.Goals as goal
 
 pub returns : goal.returns

@@ -1,12 +1,13 @@
 use Rattle.std.proofs.Common.{◌≡◌, ◌<◌, IfOk, length, All, refl, sym, ap, subst, ◌∙◌, arith}
 use Rattle.std.specs.List.{range_with_len}
 use Rattle.std.proofs.lemmas.Iterator.{items_from_collect, YieldsList-from_range}
+use Rattle.design.proofs.CallerLemmas.{length-circuit}
 use Rattle.netlist.specs.Names.{seen_names}
 use Rattle.netlist.specs.Netlist.{NetlistView}
 use Rattle.netlist.specs.Repeats.{distinct}
 use Rattle.fanin_cone.proofs.CallerLemmas.{numbers_below}
 use Rattle.prepared_runs.specs.Source.{knows_shown, shown_nets}
-use Rattle.prepared_runs.proofs.ShownNets.{length-circuit, none_unknown, numbers_of_names}
+use Rattle.prepared_runs.proofs.ShownNets.{none_unknown, numbers_of_names}
 use Rattle.prepared_runs.proofs.nets.shown_nets.Goals as goal
 
 pub without_repeats-requires : goal.without_repeats-requires

@@ -1,4 +1,4 @@
-use Rattle.program_io.proofs.Pieces.{AppendsPrefix-either}
+use Rattle.vcd_dump.proofs.CallerLemmas.{AppendsPrefix-either}
 use Rattle.program_io.proofs.fault_line.report.Goals as goal
 
 pub returns : goal.returns

@@ -1,6 +1,6 @@
 use Rattle.std.proofs.Common.{◌≡◌, ◌<◌, All, length, sym, ap, subst, ◌∙◌}
+use Rattle.design.proofs.CallerLemmas.{length-circuit}
 use Rattle.netlist.specs.Netlist.{NetlistView}
-use Rattle.prepared_runs.proofs.CallerLemmas.{length-circuit}
 use Rattle.run_notes.specs.Remarks.{is_noted, noted_nets}
 use Rattle.run_notes.proofs.Listed.{All-listed}
 use Rattle.run_notes.proofs.notes.push_remark.Goals as goal

@@ -1,5 +1,5 @@
 use Rattle.std.proofs.Common.{◌+◌, length, ap, ◌∙◌, arith}
-use Rattle.prepared_runs.proofs.CallerLemmas.{length-waves_of}
+use Rattle.design.proofs.CallerLemmas.{length-waves_of}
 use Rattle.run_notes.proofs.Throughout.{unknown_by_changes}
 use Rattle.run_notes.proofs.remark.is_unknown.Goals as goal
 

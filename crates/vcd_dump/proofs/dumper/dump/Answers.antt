@@ -3,13 +3,14 @@ use Rattle.std.specs.Io.KnownBytes.{Appends}
 use Rattle.std.proofs.KnownBytes.{Appends-trans}
 use Rattle.std.proofs.lemmas.Result.{on_ok_weaker, on_err_weaker}
 use Rattle.logic3.specs.Wave.{Wave}
+use Rattle.logic3.proofs.CallerLemmas.{OnErr_always}
 use Rattle.vcd_dump.specs.declared.line.Line.{Line}
 use Rattle.vcd_dump.specs.Bytes.{AppendsPrefix}
 use Rattle.vcd_dump.specs.Dump.{declarations, time_line_after}
 use Rattle.vcd_dump.specs.Spans.{span_lines, span_text, latest}
 use Rattle.vcd_dump.specs.Traces.{traces, named}
 use Rattle.vcd_dump.specs.Written.{InOrder}
-use Rattle.vcd_dump.proofs.BytesLemmas.{AppendsPrefix-longer, AppendsPrefix-after, AppendsPrefix-piece, OnErr-always}
+use Rattle.vcd_dump.proofs.BytesLemmas.{AppendsPrefix-longer, AppendsPrefix-after, AppendsPrefix-piece}
 use Rattle.vcd_dump.proofs.FromWaves.{AreShown, changes_of, behind, dump_text-declared, dump_text-waves, Stepped-waves}
 use Rattle.vcd_dump.proofs.Stepped.{Stepped}
 use Rattle.vcd_dump.proofs.dumper.dump.Goals as goal
@@ -26,7 +27,7 @@ returns-in_err-write_declarations-clause-err g c =
     let circuit = c.args.design.now.circuit in
     let shown = c.args.shown.now in
     let waves = c.args.waves.now in
-    OnErr-always c.from_residual.result
+    OnErr_always c.from_residual.result
     (subst (AppendsPrefix (held c.args.out.now) (held c.write_declarations.new.out))
     (dump_text-declared c.args.unit c.args.horizon circuit shown waves c.requires.one_wave_each)
     (AppendsPrefix-longer _ _ (declarations c.args.unit (named circuit shown)) (behind c.args.horizon (traces circuit shown waves))
@@ -38,7 +39,7 @@ returns-in_err-gather_waves-clause-err g c =
     let circuit = c.args.design.now.circuit in
     let shown = c.args.shown.now in
     let waves = c.args.waves.now in
-    OnErr-always c.from_residual-in_err-gather_waves.result
+    OnErr_always c.from_residual-in_err-gather_waves.result
     (subst (AppendsPrefix (held c.args.out.now) (held c.write_declarations.new.out))
     (dump_text-declared c.args.unit c.args.horizon circuit shown waves c.requires.one_wave_each)
     (AppendsPrefix-piece _ _ (declarations c.args.unit (named circuit shown)) (behind c.args.horizon (traces circuit shown waves))
@@ -62,7 +63,7 @@ returns-in_err-time-clause-err g c =
     let step = stepped c.args.horizon waves _ _ are c.in_ok-gather_waves.ensures.lines c.as_slice.ensures.value in
     let first = declarations c.args.unit (named circuit shown) in
     let second = span_text 0 (c.args.horizon + 1) (changes_of waves) in
-    OnErr-always _
+    OnErr_always _
     (subst (AppendsPrefix (held c.args.out.now) (held c.write_span.new.out))
     (dump_text-waves c.args.unit c.args.horizon circuit shown waves c.requires.one_wave_each are)
     (AppendsPrefix-longer _ _ (first ++ second) (time_line_after (latest 0 (span_lines 0 (changes_of waves))) c.args.horizon)

@@ -1,11 +1,12 @@
 use Rattle.std.proofs.Common.{◌≡◌, ◌∙◌, ◌++◌, [], List, ℕ, ap, sym, subst, codes, append_assoc, flat_map}
 use Rattle.std.specs.Io.KnownBytes.{Appends}
 use Rattle.std.proofs.lemmas.Result.{on_ok_weaker, on_err_weaker}
+use Rattle.logic3.proofs.CallerLemmas.{OnErr_always}
 use Rattle.vcd_dump.specs.declared.unit.TimeUnit.{TimeUnit}
 use Rattle.vcd_dump.specs.Bytes.{AppendsPrefix}
 use Rattle.vcd_dump.specs.Dump.{Variable, line, heading, declaration, declarations}
 use Rattle.vcd_dump.specs.Traces.{named}
-use Rattle.vcd_dump.proofs.BytesLemmas.{AppendsPrefix-longer, OnErr-always}
+use Rattle.vcd_dump.proofs.BytesLemmas.{AppendsPrefix-longer}
 use Rattle.vcd_dump.proofs.GoingOut.{GoesOut-behind, GoesOut-stopped, GoesOut-sent, GoesOut-broken}
 use Rattle.vcd_dump.proofs.dumper.write_declarations.Goals as goal
 
@@ -23,7 +24,7 @@ pub returns-in_err-write_variables-clause-err : goal.returns-in_err-write_variab
 returns-in_err-write_variables-clause-err g c =
     let held = g.W.Write.contents in
     let variables = named c.args.design.now.circuit c.args.shown.now in
-    OnErr-always c.from_residual-in_err-write_variables.result
+    OnErr_always c.from_residual-in_err-write_variables.result
     (subst (AppendsPrefix (held c.args.out.now) (held c.write_variables.new.out))
     (three_pieces c.args.unit variables c.args.text.now.items _ c.requires.empty c.in_ok-push_heading.ensures)
     (AppendsPrefix-longer _ _ _ footing c.in_err-write_variables.ensures.err))
@@ -32,7 +33,7 @@ pub returns-in_err-extend_from_slice-clause-err : goal.returns-in_err-extend_fro
 returns-in_err-extend_from_slice-clause-err g c =
     let held = g.W.Write.contents in
     let variables = named c.args.design.now.circuit c.args.shown.now in
-    OnErr-always c.from_residual-in_err-extend_from_slice.result
+    OnErr_always c.from_residual-in_err-extend_from_slice.result
     (subst (AppendsPrefix (held c.args.out.now) (held c.write_variables.new.out))
     (three_pieces c.args.unit variables c.args.text.now.items _ c.requires.empty c.in_ok-push_heading.ensures)
     (AppendsPrefix-longer _ _ _ footing (GoesOut-stopped _ _ _ _ c.in_ok-write_variables.ensures.ok)))

@@ -1,12 +1,12 @@
 use Rattle.std.proofs.Common.{◌≡◌, ℕ, ◌+◌, ◌<◌, List, ◌++◌, Some, slice_get, option_map, length, arith, ap, sym, subst, ◌∙◌, append_assoc, append-nil}
 use Rattle.std.proofs.lemmas.Option.{slice_get-get_or}
+use Rattle.logic3.proofs.CallerLemmas.{OnErr_always}
 use Rattle.design.specs.Circuit.{Net, Circuit}
 use Rattle.vcd_dump.specs.Codes.{code_at}
 use Rattle.vcd_dump.specs.Dump.{declaration, declaration_text}
 use Rattle.vcd_dump.specs.Written.{GoesOut}
 use Rattle.vcd_dump.specs.Bytes.{AppendsPrefix}
 use Rattle.vcd_dump.proofs.Between.{between, between-first, between-none}
-use Rattle.vcd_dump.proofs.BytesLemmas.{OnErr-always}
 use Rattle.vcd_dump.proofs.GoingOut.{GoesOut-then, GoesOut-stopped, GoesOut-fault}
 use Rattle.vcd_dump.proofs.Variables.{named_at, declaration-named_at, declarations-named}
 use Rattle.vcd_dump.proofs.dumper.write_variables.Goals as goal
@@ -30,7 +30,7 @@ pushed circuit shown place net name waiting piece within at named is =
 pub returns-in_err-push_declaration-clause-err : goal.returns-in_err-push_declaration-clause-err
 returns-in_err-push_declaration-clause-err g c =
     let held = g.W.Write.contents in
-    OnErr-always c.from_residual.result
+    OnErr_always c.from_residual.result
     (subst (λ xs. AppendsPrefix (held c.args.out.now) (held c.loop-place.out) (c.args.text.now.items ++ xs))
     (sym (declarations-named c.args.design.now.circuit c.args.shown.now))
     (GoesOut-stopped _ _ _ _ c.loop-place.invariant))
@@ -43,7 +43,7 @@ returns-in_err-send_long-clause-err g c =
     let place = c.loop-place.place in
     let is = pushed circuit shown place _ _ c.loop-place.text.items c.push_declaration.new.line.items (omega arith)
     (slice_get-get_or shown place 0 (omega arith)) c.name.ensures c.in_ok-push_declaration.ensures in
-    OnErr-always c.from_residual-in_err-send_long.result
+    OnErr_always c.from_residual-in_err-send_long.result
     (subst (λ xs. AppendsPrefix (held c.args.out.now) (held c.send_long.new.out) (c.args.text.now.items ++ xs))
     (sym (declarations-named circuit shown))
     (GoesOut-fault _ (held c.loop-place.out) _ _ c.push_declaration.new.line.items (between (text circuit shown) (place + 1) (length shown))

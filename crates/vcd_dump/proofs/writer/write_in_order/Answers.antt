@@ -1,11 +1,12 @@
 use Rattle.std.proofs.Common.{◌≡◌, ◌≤◌, ◌++◌, ◌-◌, ◌∙◌, ◌∷◌, [], ℕ, refl, ap, subst, List, take, drop, length, take-append-drop, append_assoc, arith}
 use Rattle.std.proofs.lemmas.List.{take_rest}
 use Rattle.std.proofs.lemmas.Result.{on_ok_weaker, on_err_weaker, IfOk-weaker}
+use Rattle.logic3.proofs.CallerLemmas.{OnErr_always}
 use Rattle.vcd_dump.specs.declared.line.Line.{Line}
 use Rattle.vcd_dump.specs.Bytes.{AppendsPrefix}
 use Rattle.vcd_dump.specs.Spans.{zero_text}
 use Rattle.vcd_dump.specs.Written.{GoesOut, written_text, last_tick, written_span}
-use Rattle.vcd_dump.proofs.BytesLemmas.{AppendsPrefix-longer, OnErr-always}
+use Rattle.vcd_dump.proofs.BytesLemmas.{AppendsPrefix-longer}
 use Rattle.vcd_dump.proofs.GoingOut.{GoesOut-next, GoesOut-behind, GoesOut-broken}
 use Rattle.vcd_dump.proofs.writer.write_in_order.Goals as goal
 
@@ -44,7 +45,7 @@ pub returns-in_err-time-clause-err : goal.returns-in_err-time-clause-err
 returns-in_err-time-clause-err g c =
     let held = g.W.Write.contents in
     let lines = c.args.lines.now in
-    OnErr-always c.from_residual.result
+    OnErr_always c.from_residual.result
     (subst (AppendsPrefix (held c.args.out.now) (held c.write_values.new.out))
     (in_two c.args.text.now.items c.args.nets c.args.from c.args.time lines c.if-from-gt0.false)
     (AppendsPrefix-longer _ _ _ (later c.args.nets c.args.time lines) c.in_err-time.ensures.err))

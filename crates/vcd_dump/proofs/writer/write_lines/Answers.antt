@@ -1,10 +1,10 @@
 use Rattle.std.proofs.Common.{◌≡◌, refl, ℕ, ◌+◌, ◌<◌, List, ◌∷◌, ◌++◌, ◌∙◌, drop, length, get_or, subst, sym, ap, add-one, arith, append_assoc, drop-cons}
 use Rattle.logic3.specs.declared.value.Value.TheVariants.{Zero}
+use Rattle.logic3.proofs.CallerLemmas.{OnErr_always}
 use Rattle.vcd_dump.specs.declared.line.Line.{Line}
 use Rattle.vcd_dump.specs.Dump.{time_line_after}
 use Rattle.vcd_dump.specs.Spans.{line_text}
 use Rattle.vcd_dump.specs.Written.{GoesOut, written_text, last_tick}
-use Rattle.vcd_dump.proofs.BytesLemmas.{OnErr-always}
 use Rattle.vcd_dump.proofs.GoingOut.{GoesOut-then, GoesOut-stopped, GoesOut-fault}
 use Rattle.vcd_dump.proofs.writer.write_lines.Goals as goal
 
@@ -33,11 +33,11 @@ pushed before index tick lines waiting with_time piece within told p q =
 
 pub returns-in_err-push_time_after-clause-err : goal.returns-in_err-push_time_after-clause-err
 returns-in_err-push_time_after-clause-err g c =
-    OnErr-always c.from_residual.result (GoesOut-stopped _ _ _ _ c.loop-line.invariant.text)
+    OnErr_always c.from_residual.result (GoesOut-stopped _ _ _ _ c.loop-line.invariant.text)
 
 pub returns-in_err-push_change-clause-err : goal.returns-in_err-push_change-clause-err
 returns-in_err-push_change-clause-err g c =
-    OnErr-always c.from_residual-in_err-push_change.result (GoesOut-stopped _ _ _ _ c.loop-line.invariant.text)
+    OnErr_always c.from_residual-in_err-push_change.result (GoesOut-stopped _ _ _ _ c.loop-line.invariant.text)
 
 pub returns-in_err-send_long-clause-err : goal.returns-in_err-send_long-clause-err
 returns-in_err-send_long-clause-err g c =
@@ -49,7 +49,7 @@ returns-in_err-send_long-clause-err g c =
     let piece = c.push_change.new.line.items in
     let is = pushed c.loop-line.before index tick lines c.loop-line.text.items c.push_time_after.new.line.items piece (omega arith)
     c.from-tick.ensures c.in_ok-push_time_after.ensures c.in_ok-push_change.ensures in
-    OnErr-always c.from_residual-in_err-send_long.result
+    OnErr_always c.from_residual-in_err-send_long.result
     (GoesOut-fault (held c.args.out.now) (held c.loop-line.out) (held c.send_long.new.out) _ piece rest
     (subst (GoesOut _ _ _) is c.loop-line.invariant.text) c.in_err-send_long.ensures.err)
 

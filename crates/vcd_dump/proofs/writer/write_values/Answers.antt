@@ -1,11 +1,12 @@
 use Rattle.std.proofs.Common.{◌≡◌, ◌++◌, ◌∙◌, sym, List, ℕ, ap, subst, codes, arith, append_assoc}
 use Rattle.std.specs.Fmt.{decimal}
 use Rattle.std.proofs.lemmas.Fmt.{decimal_digit}
+use Rattle.logic3.proofs.CallerLemmas.{OnErr_always}
 use Rattle.vcd_dump.specs.Bytes.{AppendsPrefix}
 use Rattle.vcd_dump.specs.Dump.{line}
 use Rattle.vcd_dump.specs.Spans.{zero_text}
 use Rattle.vcd_dump.specs.Written.{GoesOut, written_text}
-use Rattle.vcd_dump.proofs.BytesLemmas.{AppendsPrefix-longer, OnErr-always}
+use Rattle.vcd_dump.proofs.BytesLemmas.{AppendsPrefix-longer}
 use Rattle.vcd_dump.proofs.GoingOut.{GoesOut-stopped, GoesOut-behind}
 use Rattle.vcd_dump.proofs.writer.write_values.Goals as goal
 
@@ -36,7 +37,7 @@ returns-in_err-last-clause-err g c =
     let held = g.W.Write.contents in
     let begun = c.extend_from_slice.new.self.items in
     let values = written_text c.args.time c.args.values.now in
-    OnErr-always c.from_residual-in_err-last.result
+    OnErr_always c.from_residual-in_err-last.result
     (subst (AppendsPrefix (held c.args.out.now) (held c.write_lines.new.out))
     (values_are c.args.text.now.items begun values c.in_ok-extend_from_slice.ensures.items)
     (AppendsPrefix-longer _ _ (begun ++ values) end c.in_err-last.ensures.err))
@@ -46,7 +47,7 @@ returns-in_err-extend_from_slice-2-clause-err g c =
     let held = g.W.Write.contents in
     let begun = c.extend_from_slice.new.self.items in
     let values = written_text c.args.time c.args.values.now in
-    OnErr-always c.from_residual-in_err-extend_from_slice-2.result
+    OnErr_always c.from_residual-in_err-extend_from_slice-2.result
     (subst (AppendsPrefix (held c.args.out.now) (held c.write_lines.new.out))
     (values_are c.args.text.now.items begun values c.in_ok-extend_from_slice.ensures.items)
     (AppendsPrefix-longer _ _ (begun ++ values) end (GoesOut-stopped _ _ _ _ c.in_ok-last.ensures.ok)))

@@ -1,9 +1,11 @@
 use Rattle.std.proofs.Common.{◌≡◌, ◌∷◌, [], ◌++◌, ap, ◌∙◌, subst, arith, ◌<◌, length, get_or, IsTrue, false}
 use Rattle.std.proofs.lemmas.List.{length_push}
 use Rattle.std.proofs.lemmas.List.Elements.{Contains-get_or}
+use Rattle.netlist.specs.Marks.{is_seen, unseen}
+use Rattle.netlist.proofs.CallerLemmas.{seen_still, fewer_unseen}
 use Rattle.circuit_info.specs.Levels.{pins_at}
-use Rattle.circuit_info.specs.Climb.{unseen, is_seen, IsClimb}
-use Rattle.circuit_info.proofs.Marks.{fewer_unseen, seen_still, read_true, read_false}
+use Rattle.circuit_info.specs.Climb.{IsClimb}
+use Rattle.circuit_info.proofs.Marks.{read_true, read_false}
 use Rattle.circuit_info.proofs.Climbing.{IsClimb-leave, last_below, last_waits, IsClimb-on, IsClimb-clear, pins_below}
 use Rattle.circuit_info.proofs.levels.Walk.climb.Goals as goal
 use Rattle.circuit_info.proofs.levels.Walk.climb.Goals.{In-Some}

@@ -1,5 +1,6 @@
 use Rattle.std.proofs.Common.{◌+◌, ◌*◌, length}
-use Rattle.circuit_info.specs.Climb.{unseen, IsClimb, KeepsSeen}
+use Rattle.netlist.specs.Marks.{unseen, KeepsSeen}
+use Rattle.circuit_info.specs.Climb.{IsClimb}
 use Rattle.circuit_info.proofs.levels.Walk.climb.Given as goal
 
 abbrev pub invariant-loop-step : goal.invariant-loop-step

@@ -1,10 +1,12 @@
 use Rattle.std.proofs.Common.{◌≡◌, List, Bool, ◌+◌, [], ℕ, ◌<◌, sym, ap, ◌∙◌, subst, arith, length, false, true≢false, IsTrue, ⊎_elim}
 use Rattle.std.proofs.lemmas.Bool.{cases_eq}
 use Rattle.netlist.specs.Netlist.{NetlistView}
+use Rattle.netlist.specs.Marks.{is_seen, KeepsSeen}
+use Rattle.netlist.proofs.CallerLemmas.{seen_now, seen_still}
 use Rattle.circuit_info.specs.Levels.{is_gate, is_gate_at}
-use Rattle.circuit_info.specs.Climb.{is_seen, IsClimb, KeepsSeen}
+use Rattle.circuit_info.specs.Climb.{IsClimb}
 use Rattle.circuit_info.proofs.Links.{AreJoined-one}
-use Rattle.circuit_info.proofs.Marks.{seen_now, seen_still, read_true, read_false}
+use Rattle.circuit_info.proofs.Marks.{read_true, read_false}
 use Rattle.circuit_info.proofs.Climbing.{HasAtPin, IsClimb-enter}
 use Rattle.circuit_info.proofs.Knowing.{KnowsLevels-all, IsLevelling-all}
 use Rattle.circuit_info.proofs.levels.Walk.climb_all.Goals as goal

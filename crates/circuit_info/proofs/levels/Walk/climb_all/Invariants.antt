@@ -1,6 +1,7 @@
 use Rattle.std.proofs.Common.{◌≡◌, ℕ, ◌<◌, [], IsTrue}
+use Rattle.netlist.specs.Marks.{is_seen}
 use Rattle.circuit_info.specs.Levels.{is_gate_at}
-use Rattle.circuit_info.specs.Climb.{is_seen, IsClimb}
+use Rattle.circuit_info.specs.Climb.{IsClimb}
 use Rattle.circuit_info.proofs.levels.Walk.climb_all.Given as goal
 
 abbrev pub invariant-loop-net : goal.invariant-loop-net

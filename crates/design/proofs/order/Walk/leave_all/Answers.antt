@@ -1,8 +1,10 @@
 use Rattle.std.proofs.Common.{◌∷◌, [], ◌++◌, ap, ◌∙◌, subst, arith, ◌<◌, length, get_or}
 use Rattle.std.proofs.lemmas.List.{length_push}
+use Rattle.netlist.specs.Marks.{unseen}
+use Rattle.netlist.proofs.CallerLemmas.{fewer_unseen, seen_still}
 use Rattle.design.proofs.WellFormed.{pins_below}
-use Rattle.design.specs.Walk.{unseen, IsWalk}
-use Rattle.design.proofs.Walking.{IsWalk-on, IsWalk-leave, last_below, last_looked, fewer_unseen, seen_still}
+use Rattle.design.specs.Walk.{IsWalk}
+use Rattle.design.proofs.Walking.{IsWalk-on, IsWalk-leave, last_below, last_looked}
 use Rattle.design.proofs.order.Walk.leave_all.Goals as goal
 use Rattle.design.proofs.order.Walk.leave_all.Goals.{In-Some}
 

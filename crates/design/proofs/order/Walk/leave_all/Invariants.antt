@@ -1,5 +1,6 @@
 use Rattle.std.proofs.Common.{◌+◌, ◌*◌, length}
-use Rattle.design.specs.Walk.{unseen, IsWalk, KeepsSeen}
+use Rattle.netlist.specs.Marks.{unseen, KeepsSeen}
+use Rattle.design.specs.Walk.{IsWalk}
 use Rattle.design.proofs.order.Walk.leave_all.Given as goal
 
 abbrev pub invariant-loop-step : goal.invariant-loop-step

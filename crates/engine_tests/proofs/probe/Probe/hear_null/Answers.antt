@@ -1,7 +1,6 @@
 use Rattle.std.proofs.Common.{◌≡◌, ◌∙◌, false, arith, rules}
 use Rattle.cmb_channels.specs.declared.message.Message.TheVariants.{Null}
-use Rattle.gate_process.proofs.CallerLemmas.{can_hear_null}
-use Rattle.engine_tests.proofs.Probes.{stays}
+use Rattle.gate_process.proofs.CallerLemmas.{can_hear_null, lasts_heard}
 use Rattle.engine_tests.proofs.probe.Probe.hear_null.Goals as goal
 
 pub receive-requires-clause-can_hear : goal.receive-requires-clause-can_hear
@@ -14,5 +13,5 @@ receive-requires-clause-can_hear g c =
 pub invariant_of-self : goal.invariant_of-self
 invariant_of-self g c =
     let runs : c.args.self.now.process.failed ≡ false = search rules in
-    let same = stays c.args.self.now.process c.receive.new.self c.args.place (Null c.args.bound) c.receive.result c.receive.ensures.ok c.receive.ensures.err in
+    let same = lasts_heard c.args.self.now.process c.receive.new.self c.args.place (Null c.args.bound) c.receive.result c.receive.ensures.ok c.receive.ensures.err in
     record { has_pins = λ _. same.pins ∙ c.args.self.now.has_pins runs; ends = λ _. same.end ∙ c.args.self.now.ends runs }

@@ -1,9 +1,9 @@
 use Rattle.std.proofs.Common.{◌≡◌, ◌∙◌, false, rules}
-use Rattle.memory_probes.proofs.Listeners.{advances}
+use Rattle.gate_process.proofs.CallerLemmas.{lasts_advanced}
 use Rattle.memory_probes.proofs.processes.Listener.advance.Goals as goal
 
 pub invariant_of-self : goal.invariant_of-self
 invariant_of-self c =
     let runs : c.args.self.now.process.failed ≡ false = search rules in
-    let same = advances c.args.self.now.process c.advance.new.self c.advance.result c.advance.ensures.state c.advance.ensures.err in
+    let same = lasts_advanced c.args.self.now.process c.advance.new.self c.advance.result c.advance.ensures.state c.advance.ensures.err in
     record { has_pins = λ going. (same going).pins ∙ c.args.self.now.has_pins runs; ends = λ going. (same going).end ∙ c.args.self.now.ends runs }

@@ -1,4 +1,4 @@
-use Rattle.run_progress.proofs.Prefixes.{AppendsPrefix-either}
+use Rattle.vcd_dump.proofs.CallerLemmas.{AppendsPrefix-either}
 use Rattle.run_progress.proofs.percents.Percents.show.Goals as goal
 
 pub returns-then-not-self-clause-part : goal.returns-then-not-self-clause-part

@@ -1,11 +1,11 @@
 use Rattle.std.proofs.Common.{◌≡◌, ◌-◌, ℕ, ◌<◌, ◌≤◌, false, List, ap, sym, subst, ◌∙◌}
 use Rattle.std.specs.Io.KnownBytes.{Appends}
 use Rattle.std.proofs.lemmas.List.Elements.{recursion_from_All}
+use Rattle.logic3.proofs.CallerLemmas.{OnErr_always}
 use Rattle.vcd_dump.specs.declared.line.Line.{Line}
 use Rattle.vcd_dump.specs.Bytes.{AppendsPrefix}
 use Rattle.vcd_dump.specs.Spans.{StreamView, spanned, lines_text, CanSpan}
 use Rattle.vcd_dump.specs.Written.{InOrder}
-use Rattle.vcd_dump.proofs.BytesLemmas.{OnErr-always}
 use Rattle.vcd_dump.proofs.Ordered.{OfSpan}
 use Rattle.vcd_dump.proofs.Stepped.{Stepped, Stepped-in_order}
 use Rattle.vcd_dump.proofs.stream.Stream.span.Goals as goal
@@ -37,7 +37,7 @@ returns-in_err-self-inside-clause-err g c =
     let early = c.self.invariant c.if-self.false in
     let step = stepped _ _ c.args.upto _ _ c.self.view_is c.if-self.false c.requires early.1
     c.in_ok-sort_lines.ensures c.as_slice.ensures.value in
-    OnErr-always c.from_residual-in_err-self-inside.result
+    OnErr_always c.from_residual-in_err-self-inside.result
     (subst (AppendsPrefix (held c.args.out.now) (held c.write_span.new.out))
     (step.text ∙ ap (λ (s : StreamView). lines_text s.written c.args.upto s.lines) c.self.view_is) c.in_err-self-inside.ensures.err)
 

@@ -1,6 +1,6 @@
 use Rattle.std.proofs.Common.{◌≡◌, ◌++◌, drop}
-use Rattle.run_notes.specs.Text.{names_behind}
-use Rattle.run_notes.proofs.text.push_names.Given as goal
+use Rattle.netlist.specs.Text.{names_behind}
+use Rattle.netlist.proofs.text.push_names.Given as goal
 
 -- the names so far and those left are all
 abbrev pub invariant-loop-net : goal.invariant-loop-net
