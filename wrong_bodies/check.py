@@ -72,14 +72,16 @@ def main() -> int:
     alone = len(sys.argv) == 1
     asked = [it.partition("/") for it in sys.argv[1:]]
     asked = asked or [(name, "", "") for name in used if (HERE / name).is_dir()]
-    asked.sort(key=lambda it: lines_of(CRATES / it[0]), reverse=True)
-    crates = [CRATES / name for name, _, _ in asked]
+    found = [(CRATES / name, files_of(CRATES / name, bug or "*", alone)) for name, _, bug in asked]
+    # (first those that take longest)
+    found.sort(key=lambda it: len(it[1]) * lines_of(it[0]), reverse=True)
+    crates = [crate for crate, _ in found]
+    files = [bugs for _, bugs in found]
     words = [words_of_check(crate.name, used) for crate in crates]
-    files = [files_of(CRATES / name, bug or "*", alone) for name, _, bug in asked]
     passed = failed = 0
     with ThreadPoolExecutor(len(os.sched_getaffinity(0))) as lanes:
-        for crate, found in zip(crates, lanes.map(tried_in, crates, words, files)):
-            for name, fault in found:
+        for crate, answers in zip(crates, lanes.map(tried_in, crates, words, files)):
+            for name, fault in answers:
                 passed, failed = passed + (fault is None), failed + (fault is not None)
                 print(f"wrong bodies: {crate.name}/{name}: {fault or 'refused'}", flush=True)
     print(f"{passed} passed, {failed} failed")

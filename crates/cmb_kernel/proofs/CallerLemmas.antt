@@ -3,11 +3,10 @@ pub use Rattle.cmb_kernel.proofs.Alike.{alike_drain, alike_least}
 pub use Rattle.cmb_kernel.proofs.Completion.{frontier_when_complete, is_complete-from, least_tells}
 pub use Rattle.cmb_kernel.proofs.Enough.{falls}
 pub use Rattle.cmb_kernel.proofs.LeastFrontier.{least_frontier-le, least_frontier_greatest, net_count, round_exists, steps-append}
-pub use Rattle.cmb_kernel.proofs.Mixed.{completed_floor, steps_floor}
+pub use Rattle.cmb_kernel.proofs.Mixed.{steps_floor}
 pub use Rattle.cmb_kernel.proofs.Order.{completes, shows_as_rounds}
 pub use Rattle.cmb_kernel.proofs.Running.{place_is, some_pin}
 pub use Rattle.cmb_kernel.proofs.Soundness.{meets, net_at, started_frontier}
-pub use Rattle.cmb_kernel.proofs.Sweeping.{of_contained, sweep_raises, sweep_sound}
-pub use Rattle.cmb_kernel.proofs.SweepsAlike.{alike_sweep}
+pub use Rattle.cmb_kernel.proofs.Sweeping.{of_contained}
 pub use Rattle.cmb_kernel.proofs.Together.{RoundsAlike, floor_elsewhere, no_round_yet, round_floor, round_more, same_counts, started_floor, still_alike}
 pub use Rattle.cmb_kernel.proofs.UsefulEvents.{rises_by_delay}

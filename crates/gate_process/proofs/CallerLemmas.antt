@@ -4,7 +4,7 @@ pub use Rattle.gate_process.proofs.Events.{advanced_knows, get_below, get_of_map
 pub use Rattle.gate_process.proofs.Farther.{next-mono}
 pub use Rattle.gate_process.proofs.Frontiers.{least-bound, least-le, least_greatest}
 pub use Rattle.gate_process.proofs.Heard.{can_hear_change, can_hear_null}
-pub use Rattle.gate_process.proofs.Kept.{get_of_kept, length-all_kept}
+pub use Rattle.gate_process.proofs.Kept.{get_of_kept}
 pub use Rattle.gate_process.proofs.Lasting.{Lasting, lasts_advanced, lasts_drained, lasts_heard}
 pub use Rattle.gate_process.proofs.Quiet.{no_news}
 pub use Rattle.gate_process.proofs.Reach.{next-end, next-farther}

@@ -1,2 +1,2 @@
 -- What crates above may cite of the lemmas of this one.
-pub use Rattle.wave_diff.proofs.FirstDifference.{first_difference-None, first_difference-Some, first_difference-same, IsFirstDifference-Some, SameWhereCompared-None}
+pub use Rattle.wave_diff.proofs.FirstDifference.{first_difference-None, first_difference-same}
