@@ -1,19 +1,12 @@
-//! What nets and pins show, and since when.
+//! What pins show, and since when.
 ghost use Rattle.std.specs.Prelude.{◌≡◌, ◌<◌, ◌≤◌, length, All, IfOk};
-ghost use Rattle.design.specs.Equations.{later, pin_signals, signals_in, values_at};
+ghost use Rattle.design.specs.Equations.{pin_signals, signals_in, values_at};
 ghost use Rattle.causes.specs.Deciding.{pin_since, pins_since, since};
 
 use crate::deciding::last_tick;
+use design::plain::read_pins;
 use logic3::{Value, Waveform};
 use std::alloc::{AllocError, Global};
-
-/// What a net shows at a tick.
-pub fn shown(waves: &[Waveform], net: u32, tick: u64) -> Value
-    requires { net < length waves.now }
-    ensures { result ≡ signals_in waves.now net tick }
-{
-    waves[net as usize].value_at(tick)
-}
 
 /// The tick from which on a net shows what it shows at a tick.
 fn since(waves: &[Waveform], net: u32, tick: u64) -> u64
@@ -22,17 +15,6 @@ fn since(waves: &[Waveform], net: u32, tick: u64) -> u64
     ensures within { result ≤ tick }
 {
     last_tick(waves[net as usize].changes(), tick).unwrap_or(0)
-}
-
-/// What a pin shows at a tick: its source's value, earlier by the delay of its wire, and X before.
-pub fn pin_value(waves: &[Waveform], pin: u32, wire: u32, tick: u64) -> Value
-    requires { pin < length waves.now }
-    ensures { result ≡ later wire (signals_in waves.now pin) tick }
-{
-    match tick.checked_sub(u64::from(wire)) {
-        Some(at) => shown(waves, pin, at),
-        None => Value::Unknown,
-    }
 }
 
 /// The tick from which on a pin shows what it shows at a tick; 0 before the delay of its wire is over.
@@ -59,9 +41,7 @@ pub fn pin_values(
     ensures { IfOk result (λ values. values.items ≡ values_at tick (pin_signals (signals_in waves.now) pins.now wires.now)) }
 {
     let mut values = Vec::new(alloc);
-    for place in 0..pins.len() {
-        values.push(pin_value(waves, pins[place], wires[place], tick))?;
-    }
+    read_pins(pins, wires, waves, tick, &mut values)?;
     Ok(values)
 }
 

@@ -5,9 +5,9 @@ ghost use Rattle.causes.specs.Causes.{ShowUpTo};
 ghost use Rattle.causes.specs.Text.{cause_line, looks_text, loop_text, moment_text, pin_text, pins_text, reason_text, shown_text, stimulus_text, why_text};
 
 use crate::cause::{Cause, Reason};
-use crate::pins::shown;
 use crate::walk::why;
 use bench_text::push_statement;
+use design::plain::shown;
 use design::{Design, asked_tick};
 use itoa::Buffer;
 use logic3::{Value, Waveform};

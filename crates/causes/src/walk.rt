@@ -6,9 +6,9 @@ ghost use Rattle.causes.specs.Causes.{cause_behind, causes_of, ShowUpTo};
 ghost use Rattle.causes.specs.Marks.{mark_place, AreMarked};
 
 use crate::cause::{Cause, Reason};
-use crate::pins::shown;
 use crate::reasons::{leads_to, reason_at};
 use design::Design;
+use design::plain::shown;
 use logic3::{Value, Waveform};
 use std::alloc::{AllocError, Global};
 

@@ -8,7 +8,8 @@ use Rattle.netlist.specs.Netlist.{NetlistView, IsNetlist}
 use Rattle.netlist.proofs.CallerLemmas.{no_net, AllPairs-front, AllPairs-last, seen_now, seen_still, seen_cases}
 use Rattle.netlist.specs.Marks.{is_seen}
 use Rattle.circuit_info.specs.declared.levels.Step.{Step}
-use Rattle.circuit_info.specs.Levels.{greatest, is_gate, is_gate_at, pins_at, level_at, level_above, AreLinked}
+use Rattle.netlist.specs.Part.{is_gate}
+use Rattle.circuit_info.specs.Levels.{greatest, is_gate_at, pins_at, level_at, level_above, AreLinked}
 use Rattle.circuit_info.specs.Loops.{HasLevel, at_source, above_pins}
 use Rattle.circuit_info.specs.Climb.{is_known, levelled, KnownBefore, IsLevelled, Waits, gates_on, IsClimb}
 use Rattle.circuit_info.proofs.Tops.{greatest_least, map_alike}

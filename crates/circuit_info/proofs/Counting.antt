@@ -1,27 +1,12 @@
 -- Counts of the pins of all nets.
 use Rattle.std.proofs.Common.{◌≡◌, ℕ, suc, ◌+◌, ◌<◌, ◌≤◌, ◌==◌, List, [], ◌∷◌, length, get_or, set, take, count_by, false, sym, ap, ◌∙◌, arith, All, inl, inr, refl}
-use Rattle.std.specs.List.{flat_map}
 use Rattle.std.proofs.lemmas.Bool.{cases_eq, eq-eqb}
 use Rattle.std.proofs.lemmas.Bool.Decides.{nat_tests}
 use Rattle.std.proofs.lemmas.List.{get_or-set_same, get_or-set_other, length-take-le}
-use Rattle.std.proofs.lemmas.List.Concat.{length-flat_map}
-use Rattle.std.proofs.lemmas.List.Elements.{All-nil, All-append}
 use Rattle.std.proofs.lemmas.List.Sums.{count_by-le-length, count_by_more_yes, count_by_more_no}
-use Rattle.netlist.specs.Netlist.{NetView, NetlistView, IsNetlist}
-use Rattle.circuit_info.specs.Counts.{all_pins}
 
 test_fails : (m n : ℕ) → (m ≡ n → ⊥) → (m == n) ≡ false
 test_fails m n other = grind (arith, nat_tests)
-
-All-flat : (P : ℕ → Type 0) (nets : List NetView) → All (λ (net : NetView). All P net.pins) nets → All P (flat_map (λ (net : NetView). net.pins) nets)
-All-flat P [] all = All-nil P
-All-flat P (net ∷ nets) all = All-append P net.pins _ (all 0 net (omega arith)) (All-flat P nets (λ k d within. all (suc k) d (omega (arith, within))))
-
-pub pins_within : (netlist : NetlistView) → IsNetlist netlist → All (λ pin. pin < length netlist.nets) (all_pins netlist)
-pins_within netlist ok = All-flat (λ pin. pin < length netlist.nets) netlist.nets ok.pins
-
-pub few_pins : (netlist : NetlistView) → IsNetlist netlist → length (all_pins netlist) ≤ 1_000_000
-few_pins netlist ok = omega (arith, ok.pin_limit, length-flat_map (λ (net : NetView). net.pins) netlist.nets)
 
 abbrev pub times : ℕ → List ℕ → ℕ
 times net pins = count_by (λ pin. pin == net) pins

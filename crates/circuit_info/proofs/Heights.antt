@@ -5,7 +5,8 @@ use Rattle.std.proofs.lemmas.List.{get_or-map, get_or_append_left, get_or_defaul
 use Rattle.std.proofs.lemmas.List.Elements.{Contains-get_or}
 use Rattle.netlist.specs.Netlist.{NetlistView}
 use Rattle.netlist.proofs.CallerLemmas.{no_net}
-use Rattle.circuit_info.specs.Levels.{greatest, is_gate, is_gate_at, pins_at, level_at, IsLevelling}
+use Rattle.netlist.specs.Part.{is_gate}
+use Rattle.circuit_info.specs.Levels.{greatest, is_gate_at, pins_at, level_at, IsLevelling}
 use Rattle.circuit_info.specs.Loops.{HasLevel, at_source, above_pins}
 use Rattle.circuit_info.proofs.Tops.{map_alike}
 

@@ -4,7 +4,8 @@ use Rattle.std.proofs.lemmas.Bool.{cases_lt}
 use Rattle.std.proofs.lemmas.List.{ext_get_or, get_or-map, length-map, get_or_default, get_or_past}
 use Rattle.netlist.specs.Netlist.{NetlistView}
 use Rattle.netlist.proofs.CallerLemmas.{no_net}
-use Rattle.circuit_info.specs.Levels.{greatest, is_gate, is_gate_at, pins_at, level_at, level_above, IsLevelling, IsGateLoop}
+use Rattle.netlist.specs.Part.{is_gate}
+use Rattle.circuit_info.specs.Levels.{greatest, is_gate_at, pins_at, level_at, level_above, IsLevelling, IsGateLoop}
 use Rattle.circuit_info.specs.Loops.{HasLevel, at_source, above_pins}
 use Rattle.circuit_info.proofs.Tops.{greatest_bounds, map_alike}
 

@@ -1,11 +1,10 @@
 -- What is counted of a netlist.
 use Rattle.std.specs.Prelude.{◌≡◌, ℕ, ◌<◌, ◌≤◌, ◌==◌, List, length, map, count_by, slice_index_or}
-use Rattle.std.specs.List.{flat_map}
 use Rattle.logic3.specs.declared.gates.GateKind.TheVariants.{And, Nand, Or, Nor, Xor, Xnor, Not, Buf}
 use Rattle.netlist.specs.declared.part.Part.{Part}
 use Rattle.netlist.specs.declared.part.Part.TheVariants.{Input, Gate, Flop}
-use Rattle.netlist.specs.Netlist.{NetView, NetlistView}
-use Rattle.circuit_info.specs.Levels.{is_gate}
+use Rattle.netlist.specs.Netlist.{NetView, NetlistView, all_pins}
+use Rattle.netlist.specs.Part.{is_gate}
 
 -- a number for each part, no two alike
 abbrev pub part_code : Part → ℕ
@@ -28,17 +27,13 @@ part_count netlist part = count_by (λ (net : NetView). part_code net.part == pa
 abbrev pub gate_count : NetlistView → ℕ
 gate_count netlist = count_by (λ (net : NetView). is_gate net.part) netlist.nets
 
--- the pins of all nets, net after net
-abbrev pub all_pins : NetlistView → List ℕ
-all_pins netlist = flat_map (λ (net : NetView). net.pins) netlist.nets
-
 -- for each net how many pins it has
 abbrev pub fan_ins : NetlistView → List ℕ
 fan_ins netlist = map (λ (net : NetView). length net.pins) netlist.nets
 
 -- at how many pins a net stands
 abbrev pub fan_out : NetlistView → ℕ → ℕ
-fan_out netlist net = count_by (λ pin. pin == net) (all_pins netlist)
+fan_out netlist net = count_by (λ pin. pin == net) (all_pins netlist.nets)
 
 -- for each net at how many pins it stands
 pub record IsFanOuts (netlist : NetlistView) (counts : List ℕ) : Type 0 where

@@ -1,13 +1,7 @@
 -- Levels of gates, and loops of gates.
-use Rattle.std.specs.Prelude.{◌≡◌, ◌≢◌, ℕ, ◌+◌, ◌-◌, ◌<◌, max, Bool, true, false, IsTrue, if◌then◌else◌, List, [], ◌∷◌, length, map, slice_index_or, All, AllPairs, Contains}
-use Rattle.netlist.specs.declared.part.Part.{Part}
-use Rattle.netlist.specs.declared.part.Part.TheVariants.{Input, Gate, Flop}
+use Rattle.std.specs.Prelude.{◌≡◌, ◌≢◌, ℕ, ◌+◌, ◌-◌, ◌<◌, max, Bool, IsTrue, if◌then◌else◌, List, [], ◌∷◌, length, map, slice_index_or, All, AllPairs, Contains}
 use Rattle.netlist.specs.Netlist.{NetlistView, net_at}
-
-abbrev pub is_gate : Part → Bool
-is_gate Input = false
-is_gate (Gate kind) = true
-is_gate Flop = false
+use Rattle.netlist.specs.Part.{is_gate}
 
 -- a gate drives the net
 abbrev pub is_gate_at : NetlistView → ℕ → Bool

@@ -4,9 +4,9 @@ use Rattle.std.specs.List.{flat_map}
 use Rattle.logic3.specs.declared.gates.GateKind.TheVariants.{And, Nand, Or, Nor, Xor, Xnor, Not, Buf}
 use Rattle.netlist.specs.declared.part.Part.{Part}
 use Rattle.netlist.specs.declared.part.Part.TheVariants.{Input, Gate, Flop}
-use Rattle.netlist.specs.Netlist.{NetlistView, name_at}
+use Rattle.netlist.specs.Netlist.{NetlistView, all_pins, name_at}
 use Rattle.netlist.specs.Text.{names_behind}
-use Rattle.circuit_info.specs.Counts.{all_pins, fan_ins, gate_count, part_count, IsFanOuts, IsFirstGreatest}
+use Rattle.circuit_info.specs.Counts.{fan_ins, gate_count, part_count, IsFanOuts, IsFirstGreatest}
 use Rattle.circuit_info.specs.Levels.{greatest, IsLevelling}
 use Rattle.circuit_info.specs.Loops.{IsNamedLoop}
 
@@ -22,7 +22,7 @@ part_line netlist word part = count_line word (part_count netlist part)
 abbrev pub size_lines : NetlistView → List ℕ
 size_lines netlist =
     count_line (codes "nets") (length netlist.nets)
-    ++ count_line (codes "pins") (length (all_pins netlist))
+    ++ count_line (codes "pins") (length (all_pins netlist.nets))
     ++ part_line netlist (codes "inputs") Input
     ++ count_line (codes "outputs") (length netlist.outputs)
     ++ part_line netlist (codes "flip-flops") Flop

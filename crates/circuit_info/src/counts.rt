@@ -1,7 +1,6 @@
 //! What is counted of a netlist's nets and pins.
 ghost use Rattle.std.specs.Prelude.{◌≡◌, ◌<◌, length, IfOk};
-ghost use Rattle.circuit_info.specs.Levels.{is_gate};
-ghost use Rattle.circuit_info.specs.Counts.{all_pins, fan_ins, gate_count, part_code, part_count, IsFanOuts, IsFirstGreatest};
+ghost use Rattle.circuit_info.specs.Counts.{fan_ins, gate_count, part_code, part_count, IsFanOuts, IsFirstGreatest};
 
 use logic3::GateKind;
 use netlist::{Netlist, Part};
@@ -26,18 +25,11 @@ pub fn gate_count(netlist: &Netlist) -> u32
 {
     let mut gates = 0;
     for net in 0..netlist.nets() {
-        if is_gate(netlist.part(net)) {
+        if netlist.part(net).is_gate() {
             gates += 1;
         }
     }
     gates
-}
-
-/// Whether a part is a gate.
-pub(crate) fn is_gate(part: Part) -> bool
-    ensures { result ≡ is_gate part }
-{
-    matches!(part, Part::Gate(_))
 }
 
 /// A number for each part, no two alike.
@@ -56,20 +48,6 @@ fn part_code(part: Part) -> u8
         Part::Gate(GateKind::Buf) => 8,
         Part::Flop => 9,
     }
-}
-
-/// The numbers of the nets at the pins of all nets, net after net, in order.
-///
-/// # Errors
-/// An `AllocError` where a growth was refused.
-pub fn all_pins(alloc: Global, netlist: &Netlist) -> Result<Vec<u32>, AllocError>
-    ensures { IfOk result (λ pins. pins.items ≡ all_pins netlist.now) }
-{
-    let mut pins = Vec::new(alloc);
-    for net in 0..netlist.nets() {
-        pins.extend_from_slice(netlist.pins_of(net))?;
-    }
-    Ok(pins)
 }
 
 /// For each net how many pins it has, in order.
@@ -95,7 +73,7 @@ pub fn fan_ins(alloc: Global, netlist: &Netlist) -> Result<Vec<usize>, AllocErro
 pub fn fan_outs(alloc: Global, netlist: &Netlist) -> Result<Vec<usize>, AllocError>
     ensures { IfOk result (λ counts. IsFanOuts netlist.now counts.items) }
 {
-    let pins = all_pins(alloc, netlist)?;
+    let pins = netlist.all_pins(alloc)?;
     let mut counts = vec![in alloc; 0; netlist.nets() as usize]?;
     for pin in &pins {
         counts[*pin as usize] += 1;

@@ -2,7 +2,6 @@
 ghost use Rattle.std.specs.Prelude.{◌≡◌, ◌<◌, false, length, slice_index_or, All};
 ghost use Rattle.circuit_info.specs.Climb.{is_known, KnownBefore};
 
-use crate::counts::is_gate;
 use netlist::Netlist;
 
 /// Whether the level of a net is known: a gate whose level isn't has 0.
@@ -11,7 +10,7 @@ pub(crate) fn is_known(netlist: &Netlist, net: u32, levels: &[u32]) -> bool
     requires net { net < length netlist.now.nets }
     ensures { result ≡ is_known netlist.now levels.now net }
 {
-    !(is_gate(netlist.part(net)) && levels[net as usize] == 0)
+    !(netlist.part(net).is_gate() && levels[net as usize] == 0)
 }
 
 /// The first place, from one on, of a pin whose level isn't known; past the last pin where all are.

@@ -10,7 +10,6 @@ ghost use Rattle.circuit_info.specs.Levels.{greatest, level_at, IsLevelling};
 ghost use Rattle.circuit_info.specs.Loops.{HasLevel, IsDepths};
 ghost use Rattle.circuit_info.specs.Climb.{IsClimb, KnowsLevels};
 
-use crate::counts::is_gate;
 use crate::known::first_unknown;
 use crate::loops::{least_without, named_loop};
 use netlist::Netlist;
@@ -92,7 +91,7 @@ impl Walk {
         ensures levels { OnOk result (((net : ℕ) → HasLevel netlist.now net) → IsLevelling netlist.now self.new.levels.items) }
     {
         for net in 0..netlist.nets() {
-            if is_gate(netlist.part(net)) && !self.seen[net as usize] {
+            if netlist.part(net).is_gate() && !self.seen[net as usize] {
                 self.enter(net)?;
                 self.climb(netlist)?;
             }

@@ -9,6 +9,6 @@ mod levels;
 mod loops;
 mod text;
 
-pub use counts::{all_pins, fan_ins, fan_outs, first_greatest, gate_count, part_count};
+pub use counts::{fan_ins, fan_outs, first_greatest, gate_count, part_count};
 pub use levels::{Depths, greatest, levels_of};
 pub use text::info_text;

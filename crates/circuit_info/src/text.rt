@@ -3,7 +3,7 @@ ghost use Rattle.std.specs.Prelude.{◌≡◌, ◌<◌, ◌++◌, length, All, I
 ghost use Rattle.netlist.specs.Netlist.{IsNetlist};
 ghost use Rattle.circuit_info.specs.Text.{count_line, gate_lines, loop_line, part_line, size_lines, unobserved_line, unobserved_lines, AddsLine, IsDepthLine, IsGreatestLine, IsInfoText};
 
-use crate::counts::{all_pins, fan_ins, fan_outs, first_greatest, gate_count, part_count};
+use crate::counts::{fan_ins, fan_outs, first_greatest, gate_count, part_count};
 use crate::levels::{Depths, greatest, levels_of};
 use itoa::Buffer;
 use logic3::GateKind;
@@ -47,7 +47,7 @@ fn push_sizes(alloc: Global, text: &mut Vec<u8>, netlist: &Netlist) -> Result<()
     ensures well_formed { IsNetlist netlist.now }
 {
     let nets = netlist.nets();
-    let pins = all_pins(alloc, netlist)?;
+    let pins = netlist.all_pins(alloc)?;
     push_count(text, b"nets", nets as usize)?;
     push_count(text, b"pins", pins.len())?;
     push_part(text, netlist, b"inputs", Part::Input)?;

@@ -29,13 +29,13 @@ abbrev pub net_in : Circuit → ℕ → List ℕ → Result ℕ ScheduleFault
 net_in circuit line name = ok_or (position (λ (net : Net). bytes_eq net.name name) circuit) (UnknownNet line)
 
 -- how many pins the net of a number has
-abbrev pub pins_at : Circuit → ℕ → ℕ
-pins_at circuit net = option_map_or (λ (n : Net). length n.pins) (slice_get circuit net) 0
+abbrev pub pin_count_at : Circuit → ℕ → ℕ
+pin_count_at circuit net = option_map_or (λ (n : Net). length n.pins) (slice_get circuit net) 0
 
 -- the delivery to the pin of a net at a place, counted from 0
 abbrev pub delivery_at : Circuit → ℕ → ℕ → ℕ → Result Event ScheduleFault
 delivery_at circuit line net place =
-    if nat_lt place (pins_at circuit net) then Ok (Deliver (first_pin circuit net + place)) else Err (BadPin line)
+    if nat_lt place (pin_count_at circuit net) then Ok (Deliver (first_pin circuit net + place)) else Err (BadPin line)
 
 -- the event of a line `advance NAME`
 abbrev pub advance_in : Circuit → ℕ → List ℕ → Result Event ScheduleFault

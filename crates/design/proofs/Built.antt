@@ -7,7 +7,7 @@ use Rattle.std.proofs.lemmas.List.{length-map}
 use Rattle.std.proofs.lemmas.List.Elements.{All-map}
 use Rattle.logic3.specs.declared.change.Change.{Change}
 use Rattle.text_lines.specs.Text.{◌>>=◌}
-use Rattle.netlist.specs.Netlist.{NetView, NetlistView, IsNetlist}
+use Rattle.netlist.specs.Netlist.{NetView, NetlistView, IsNetlist, all_pins}
 use Rattle.timing_text.specs.declared.fault.OptionFault.{OptionFault}
 use Rattle.timing_text.specs.declared.fault.OptionFault.TheVariants.{BadDelay, BadPeriod}
 use Rattle.timing_text.specs.declared.fault.DelayFault.{DelayFault}
@@ -20,7 +20,7 @@ use Rattle.design.specs.declared.fault.BuildFault.TheVariants as build
 use Rattle.design.specs.Circuit.{Net, Circuit, IsTimed}
 use Rattle.timing_text.specs.Ranges.{most_delay, most_ticks}
 use Rattle.design.specs.Design.{DesignView, IsDesign, untimed}
-use Rattle.design.specs.Joined.{timed_nets, design_view, first_pins_of, joined_pins, IsJoined}
+use Rattle.design.specs.Joined.{timed_nets, design_view, first_pins_of, IsJoined}
 use Rattle.design.specs.Pins.{all_fed}
 use Rattle.timing_text.specs.Options.{is_in_limits, option_fault, options_of}
 use Rattle.timing_text.specs.declared.timing.Timing.{Timing}
@@ -134,7 +134,7 @@ module _ {netlist : NetlistView} {delay_text stimulus_text : List ℕ} {default 
 
   -- and its parts fit together
   pub IsJoined-given : (first_pins sources : List ℕ) (fed : List (List ℕ)) → IsNetlist netlist → first_pins ≡ first_pins_of netlist →
-      sources ≡ joined_pins netlist.nets → fed ≡ all_fed (length netlist.nets) sources →
+      sources ≡ all_pins netlist.nets → fed ≡ all_fed (length netlist.nets) sources →
       IsJoined netlist first_pins sources fed timings stimuli
   IsJoined-given first_pins sources fed ok starts feeds fed_are = record {
     starts = starts;

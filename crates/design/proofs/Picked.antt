@@ -4,13 +4,13 @@ use Rattle.std.proofs.lemmas.List.{get_or-map, length-map, map-append, take_more
 use Rattle.std.proofs.lemmas.List.Elements.{All-head, All-tail, All-map, All-weaker}
 use Rattle.std.proofs.lemmas.Option.{get_or_from_slice_get}
 use Rattle.logic3.specs.declared.change.Change.{Change}
-use Rattle.netlist.specs.Netlist.{NetView, NetlistView, IsNetlist, net_at}
+use Rattle.netlist.specs.Netlist.{NetView, NetlistView, IsNetlist, all_pins, net_at}
 use Rattle.netlist.specs.Pick.{place_in, picked, picked_net}
 use Rattle.netlist.proofs.CallerLemmas.{no_net}
 use Rattle.timing_text.specs.declared.timing.Timing.{Timing}
 use Rattle.design.specs.Circuit.{Net, Circuit, IsTimed}
 use Rattle.design.specs.Design.{DesignView, IsDesign, untimed}
-use Rattle.design.specs.Joined.{design_view, first_pins_of, joined_pins, timed_net, timed_nets, IsJoined}
+use Rattle.design.specs.Joined.{design_view, first_pins_of, timed_net, timed_nets, IsJoined}
 use Rattle.design.specs.Pins.{all_fed}
 use Rattle.design.specs.PickedDesign.{kept_net, net_in, picked_design, stimuli_in, timing_in}
 use Rattle.design.proofs.Joined.{untimed-timed_nets}
@@ -86,7 +86,7 @@ module _ (design : DesignView) (ok : IsDesign design) (keep outputs : List ℕ) 
 
     -- and its parts fit together
     pub IsJoined-picked : (first_pins sources : List ℕ) (fed : List (List ℕ)) → IsNetlist netlist → first_pins ≡ first_pins_of netlist →
-        sources ≡ joined_pins netlist.nets → fed ≡ all_fed (length netlist.nets) sources →
+        sources ≡ all_pins netlist.nets → fed ≡ all_fed (length netlist.nets) sources →
         IsJoined netlist first_pins sources fed timings stimuli
     IsJoined-picked first_pins sources fed formed starts feeds fan_out = record {
       starts = starts;

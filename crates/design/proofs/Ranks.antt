@@ -1,10 +1,11 @@
 -- The ranks of a circuit's nets.
-use Rattle.std.proofs.Common.{◌≡◌, ℕ, ◌<◌, ◌≤◌, length, get_or, Option, option_map, Some, None, slice_get, ap, ◌∙◌, arith, ◌⊎◌, inl, inr, ⊎_elim}
+use Rattle.std.proofs.Common.{◌≡◌, ℕ, ◌<◌, ◌≤◌, ◌==◌, length, get_or, Option, option_map, Some, None, slice_get, refl, ap, ◌∙◌, arith, ◌⊎◌, inl, inr, ⊎_elim}
 use Rattle.std.specs.Option.{option_map_or}
 use Rattle.std.proofs.lemmas.Bool.{cases_lt}
 use Rattle.std.proofs.lemmas.Option.{slice_get_cases}
 use Rattle.netlist.specs.declared.part.Part.{Part}
 use Rattle.netlist.specs.declared.part.Part.TheVariants.{Input, Gate, Flop}
+use Rattle.netlist.specs.Part.{is_gate}
 use Rattle.design.specs.Circuit.{Net, Circuit}
 use Rattle.design.specs.Flow.{rank, rank_at, IsGate}
 use Rattle.design.proofs.WellFormed.{net_with}
@@ -39,6 +40,11 @@ pub rank_is : (circuit : Circuit) (net : ℕ) (part : Part) → option_map (λ (
 rank_is circuit net part part_is =
     let found = net_with (λ (n : Net). n.part) (slice_get circuit net) part part_is in
     ap rank_of found.1 ∙ ap rank found.2
+
+pub gate_by_rank : (part : Part) → is_gate part ≡ (rank part == 1)
+gate_by_rank Input = refl
+gate_by_rank (Gate kind) = refl
+gate_by_rank Flop = refl
 
 pub gate_within : (circuit : Circuit) (net : ℕ) → IsGate circuit net → net < length circuit
 gate_within circuit net gate = ⊎_elim

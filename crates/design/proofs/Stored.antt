@@ -5,11 +5,11 @@ use Rattle.std.proofs.lemmas.List.{length-map}
 use Rattle.std.proofs.lemmas.List.Sums.{sum_by-cons}
 use Rattle.std.proofs.lemmas.Simd.{map-map}
 use Rattle.logic3.specs.declared.change.Change.{Change}
-use Rattle.netlist.specs.Netlist.{NetView, NetlistView}
+use Rattle.netlist.specs.Netlist.{NetView, NetlistView, all_pins}
 use Rattle.timing_text.specs.declared.timing.Timing.{Timing}
 use Rattle.design.specs.Circuit.{Net, Circuit, pin_count}
 use Rattle.design.specs.Design.{DesignView, IsDesign, untimed}
-use Rattle.design.specs.Joined.{design_view, starts_from, joined_pins, IsJoined}
+use Rattle.design.specs.Joined.{design_view, starts_from, IsJoined}
 use Rattle.design.specs.Pins.{sources_of, all_fed, first_pin}
 use Rattle.design.proofs.FedPins.{length-all_fed}
 use Rattle.design.proofs.Joined.{get_part, first_part, second_part, timings-timed_nets, stimuli-timed_nets}
@@ -41,9 +41,9 @@ pins_by_net : (design : DesignView) → IsDesign design →
 pins_by_net design ok =
     ap (map (λ (net : NetView). net.pins)) (sym ok.same_nets) ∙ map-map (λ (net : NetView). net.pins) untimed design.circuit
 
-joined_pins-untimed : (circuit : Circuit) → joined_pins (map untimed circuit) ≡ sources_of circuit
-joined_pins-untimed [] = refl
-joined_pins-untimed (net ∷ circuit) = ap (λ pins. net.pins ++ pins) (joined_pins-untimed circuit)
+all_pins-untimed : (circuit : Circuit) → all_pins (map untimed circuit) ≡ sources_of circuit
+all_pins-untimed [] = refl
+all_pins-untimed (net ∷ circuit) = ap (λ pins. net.pins ++ pins) (all_pins-untimed circuit)
 
 -- ---- of the design that parts make
 
@@ -67,8 +67,8 @@ module _ {netlist : NetlistView} {first_pins sources : List ℕ} {fed : List (Li
 
   pub sources_are : sources ≡ sources_of design.circuit
   sources_are =
-      joined.feeds ∙ ap (λ (d : DesignView). joined_pins d.netlist.nets) view
-      ∙ ap joined_pins (sym well_formed.same_nets) ∙ joined_pins-untimed design.circuit
+      joined.feeds ∙ ap (λ (d : DesignView). all_pins d.netlist.nets) view
+      ∙ ap all_pins (sym well_formed.same_nets) ∙ all_pins-untimed design.circuit
 
   pub fed_are : fed ≡ all_fed (length design.circuit) (sources_of design.circuit)
   fed_are =

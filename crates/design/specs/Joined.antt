@@ -1,8 +1,8 @@
 -- The design that its stored parts make.
-use Rattle.std.specs.Prelude.{◌≡◌, ℕ, ◌+◌, List, [], ◌∷◌, ◌++◌, length, map}
+use Rattle.std.specs.Prelude.{◌≡◌, ℕ, ◌+◌, List, [], ◌∷◌, length, map}
 use Rattle.std.specs.List.{zip}
 use Rattle.logic3.specs.declared.change.Change.{Change}
-use Rattle.netlist.specs.Netlist.{NetView, NetlistView}
+use Rattle.netlist.specs.Netlist.{NetView, NetlistView, all_pins}
 use Rattle.timing_text.specs.declared.timing.Timing.{Timing}
 use Rattle.design.specs.Circuit.{Net, Circuit}
 use Rattle.design.specs.Design.{DesignView, IsDesign}
@@ -33,15 +33,10 @@ starts_from pin (pins ∷ nets) = pin ∷ starts_from (pin + length pins) nets
 abbrev pub first_pins_of : NetlistView → List ℕ
 first_pins_of netlist = starts_from 0 (map (λ (net : NetView). net.pins) netlist.nets)
 
--- the nets at the pins of these nets, one net after another
-abbrev pub joined_pins : List NetView → List ℕ
-joined_pins [] = []
-joined_pins (net ∷ nets) = net.pins ++ joined_pins nets
-
 -- parts that make a design, with a timing, stimuli, a first pin and the pins that it feeds for each net, and a source for each pin
 pub record IsJoined (netlist : NetlistView) (first_pins sources : List ℕ) (fed : List (List ℕ)) (timings : List (Timing × List ℕ)) (stimuli : List (List Change)) : Type 0 where
   pub starts : first_pins ≡ first_pins_of netlist
-  pub feeds : sources ≡ joined_pins netlist.nets
+  pub feeds : sources ≡ all_pins netlist.nets
   pub fan_out : fed ≡ all_fed (length netlist.nets) sources
   pub some_timing : length timings ≡ length netlist.nets
   pub some_stimuli : length stimuli ≡ length netlist.nets

@@ -70,13 +70,6 @@ fn rank(part: Part) -> u8
     }
 }
 
-/// Whether a part is a gate.
-pub(crate) fn is_gate(part: Part) -> bool
-    ensures { result ≡ (rank part == 1) }
-{
-    matches!(part, Part::Gate(_))
-}
-
 /// The gates, in the order in which a walk leaves them.
 fn gates_in_order(alloc: Global, design: &Design) -> Result<Vec<u32>, AllocError>
     ensures { IfOk result (λ gates. IsGateOrder design.now.circuit gates.items) }
@@ -102,7 +95,7 @@ fn other_nets(alloc: Global, design: &Design) -> Result<Vec<bool>, AllocError>
 {
     let mut others = Vec::new(alloc);
     for net in 0..design.nets() {
-        others.push(!is_gate(design.part(net)))?;
+        others.push(!design.part(net).is_gate())?;
     }
     Ok(others)
 }

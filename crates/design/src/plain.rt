@@ -138,8 +138,11 @@ fn gate_value(
     Ok(gate(kind, values))
 }
 
-/// Fills the buffer with what the pins show at a tick.
-fn read_pins(
+/// Fills a buffer with what pins show at a tick.
+///
+/// # Errors
+/// An `AllocError` where a growth was refused; nothing is said of the buffer then.
+pub fn read_pins(
     pins: &[u32],
     wires: &[u32],
     waves: &[Waveform],
@@ -175,7 +178,7 @@ fn sampled_value(
 }
 
 /// What a pin shows at a tick: its source's value, earlier by the delay of its wire, and X before.
-fn pin_value(pin: u32, wire: u32, waves: &[Waveform], tick: u64) -> Value
+pub fn pin_value(pin: u32, wire: u32, waves: &[Waveform], tick: u64) -> Value
     requires { pin < length waves.now }
     ensures { result ≡ later wire (signals_in waves.now pin) tick }
 {
@@ -187,7 +190,7 @@ fn pin_value(pin: u32, wire: u32, waves: &[Waveform], tick: u64) -> Value
 
 /// What the waveform of a net shows at a tick.
 #[tactic(auto, using(crate::proofs::Ticks::signals_in_at))]
-fn shown(waves: &[Waveform], net: u32, tick: u64) -> Value
+pub fn shown(waves: &[Waveform], net: u32, tick: u64) -> Value
     requires { net < length waves.now }
     ensures { result ≡ signals_in waves.now net tick }
 {

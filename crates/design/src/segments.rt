@@ -4,7 +4,6 @@ ghost use Rattle.design.specs.Flow.{IsGate, Feeds};
 ghost use Rattle.design.specs.Segments.{past_of, IsAhead, IsCutUp, IsLoop, IsPast, IsStraight};
 
 use crate::design::Design;
-use crate::order::is_gate;
 use std::alloc::{AllocError, Global};
 
 /// A segment of an order of nets: it begins where the one before it ends.
@@ -72,6 +71,7 @@ fn gates_ahead(alloc: Global, design: &Design, order: &[u32]) -> Result<Vec<usiz
 }
 
 /// The greatest of what is told of the gates at the pins of a gate; 0 where there is none.
+#[tactic(auto, using(crate::proofs::Ranks::gate_by_rank))]
 fn past_gates(design: &Design, net: u32, past: &[usize]) -> usize
     requires net { net < length design.now.circuit }
     requires size { length past.now ≡ length design.now.circuit }
@@ -81,13 +81,13 @@ fn past_gates(design: &Design, net: u32, past: &[usize]) -> usize
         × (past_of past.now source ≡ result) }
 {
     let _ = design.nets();
-    if !is_gate(design.part(net)) {
+    if !design.part(net).is_gate() {
         return 0;
     }
     let mut last = 0;
     let pins = design.pins_of(net);
     for pin in pins {
-        if is_gate(design.part(*pin)) && past[*pin as usize] > last {
+        if design.part(*pin).is_gate() && past[*pin as usize] > last {
             last = past[*pin as usize];
         }
     }

@@ -6,7 +6,8 @@ use Rattle.std.proofs.lemmas.List.Elements.{All-cons, All-from_get_or, All-head,
 use Rattle.netlist.specs.Name.{IsName}
 use Rattle.netlist.specs.Netlist.{IsNetlist, NetView, NetlistView, net_at, net_named}
 use Rattle.netlist.proofs.CallerLemmas.{All-from_no_position, AllPairs-tail, HasDistinctNames, bytes_eq-other, bytes_eq-same, names-differ, net_at-named, no_net}
-use Rattle.timing_text.specs.Words.{find_net, is_input}
+use Rattle.netlist.specs.Part.{is_input}
+use Rattle.timing_text.specs.Words.{find_net}
 use Rattle.drawn_stimuli.specs.Inputs.{DriveView, InputView, drive_named, inputs_from, inputs_of, is_drawn, source_of}
 
 -- no two inputs have one name

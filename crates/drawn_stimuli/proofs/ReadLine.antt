@@ -20,7 +20,8 @@ use Rattle.netlist.specs.Netlist.{NetView, NetlistView}
 use Rattle.timing_text.specs.declared.fault.StimulusFault.TheVariants.{BadLine}
 use Rattle.timing_text.specs.Ranges.{most_ticks}
 use Rattle.timing_text.specs.Stimuli.{NamedChange, StimulusLine, stimulus_at, stimulus_in, stimulus_of_words, stimulus_or_fault}
-use Rattle.timing_text.specs.Words.{find_net, is_input, value_of_word}
+use Rattle.netlist.specs.Part.{is_input}
+use Rattle.timing_text.specs.Words.{find_net, value_of_word}
 use Rattle.logic3.specs.Value.{value_text}
 use Rattle.drawn_stimuli.specs.StimulusText.{change_line}
 

@@ -3,7 +3,8 @@ use Rattle.std.specs.Prelude.{ℕ, ◌+◌, ◌<◌, ◌==◌, nat_lt, not, Bool
 use Rattle.std.specs.List.{fold}
 use Rattle.std.specs.Option.{is_some, option_map_or, option_or}
 use Rattle.netlist.specs.Netlist.{NetView, NetlistView, net_at}
-use Rattle.timing_text.specs.Words.{find_net, is_input}
+use Rattle.netlist.specs.Part.{is_input}
+use Rattle.timing_text.specs.Words.{find_net}
 use Rattle.drawn_stimuli.specs.declared.drive.Drive.{Drive}
 use Rattle.drawn_stimuli.specs.declared.drive.Drive.TheVariants.{Clock, Hold, Pulse}
 use Rattle.drawn_stimuli.specs.declared.drive.Driven.{Driven}

@@ -3,13 +3,12 @@ ghost use Rattle.std.specs.Prelude.{◌≡◌, ◌≢◌, ◌<◌, ◌≤◌, Li
 ghost use Rattle.std.specs.Option.{option_map_or};
 ghost use Rattle.std.specs.Result.{result_map_both};
 ghost use Rattle.netlist.specs.Netlist.{net_named, most_nets};
-ghost use Rattle.timing_text.specs.Words.{is_input};
 ghost use Rattle.drawn_stimuli.specs.Signals.{IsSource};
 ghost use Rattle.drawn_stimuli.specs.Inputs.{DriveView, IsDrive, IsInputNet, drives_of_nets, fault_behind, first_fault, form_fault, inputs_of, is_drawn, names_input, seen_drive, seen_input, source_of};
 
 use crate::drive::{Drive, Driven};
 use crate::fault::DriveFault;
-use netlist::{Netlist, Part};
+use netlist::Netlist;
 use std::alloc::{AllocError, Global};
 
 /// Where the values of an input come from.
@@ -28,20 +27,13 @@ pub(crate) struct InputNet {
     pub source: Source,
 }
 
-/// Whether the part is an input.
-fn is_input(part: Part) -> bool
-    ensures { result ≡ is_input part }
-{
-    matches!(part, Part::Input)
-}
-
 /// The number of the input of this name.
 fn input_named(netlist: &Netlist, name: &[u8]) -> Option<u32>
     ensures { MatchOption result (names_input netlist.now name.now ≡ false)
         (λ net. (net_named netlist.now name.now ≡ Some net) × (names_input netlist.now name.now ≡ true)) }
 {
     let net = netlist.find(name)?;
-    if is_input(netlist.part(net)) {
+    if netlist.part(net).is_input() {
         Some(net)
     } else {
         None
@@ -156,7 +148,7 @@ pub(crate) fn inputs_of(
     let mut inputs = Vec::new(alloc);
     let mut drawn = 0;
     for net in 0..netlist.nets() {
-        if !is_input(netlist.part(net)) {
+        if !netlist.part(net).is_input() {
             continue;
         }
         let source = source_of(drives[net as usize], drawn);

@@ -9,7 +9,7 @@ ghost use Rattle.logic3.specs.Wave.{changes_between, value_after};
 ghost use Rattle.netlist.specs.Netlist.{IsNetlist, NetView, NetlistView};
 ghost use Rattle.timing_text.specs.Ranges.{most_ticks};
 ghost use Rattle.timing_text.specs.Stimuli.{stimuli_of};
-ghost use Rattle.timing_text.specs.Words.{is_input};
+ghost use Rattle.netlist.specs.Part.{is_input};
 ghost use Rattle.drawn_stimuli.specs.declared.drive.Draws.{Draws};
 ghost use Rattle.drawn_stimuli.specs.Inputs.{DriveView, InputView, drive_named, first_fault, inputs_of};
 ghost use Rattle.drawn_stimuli.specs.Signals.{word_after};

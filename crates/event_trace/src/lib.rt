@@ -4,7 +4,6 @@
 mod events;
 pub mod laws;
 mod lines;
-mod output;
 mod rounds;
 mod spans;
 mod tracing;

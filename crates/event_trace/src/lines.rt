@@ -1,23 +1,13 @@
 //! The lines of a trace, as text.
 ghost use Rattle.std.specs.Prelude.{◌≡◌, ◌+◌, ◌++◌, flat_map, OnOk};
-ghost use Rattle.std.specs.Fmt.{decimal};
 ghost use Rattle.cmb_channels.specs.declared.message.Message.TheVariants.{Change as Changes};
 ghost use Rattle.event_trace.specs.Lines.{spaced_text, messages_text, advance_text, deliver_text, round_text, counts_line};
 ghost use Rattle.event_trace.specs.Told.{told_by, told_to};
 
 use cmb_kernel::Counts;
-use itoa::Buffer;
 use logic3::Change;
 use std::alloc::AllocError;
-
-fn push_numbered(text: &mut Vec<u8>, before: &[u8], number: u64) -> Result<(), AllocError>
-    ensures { OnOk result (text.new.items ≡ text.old.items ++ (before.now ++ decimal number)) }
-{
-    let mut buffer = Buffer::new();
-    text.extend_from_slice(before)?;
-    text.extend_from_slice(buffer.format(number).as_bytes())?;
-    Ok(())
-}
+use vcd_dump::push_numbered;
 
 fn push_change(text: &mut Vec<u8>, change: Change) -> Result<(), AllocError>
     ensures { OnOk result (text.new.items ≡ text.old.items ++ spaced_text (Changes change)) }

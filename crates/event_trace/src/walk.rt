@@ -9,11 +9,10 @@ ghost use Rattle.event_trace.specs.Lines.{lines_text};
 ghost use Rattle.event_trace.specs.Trace.{lines_of};
 
 use crate::events::{TracedKernel, push_event};
-use crate::output::send_long;
 use cmb_events::Event;
 use design::Design;
 use std::io::Write;
-use vcd_dump::DumpFault;
+use vcd_dump::{DumpFault, send_long};
 
 /// Applies some events, one after another, and writes their lines behind the text that waits.
 pub fn walk<W: Write>(

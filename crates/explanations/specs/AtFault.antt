@@ -21,8 +21,8 @@ is_gap byte = is_white byte || list_any (λ mark. mark == byte) (codes "(),=")
 abbrev pub names_in : List ℕ → List (List ℕ)
 names_in code = filter (λ name. not (is_empty name)) (slice_split is_gap code)
 
-abbrev pub name_at : ℕ → List ℕ → Option (List ℕ)
-name_at place code = slice_get (names_in code) place
+abbrev pub nth_name : ℕ → List ℕ → Option (List ℕ)
+nth_name place code = slice_get (names_in code) place
 
 -- ---- the nets that a .bench line defines and uses
 
@@ -35,13 +35,13 @@ abbrev pub is_input_word : List ℕ → Bool
 is_input_word word = str_eq_ignore_ascii_case word (codes "INPUT")
 
 abbrev pub begins_with_input : List ℕ → Bool
-begins_with_input code = option_map_or is_input_word (name_at 0 code) false
+begins_with_input code = option_map_or is_input_word (nth_name 0 code) false
 
 -- the net that the line defines
 abbrev pub defined_by : List ℕ → Option (List ℕ)
 defined_by code =
-    if is_assignment code then name_at 0 code
-    else if begins_with_input code then name_at 1 code
+    if is_assignment code then nth_name 0 code
+    else if begins_with_input code then nth_name 1 code
     else None
 
 -- the nets that it uses: the pins of a gate, or an output
@@ -141,7 +141,7 @@ is_long name = nat_lt 255 (length name)
 -- the first net that is: the one that an assignment defines, or else one that the line uses
 abbrev pub long_net : List ℕ → Option (List ℕ)
 long_net code =
-    if is_assignment code && is_long (unwrap_or (name_at 0 code) []) then name_at 0 code
+    if is_assignment code && is_long (unwrap_or (nth_name 0 code) []) then nth_name 0 code
     else find is_long (used_by code)
 
 abbrev pub is_unplain : List ℕ → Bool
@@ -150,7 +150,7 @@ is_unplain word = not (is_plain word)
 -- of faults of .bench lines
 abbrev pub bench_word : List ℕ → List ℕ → Option (List ℕ)
 bench_word name code =
-    if bytes_eq name (codes "UnknownGate") then name_at 1 code
+    if bytes_eq name (codes "UnknownGate") then nth_name 1 code
     else if bytes_eq name (codes "NameTooLong") then long_net code
     else if bytes_eq name (codes "BadByte") then find is_unplain (words_of code)
     else None

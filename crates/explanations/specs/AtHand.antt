@@ -11,18 +11,18 @@ use Rattle.explanations.specs.Explained.{is_called, meaning_line, title_of, want
 -- ---- what it means
 
 -- subjects by number
-abbrev pub number_of : Subject → ℕ
-number_of Bench = 0
-number_of Delays = 1
-number_of Stimuli = 2
-number_of Schedule = 3
-number_of Deck = 4
-number_of Settings = 5
-number_of Columns = 6
-number_of Drives = 7
-number_of Ticks = 8
-number_of Names = 9
-number_of Program = 10
+abbrev pub subject_number : Subject → ℕ
+subject_number Bench = 0
+subject_number Delays = 1
+subject_number Stimuli = 2
+subject_number Schedule = 3
+subject_number Deck = 4
+subject_number Settings = 5
+subject_number Columns = 6
+subject_number Drives = 7
+subject_number Ticks = 8
+subject_number Names = 9
+subject_number Program = 10
 
 abbrev pub hint_of : Subject → Explanation → List ℕ
 hint_of subject one = meaning_line (title_of subject) one ++ wanted_line one
@@ -34,7 +34,7 @@ hint_if_called subject name one = (if is_called name one then hint_of subject on
 -- in the table of its subject
 abbrev pub hints_in : Subject → List ℕ → Table → List ℕ
 hints_in subject name table =
-    (if number_of table.subject == number_of subject then flat_map (hint_if_called subject name) table.explanations.now else [])
+    (if subject_number table.subject == subject_number subject then flat_map (hint_if_called subject name) table.explanations.now else [])
 
 -- what the system says of a read or a write that failed, if it says something
 abbrev pub reason_line : Option (List ℕ) → List ℕ

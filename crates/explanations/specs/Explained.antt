@@ -23,11 +23,11 @@ title_of Names = codes "nets asked for by name"
 title_of Program = codes "reading and writing"
 
 -- the circuit that its examples are for
-abbrev pub circuit_of : Subject → List ℕ
-circuit_of Delays = codes " for INPUT(a), y = NAND(a, q), q = DFF(y)"
-circuit_of Stimuli = codes " for INPUT(a), y = NAND(a, q), q = DFF(y)"
-circuit_of Schedule = codes " for INPUT(a), y = NAND(a, q), q = DFF(y)"
-circuit_of other = []
+abbrev pub example_circuit : Subject → List ℕ
+example_circuit Delays = codes " for INPUT(a), y = NAND(a, q), q = DFF(y)"
+example_circuit Stimuli = codes " for INPUT(a), y = NAND(a, q), q = DFF(y)"
+example_circuit Schedule = codes " for INPUT(a), y = NAND(a, q), q = DFF(y)"
+example_circuit other = []
 
 -- an example, if there is one: the faulty text with its line, and the text mended
 abbrev pub example_line : List ℕ → ℕ → List ℕ
@@ -50,7 +50,7 @@ wanted_line one = codes "want " ++ one.wanted.now ++ codes "\n"
 -- all that is told of a fault of a subject
 abbrev pub explanation_of : Subject → Explanation → List ℕ
 explanation_of subject one =
-    meaning_line (title_of subject) one ++ wanted_line one ++ example_text (circuit_of subject) one.example
+    meaning_line (title_of subject) one ++ wanted_line one ++ example_text (example_circuit subject) one.example
 
 -- without regard to case
 abbrev pub is_called : List ℕ → Explanation → Bool

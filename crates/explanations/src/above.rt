@@ -12,7 +12,7 @@ use text_lines::code_lines;
 pub(crate) fn line_above(subject: Subject, number: u64, topic: Topic<'_>, text: &[u8]) -> u64
     ensures { result ≡ line_above subject number (seen_topic topic.entry) text.now }
 {
-    number_of(
+    number_or_none(
         code_lines(text)
             .filter(|line| is_above(subject, number, &topic, line.0, line.1))
             .last(),
@@ -20,7 +20,7 @@ pub(crate) fn line_above(subject: Subject, number: u64, topic: Topic<'_>, text: 
 }
 
 /// The number of a line, and 0 for none.
-fn number_of(line: Option<(u64, &[u8])>) -> u64
+fn number_or_none(line: Option<(u64, &[u8])>) -> u64
     ensures { result ≡ number_or_none (option_map (λ line. (line.0, line.1.now)) line.entry) }
 {
     match line {

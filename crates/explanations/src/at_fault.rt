@@ -2,16 +2,16 @@
 ghost use Rattle.std.specs.Prelude.{◌≡◌, ◌++◌, option_map, None, OnOk};
 ghost use Rattle.std.specs.List.{find, last_or};
 ghost use Rattle.explanations.specs.AtFault.{at_fault, at_fault_in, bench_word, earlier_line, is_among, is_unplain, of_nets, of_repeats, of_thirds, too, topic_of, word_at_fault, word_told};
-ghost use Rattle.text_lines.specs.Text.{code_of, words_of};
+ghost use Rattle.text_lines.specs.Text.{words_of};
 
 use crate::above::line_above;
-use crate::bench_lines::{long_net, name_at};
+use crate::bench_lines::{long_net, nth_name};
 use crate::excerpt::{line_at, push_line, push_shown};
 use crate::subject::Subject;
 use crate::topic::{topic_of, word_at};
 use crate::undefined::undefined_in;
 use std::alloc::{AllocError, Global};
-use text_lines::{first_place, is_plain, words_of};
+use text_lines::{code_of, is_plain, words_of};
 
 /// Adds what is told of the word at fault, where the text is known and has the line of this number.
 pub(crate) fn push_at_fault(
@@ -32,13 +32,6 @@ pub(crate) fn push_at_fault(
         return Ok(());
     };
     push_at_fault_in(alloc, told, subject, name, number, text, code_of(line))
-}
-
-/// A line without its comment.
-fn code_of(line: &[u8]) -> &[u8]
-    ensures { result.now ≡ code_of line.now }
-{
-    &line[..first_place(line, b'#')]
 }
 
 /// Adds what is told of the word at fault in a line, without its comment, of a text.
@@ -135,7 +128,7 @@ fn bench_word<'a>(name: &str, code: &'a [u8]) -> Option<&'a [u8]>
     ensures { option_map (λ word. word.now) result ≡ bench_word name.now code.now }
 {
     if name == "UnknownGate" {
-        name_at(code, 1)
+        nth_name(code, 1)
     } else if name == "NameTooLong" {
         long_net(code)
     } else if name == "BadByte" {

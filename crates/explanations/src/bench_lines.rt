@@ -1,7 +1,7 @@
 //! The nets that a line of a .bench text defines and uses.
 ghost use Rattle.std.specs.Prelude.{◌≡◌, if◌then◌else◌, drop, map, option_map, IfOk};
 ghost use Rattle.std.specs.List.{find};
-ghost use Rattle.explanations.specs.AtFault.{begins_with_input, defined_by, is_assignment, is_gap, is_long, long_net, name_at, names_in, used_by};
+ghost use Rattle.explanations.specs.AtFault.{begins_with_input, defined_by, is_assignment, is_gap, is_long, long_net, names_in, nth_name, used_by};
 
 use std::alloc::{AllocError, Global};
 use text_lines::is_white;
@@ -14,9 +14,9 @@ pub(crate) fn defined_by(code: &[u8]) -> Option<&[u8]>
     ensures { option_map (λ net. net.now) result ≡ defined_by code.now }
 {
     if is_assignment(code) {
-        name_at(code, 0)
+        nth_name(code, 0)
     } else if begins_with_input(code) {
-        name_at(code, 1)
+        nth_name(code, 1)
     } else {
         None
     }
@@ -47,8 +47,8 @@ fn names_behind(alloc: Global, code: &[u8], count: usize) -> Result<Vec<&[u8]>, 
 }
 
 /// The name at a place of a line, from 0.
-pub(crate) fn name_at(code: &[u8], place: usize) -> Option<&[u8]>
-    ensures { option_map (λ name. name.now) result ≡ name_at place code.now }
+pub(crate) fn nth_name(code: &[u8], place: usize) -> Option<&[u8]>
+    ensures { option_map (λ name. name.now) result ≡ nth_name place code.now }
 {
     code.split(|byte| is_gap(*byte))
         .filter(|name| !name.is_empty())
@@ -59,7 +59,7 @@ pub(crate) fn name_at(code: &[u8], place: usize) -> Option<&[u8]>
 pub(crate) fn long_net(code: &[u8]) -> Option<&[u8]>
     ensures { option_map (λ net. net.now) result ≡ long_net code.now }
 {
-    let first = name_at(code, 0);
+    let first = nth_name(code, 0);
     if is_assignment(code) && is_long(first.unwrap_or(b"")) {
         first
     } else {
@@ -99,7 +99,7 @@ fn is_assignment(code: &[u8]) -> bool
 fn begins_with_input(code: &[u8]) -> bool
     ensures { result ≡ begins_with_input code.now }
 {
-    match name_at(code, 0) {
+    match nth_name(code, 0) {
         Some(word) => word.eq_ignore_ascii_case(b"INPUT"),
         None => false,
     }

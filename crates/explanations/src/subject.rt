@@ -1,7 +1,7 @@
 //! What a fault may be of.
 ghost use Rattle.std.specs.Prelude.{◌≡◌};
-ghost use Rattle.explanations.specs.AtHand.{number_of};
-ghost use Rattle.explanations.specs.Explained.{circuit_of, title_of};
+ghost use Rattle.explanations.specs.AtHand.{subject_number};
+ghost use Rattle.explanations.specs.Explained.{example_circuit, title_of};
 
 /// What a fault may be of: a text, or what the words of a command line ask for.
 #[derive(Clone, Copy, Debug, PartialEq, Eq)]
@@ -28,7 +28,7 @@ pub enum Subject {
 impl Subject {
     /// Subjects by number.
     pub(crate) fn number(self) -> u64
-        ensures { result ≡ number_of self }
+        ensures { result ≡ subject_number self }
     {
         match self {
             Subject::Bench => 0,
@@ -66,7 +66,7 @@ impl Subject {
 
     /// The circuit that its examples are for, where they are for one.
     pub fn circuit(self) -> &'static str
-        ensures { result.now ≡ circuit_of self }
+        ensures { result.now ≡ example_circuit self }
     {
         match self {
             Subject::Delays | Subject::Stimuli | Subject::Schedule =>

@@ -1,15 +1,10 @@
 -- The changes that come first of a list whose ticks rise are those before a tick.
 use Rattle.std.proofs.Common.{◌≡◌, ℕ, zero, suc, ◌+◌, ◌-◌, ◌<◌, ◌≤◌, nat_lt, List, length, get_or, subst, arith, ltb-false}
-use Rattle.std.specs.List.{prefix_len}
 use Rattle.std.proofs.lemmas.Bool.{le-ltb}
 use Rattle.std.proofs.lemmas.List.Sums.{prefix_len_passes, prefix_len_stops}
 use Rattle.logic3.specs.declared.change.Change.{Change}
 use Rattle.logic3.specs.Rising.{TicksRise}
-use Rattle.logic3.proofs.CallerLemmas.{IsCut}
-
--- how many changes come first that are before a tick
-abbrev pub early_by : ℕ → List Change → ℕ
-early_by tick changes = prefix_len (λ (change : Change). nat_lt change.tick tick) changes
+use Rattle.logic3.proofs.CallerLemmas.{IsCut, due_below}
 
 -- behind one that isn't before the tick none is
 late_from : (changes : List Change) (tick at more : ℕ) (d : Change) → TicksRise changes → at + more < length changes →
@@ -20,11 +15,11 @@ late_from changes tick at (suc more) d rise inside late =
     let later = rise at (at + suc more) d (omega arith) inside in omega (arith, later, late)
 
 -- they and no others are before the tick
-pub early_cut : (changes : List Change) (tick : ℕ) → TicksRise changes → IsCut tick changes (early_by tick changes)
+pub early_cut : (changes : List Change) (tick : ℕ) → TicksRise changes → IsCut tick changes (due_below tick changes)
 early_cut changes tick rise = (
   (λ k d low high. prefix_len_passes (λ (change : Change). nat_lt change.tick tick) changes k d high),
   λ k d low high.
-      let at = early_by tick changes in
+      let at = due_below tick changes in
       let stop : at < length changes = omega arith in
       let first = ltb-false _ _ (prefix_len_stops (λ (change : Change). nat_lt change.tick tick) changes d stop) in
       let same : at + (k - at) ≡ k = omega arith in

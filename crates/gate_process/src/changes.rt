@@ -1,4 +1,4 @@
-ghost use Rattle.std.specs.Prelude.{◌≡◌, ◌+◌, ◌≤◌, false, length, nat_le, nat_lt};
+ghost use Rattle.std.specs.Prelude.{◌≡◌, ◌+◌, ◌≤◌, false, length, nat_le};
 ghost use Rattle.std.specs.Option.{option_map_or};
 ghost use Rattle.std.specs.List.{prefix_len};
 ghost use Rattle.logic3.specs.declared.change.Change.{Change};
@@ -38,16 +38,5 @@ pub fn due_changes(changes: &[Change], wire: u32, tick: u64) -> usize
     changes
         .iter()
         .take_while(|change| seen_tick(**change, wire) <= tick)
-        .count()
-}
-
-/// How many changes come first that are before a tick. Takes a step for each of them.
-pub fn early_changes(changes: &[Change], tick: u64) -> usize
-    ensures count { result ≡ prefix_len (λ (change : Change). nat_lt change.tick tick) changes.now }
-    ensures within { result ≤ length changes.now }
-{
-    changes
-        .iter()
-        .take_while(|change| u64::from(change.tick) < tick)
         .count()
 }

@@ -8,10 +8,10 @@ ghost use Rattle.cmb_channels.specs.Kinds.{is_change};
 ghost use Rattle.gate_process.specs.Knowledge.{Knowledge, seen, seen_pins, as_known, nothing_known, told, kept_since, forgetting, keeping};
 ghost use Rattle.gate_process.specs.Step.{least_or, signals_of};
 
-use crate::changes::{early_changes, last_value};
+use crate::changes::last_value;
 use crate::cursor::{Cursor, FEW};
 use cmb_channels::Message;
-use logic3::{ChangeQueue, Summary, Value};
+use logic3::{ChangeQueue, Summary, Value, due_below};
 use smallvec::SmallVec;
 use std::alloc::{AllocError, Global};
 use std::marker::Model;
@@ -89,7 +89,7 @@ impl Received {
         ensures { self.new ≡ forgetting tick self.old }
     {
         let changes = self.changes.as_slice();
-        let early = early_changes(changes, tick);
+        let early = due_below(changes, tick);
         if early == 0 {
             return;
         }

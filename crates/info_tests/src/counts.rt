@@ -1,6 +1,6 @@
 //! How many nets a part drives, and at how many pins nets stand.
 use bench_text::read;
-use circuit_info::{all_pins, fan_ins, fan_outs, first_greatest, gate_count, part_count};
+use circuit_info::{fan_ins, fan_outs, first_greatest, gate_count, part_count};
 use logic3::GateKind;
 use netlist::{Netlist, Part};
 use std::alloc::Global;
@@ -77,7 +77,7 @@ fn fan_in_and_fan_out(rt: HostRuntime) -> Result<(), Fail> {
 #[test]
 fn pins_of_all_nets(rt: HostRuntime) -> Result<(), Fail> {
     let netlist = read(rt.alloc(), b"INPUT(a)\ny = XOR(z, a)\nz = DFF(y)")?;
-    let pins = all_pins(rt.alloc(), &netlist)?;
+    let pins = netlist.all_pins(rt.alloc())?;
     assert!(&rt; pins.as_slice() == [2, 0, 1].as_slice());
     Ok(())
 }

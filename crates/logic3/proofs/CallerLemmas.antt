@@ -1,5 +1,5 @@
 -- What crates above may cite of the lemmas of this one.
-pub use Rattle.logic3.proofs.Cuts.{IsCut, changes_below-between, cut_tail, without_below-wave_of}
+pub use Rattle.logic3.proofs.Cuts.{IsCut, changes_below-between, cut_tail, due_below, without_below-wave_of}
 pub use Rattle.logic3.proofs.Equal.{is_same-true, is_same_change-Decides}
 pub use Rattle.logic3.proofs.GateLemmas.{value_of_gate-Refines}
 pub use Rattle.logic3.proofs.Results.{OnErr_always}

@@ -1,7 +1,7 @@
 //! What a circuit is, in numbers, and the nets that no output hangs on.
 use crate::telling::Teller;
 use bench_text::read;
-use circuit_info::{Depths, all_pins, fan_ins, fan_outs, levels_of};
+use circuit_info::{Depths, fan_ins, fan_outs, levels_of};
 use fanin_cone::outside;
 use netlist::Netlist;
 use std::alloc::{AllocError, Global};
@@ -50,7 +50,7 @@ fn counts_of<W: Write>(
 
 fn counts<W: Write>(alloc: Global, teller: &mut Teller<W>, netlist: &Netlist) -> Option<()> {
     let pins = [1, 2, 3, 4, 5, 6, 6, 6, 7, 8, 9, 10];
-    lists(teller, "all_pins", all_pins(alloc, netlist), &pins)?;
+    lists(teller, "all_pins", netlist.all_pins(alloc), &pins)?;
     let ins = [1, 1, 1, 1, 1, 2, 0, 1, 1, 1, 1, 1];
     counts_of(teller, "fan_ins", fan_ins(alloc, netlist), &ins)?;
     let outs = [0, 1, 1, 1, 1, 1, 3, 1, 1, 1, 1, 0];

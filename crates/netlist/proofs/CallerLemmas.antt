@@ -1,4 +1,5 @@
 -- What crates above may cite of the lemmas of this one.
+pub use Rattle.netlist.proofs.AllPins.{pins_exist, pins_few}
 pub use Rattle.netlist.proofs.Among.{bytes_eq-other, bytes_eq-same, is_some-position, list_any-place, none_from_is_some}
 pub use Rattle.netlist.proofs.Distinct.{All-distinct, AllPairs-distinct, AllPairs-tail, distinct-same, distinct_push}
 pub use Rattle.netlist.proofs.Joined.{named_nets-wired}

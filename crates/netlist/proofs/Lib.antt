@@ -1,3 +1,4 @@
+mod AllPins
 mod Among
 pub mod CallerLemmas
 mod Distinct

@@ -1,5 +1,5 @@
 -- Netlists: nets with their names, what drives them and their pins by number.
-use Rattle.std.specs.Prelude.{◌≢◌, ℕ, ◌<◌, ◌≤◌, IsTrue, List, [], length, position, sum_by, Option, All, AllPairs, bytes_eq, slice_index_or}
+use Rattle.std.specs.Prelude.{◌≢◌, ℕ, ◌<◌, ◌≤◌, IsTrue, List, [], length, position, sum_by, Option, All, AllPairs, bytes_eq, flat_map, slice_index_or}
 use Rattle.netlist.specs.declared.part.Part.{Part}
 use Rattle.netlist.specs.declared.part.Part.TheVariants.{Input}
 use Rattle.netlist.specs.Name.{IsName}
@@ -22,6 +22,10 @@ most_nets = 100_000
 
 abbrev pub most_pins : ℕ
 most_pins = 1_000_000
+
+-- the pins of nets, net after net
+abbrev pub all_pins : List NetView → List ℕ
+all_pins nets = flat_map (λ (net : NetView). net.pins) nets
 
 abbrev pub pin_count : NetlistView → ℕ
 pin_count netlist = sum_by (λ (net : NetView). length net.pins) netlist.nets

@@ -1,6 +1,6 @@
 ghost use Rattle.std.specs.Prelude.{◌≡◌, ◌<◌, length, map, All, IfOk};
 ghost use Rattle.logic3.specs.Rising.{Rises};
-ghost use Rattle.netlist.specs.Netlist.{IsNetlist, net_at, net_named, name_at};
+ghost use Rattle.netlist.specs.Netlist.{IsNetlist, all_pins, net_at, net_named, name_at};
 ghost use Rattle.netlist.specs.Joined.{netlist_view};
 
 use crate::names::Names;
@@ -91,6 +91,20 @@ impl Netlist {
         ensures { result.now ≡ (net_at self.now net).pins }
     {
         self.nets[net as usize].pins.as_slice()
+    }
+
+    /// The numbers of the nets at the pins of all nets, net after net, in order.
+    ///
+    /// # Errors
+    /// An `AllocError` where a growth was refused.
+    pub fn all_pins(&self, alloc: Global) -> Result<Vec<u32>, AllocError>
+        ensures { IfOk result (λ pins. pins.items ≡ all_pins self.now.nets) }
+    {
+        let mut pins = Vec::new(alloc);
+        for net in 0..self.nets() {
+            pins.extend_from_slice(self.pins_of(net))?;
+        }
+        Ok(pins)
     }
 
     /// The numbers of the outputs, in order, each once.

@@ -1,3 +1,6 @@
+ghost use Rattle.std.specs.Prelude.{◌≡◌};
+ghost use Rattle.netlist.specs.Part.{is_flop, is_gate, is_input};
+
 use logic3::GateKind;
 
 /// What drives a net.
@@ -7,4 +10,27 @@ pub enum Part {
     Gate(GateKind),
     /// A flip-flop; its clock is implicit.
     Flop,
+}
+
+impl Part {
+    /// Whether it is an input.
+    pub fn is_input(self) -> bool
+        ensures { result ≡ is_input self }
+    {
+        matches!(self, Part::Input)
+    }
+
+    /// Whether it is a gate.
+    pub fn is_gate(self) -> bool
+        ensures { result ≡ is_gate self }
+    {
+        matches!(self, Part::Gate(_))
+    }
+
+    /// Whether it is a flip-flop.
+    pub fn is_flop(self) -> bool
+        ensures { result ≡ is_flop self }
+    {
+        matches!(self, Part::Flop)
+    }
 }

@@ -11,7 +11,8 @@ use Rattle.netlist.specs.declared.part.Part.TheVariants.{Input, Gate, Flop}
 use Rattle.design.specs.Circuit.{Net, Circuit}
 use Rattle.design.specs.Equations.{equation_at, value_of, value_within}
 use Rattle.run_notes.specs.declared.remark.Remark.TheVariants.{Undriven, Unknown}
-use Rattle.run_notes.specs.Remarks.{is_input, is_noted, is_undriven, is_unknown, net_is, noted_nets}
+use Rattle.netlist.specs.Part.{is_input}
+use Rattle.run_notes.specs.Remarks.{is_noted, is_undriven, is_unknown, net_is, noted_nets}
 use Rattle.run_notes.proofs.Listed.{Contains-listed, passes_listed}
 use Rattle.run_notes.proofs.Throughout.{is_unknown-at, is_unknown-from}
 

@@ -1,21 +1,16 @@
 -- What is noted of the nets of a circuit.
-use Rattle.std.specs.Prelude.{ℕ, ◌+◌, ◌==◌, ◌&&◌, nat_lt, not, Bool, true, false, List, length, filter, slice_get}
+use Rattle.std.specs.Prelude.{ℕ, ◌+◌, ◌==◌, ◌&&◌, nat_lt, not, Bool, false, List, length, filter, slice_get}
 use Rattle.std.specs.List.{list_all, list_any, range_with_len}
 use Rattle.std.specs.Option.{option_map_or}
 use Rattle.logic3.specs.declared.change.Change.{Change}
 use Rattle.logic3.specs.declared.value.Value.{Value}
 use Rattle.logic3.specs.declared.value.Value.TheVariants as value
 use Rattle.logic3.specs.Value.{is_same}
-use Rattle.netlist.specs.declared.part.Part.{Part}
-use Rattle.netlist.specs.declared.part.Part.TheVariants.{Input}
+use Rattle.netlist.specs.Part.{is_input}
 use Rattle.design.specs.Circuit.{Net, Circuit}
 use Rattle.design.specs.Equations.{value_of}
 use Rattle.run_notes.specs.declared.remark.Remark.{Remark}
 use Rattle.run_notes.specs.declared.remark.Remark.TheVariants.{Undriven, Late, Unknown}
-
-abbrev pub is_input : Part → Bool
-is_input Input = true
-is_input other = false
 
 -- an input that has no stimulus
 abbrev pub is_undriven : Net → Bool

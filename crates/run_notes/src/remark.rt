@@ -3,12 +3,11 @@ ghost use Rattle.std.specs.Prelude.{◌≡◌, ◌+◌, ◌<◌, length, nat_lt}
 ghost use Rattle.std.specs.List.{list_any};
 ghost use Rattle.logic3.specs.declared.change.Change.{Change};
 ghost use Rattle.design.specs.Equations.{value_of, waves_of};
-ghost use Rattle.run_notes.specs.Remarks.{is_input, is_late, is_noted, is_undriven, is_unknown, net_is};
+ghost use Rattle.run_notes.specs.Remarks.{is_late, is_noted, is_undriven, is_unknown, net_is};
 ghost use Rattle.run_notes.specs.Text.{words_of};
 
 use design::Design;
 use logic3::{Change, Waveform};
-use netlist::Part;
 use timing_text::Horizon;
 
 /// What is noted of some nets.
@@ -59,16 +58,7 @@ fn is_undriven(design: &Design, net: u32) -> bool
     requires { net < length design.now.circuit }
     ensures { result ≡ net_is is_undriven design.now.circuit net }
 {
-    is_input(design.part(net)) && design.stimuli(net).is_empty()
-}
-
-fn is_input(part: Part) -> bool
-    ensures { result ≡ is_input part }
-{
-    match part {
-        Part::Input => true,
-        Part::Gate(_) | Part::Flop => false,
-    }
+    design.part(net).is_input() && design.stimuli(net).is_empty()
 }
 
 /// Whether a net has a stimulus past the horizon.

@@ -103,6 +103,17 @@ abbrev pub IsComparisonOf : RunView → RunView → ComparedTicks → List ℕ �
 IsComparisonOf one other ticks name comparison =
     IsOfNets one other ticks name (net_named one.design.netlist name) (net_named other.design.netlist name) comparison
 
+-- two sources whose runs agree on the fan-in cone that the net of a name has in the first, and the net's comparison
+pub record AgreeingPair (name : List ℕ) (comparison : Comparison) : Type 0 where
+  pub first : SourceView
+  pub second : SourceView
+  pub names : List (List ℕ)
+  pub ticks : DiffTicks
+  pub pair : Pair
+  pub accepted : pair_of first second names ticks ≡ Ok pair
+  pub agrees : AgreesOnCone pair.first pair.second name
+  pub compared : IsComparisonOf pair.first pair.second pair.ticks name comparison
+
 -- a name, and how what its net shows compares
 pub record NetDiff : Type 0 where
   pub name : List ℕ

@@ -5,7 +5,7 @@ mod lines;
 mod numbers;
 mod words;
 
-pub use lines::{CodeLines, code_lines, first_place};
+pub use lines::{CodeLines, code_lines, code_of, first_place};
 pub use numbers::number;
 pub use words::{Words, has_words, is_plain, is_white, split_word, white_len, words_of};
 

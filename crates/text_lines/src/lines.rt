@@ -79,8 +79,8 @@ fn cut_line(text: &[u8]) -> (&[u8], Option<&[u8]>)
     }
 }
 
-/// A line without its comment.
-fn code_of(line: &[u8]) -> &[u8]
+/// A line without its comment, which begins at the first `#`.
+pub fn code_of(line: &[u8]) -> &[u8]
     ensures { result.now ≡ code_of line.now }
 {
     &line[..first_place(line, b'#')]

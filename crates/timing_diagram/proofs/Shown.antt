@@ -11,7 +11,7 @@ use Rattle.timing_diagram.specs.declared.mark.Mark.TheVariants.{Changing}
 use Rattle.timing_diagram.specs.Columns.{Ticks, column_count, first_tick, last_tick}
 use Rattle.timing_diagram.specs.Marks.{is_steady, has_edge, level_mark, mark_at}
 use Rattle.timing_diagram.specs.Drawing.{mark_byte, marks_text}
-use Rattle.timing_diagram.specs.Read.{value_of_byte, steady_value}
+use Rattle.timing_diagram.specs.Read.{value_of_character, steady_value}
 use Rattle.timing_diagram.proofs.Steady.{changes_there}
 
 at_range : (f : ℕ → ℕ) (from count k : ℕ) → k < count → slice_get (map f (range_with_len from count)) k ≡ Some (f (from + k))
@@ -22,7 +22,7 @@ at_range f from (suc count) (suc k) inside =
     at_range f (from + 1) count k (omega arith) ∙ ap (λ n. Some (f n)) along
 
 mark_back : (steady edge : Bool) (value : Value) →
-    value_of_byte (mark_byte (cond steady (level_mark edge value) Changing)) ≡ cond steady (Some value) None
+    value_of_character (mark_byte (cond steady (level_mark edge value) Changing)) ≡ cond steady (Some value) None
 mark_back false edge value = refl
 mark_back true true Zero = refl
 mark_back true false Zero = refl
@@ -32,11 +32,11 @@ mark_back true true Unknown = refl
 mark_back true false Unknown = refl
 
 pub column_back : (signal : ℕ → Value) (ticks : Ticks) (column : ℕ) → column < column_count ticks →
-    option_and_then value_of_byte (slice_get (marks_text signal ticks) column)
+    option_and_then value_of_character (slice_get (marks_text signal ticks) column)
     ≡ steady_value signal (first_tick ticks column) (last_tick ticks column)
 column_back signal ticks column inside =
     let here : 0 + column ≡ column = omega arith in
-    ap (option_and_then value_of_byte)
+    ap (option_and_then value_of_character)
     (at_range (λ k. mark_byte (mark_at signal ticks k)) 0 (column_count ticks) column inside ∙ ap (λ k. Some (mark_byte (mark_at signal ticks k))) here)
     ∙ mark_back (is_steady signal (first_tick ticks column) (last_tick ticks column)) (has_edge signal ticks column) (signal (first_tick ticks column))
 

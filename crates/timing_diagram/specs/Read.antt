@@ -5,8 +5,8 @@ use Rattle.logic3.specs.declared.value.Value.TheVariants.{Zero, One, Unknown}
 use Rattle.timing_diagram.specs.Marks.{is_steady}
 
 -- the value of a character, if it shows one
-abbrev pub value_of_byte : ℕ → Option Value
-value_of_byte byte =
+abbrev pub value_of_character : ℕ → Option Value
+value_of_character byte =
     if byte == 95 || byte == 92 then Some Zero
     else if byte == 45 || byte == 47 then Some One
     else if byte == 120 then Some Unknown

@@ -7,13 +7,13 @@ ghost use Rattle.timing_diagram.specs.Columns.{Ticks, column_count, first_tick, 
 ghost use Rattle.timing_diagram.specs.Drawing.{marks_text};
 ghost use Rattle.timing_diagram.specs.Marks.{is_steady};
 ghost use Rattle.timing_diagram.specs.Picture.{escaped};
-ghost use Rattle.timing_diagram.specs.Read.{value_of_byte, steady_value};
+ghost use Rattle.timing_diagram.specs.Read.{value_of_character, steady_value};
 
 /// The character of a column shows the value that the signal has at each tick of the column, and no
 /// value where the signal doesn't stay.
 pub fn columns_show_the_signal()
     ensures shown { (signal : ℕ → Value) (ticks : Ticks) (column : ℕ) → column < column_count ticks →
-        option_and_then value_of_byte (slice_get (marks_text signal ticks) column)
+        option_and_then value_of_character (slice_get (marks_text signal ticks) column)
         ≡ steady_value signal (first_tick ticks column) (last_tick ticks column) }
     ensures steady { (signal : ℕ → Value) (first last tick : ℕ) → is_steady signal first last ≡ true →
         first ≤ tick → tick ≤ last → signal tick ≡ signal first }

@@ -8,11 +8,11 @@ ghost use Rattle.timing_diagram.specs.Picture.{escaped_byte, escaped, mark_path,
 use crate::columns::Columns;
 use crate::mark::Mark;
 use crate::marks::mark_at;
-use crate::pieces::push_numbered;
 use crate::text::widest;
 use design::Design;
 use logic3::Waveform;
 use std::alloc::AllocError;
+use vcd_dump::push_numbered;
 
 fn push_escaped_byte(text: &mut Vec<u8>, byte: u8) -> Result<(), AllocError>
     ensures { OnOk result (text.new.items ≡ text.old.items ++ escaped_byte byte) }

@@ -15,7 +15,8 @@ use Rattle.text_lines.specs.Fold.{fold_text}
 use Rattle.netlist.specs.Netlist.{NetView, NetlistView, net_named, net_at}
 use Rattle.timing_text.specs.declared.fault.StimulusFault.TheVariants.{TooLong, BadLine, NotAnInput, TickTooLarge, BadValue, NotRising}
 use Rattle.timing_text.specs.Ranges.{most_ticks, HasStimuli}
-use Rattle.timing_text.specs.Words.{find_net, is_input, value_of_word}
+use Rattle.netlist.specs.Part.{is_input}
+use Rattle.timing_text.specs.Words.{find_net, value_of_word}
 use Rattle.timing_text.specs.Stimuli.{StimulusLine, NamedChange, named_change, stimulus_in, stimulus_at, stimulus_or_fault, with_stimulus, stimuli_after, stimuli_of, stimuli_named}
 use Rattle.netlist.proofs.CallerLemmas.{HasDistinctNames, no_net, net_at-named, names-differ}
 use Rattle.timing_text.proofs.Rising.{is_reached}

@@ -6,7 +6,8 @@ use Rattle.logic3.specs.declared.value.Value.{Value}
 use Rattle.netlist.specs.Netlist.{NetView, NetlistView, net_named, net_at}
 use Rattle.timing_text.specs.declared.fault.StimulusFault.TheVariants.{BadLine, NotAnInput, TickTooLarge, BadValue}
 use Rattle.timing_text.specs.Ranges.{most_ticks}
-use Rattle.timing_text.specs.Words.{find_net, is_input, value_of_word}
+use Rattle.netlist.specs.Part.{is_input}
+use Rattle.timing_text.specs.Words.{find_net, value_of_word}
 use Rattle.timing_text.specs.Stimuli.{StimulusLine, named_change, stimulus_in, stimulus_at, stimulus_or_fault}
 use Rattle.netlist.proofs.CallerLemmas.{net_at-named}
 

@@ -25,7 +25,8 @@ use Rattle.timing_text.specs.Options.{is_in_limits}
 use Rattle.timing_text.specs.Ranges.{most_delay, most_ticks, HasTiming, HasWires}
 use Rattle.timing_text.specs.TimingLines.{NetProperty, TimingLine, delay_said, line_in, line_of_first, property_at, property_of_part, property_or_fault}
 use Rattle.timing_text.specs.Timings.{IsFirstVersion, has_kind, net_lines, no_properties, properties_after, properties_in, properties_named, properties_of, timing_of_net, timing_of_part, unless_twice, version_of, wire_named, wires_of_net, with_property, with_wire}
-use Rattle.timing_text.specs.Words.{find_net, is_flop, is_input}
+use Rattle.netlist.specs.Part.{is_flop, is_input}
+use Rattle.timing_text.specs.Words.{find_net}
 use Rattle.text_lines.proofs.CallerLemmas.{bind-Ok, fold_lines-keeps, unless_too_long-Ok}
 use Rattle.timing_text.proofs.GivenProperties.{properties_named-more, wire_named-more}
 

@@ -10,7 +10,8 @@ use Rattle.netlist.specs.Netlist.{NetView, NetlistView}
 use Rattle.timing_text.specs.declared.fault.StimulusFault.{StimulusFault}
 use Rattle.timing_text.specs.declared.fault.StimulusFault.TheVariants.{TooLong, BadLine, UnknownNet, NotAnInput, TickTooLarge, BadValue, NotRising}
 use Rattle.timing_text.specs.Ranges.{most_ticks}
-use Rattle.timing_text.specs.Words.{find_net, is_input, value_of_word}
+use Rattle.netlist.specs.Part.{is_input}
+use Rattle.timing_text.specs.Words.{find_net, value_of_word}
 
 -- a line's tick, name and word for a value
 pub record StimulusLine : Type 0 where

@@ -14,7 +14,8 @@ use Rattle.timing_text.specs.declared.line.Version.{Version}
 use Rattle.timing_text.specs.declared.line.Version.TheVariants.{First, Second}
 use Rattle.timing_text.specs.Options.{is_in_limits}
 use Rattle.timing_text.specs.Ranges.{most_delay, most_ticks}
-use Rattle.timing_text.specs.Words.{find_net, is_flop, is_input, value_of_word}
+use Rattle.netlist.specs.Part.{is_flop, is_input}
+use Rattle.timing_text.specs.Words.{find_net, value_of_word}
 
 -- ---- its words
 

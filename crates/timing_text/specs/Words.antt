@@ -1,24 +1,12 @@
 -- What words of delay and stimulus texts mean.
-use Rattle.std.specs.Prelude.{◌||◌, ℕ, Bool, true, false, if◌then◌else◌, List, option_map, Option, None, Some, codes, bytes_eq}
+use Rattle.std.specs.Prelude.{◌||◌, ℕ, if◌then◌else◌, List, option_map, Option, None, Some, codes, bytes_eq}
 use Rattle.logic3.specs.declared.value.Value.{Value}
 use Rattle.logic3.specs.declared.value.Value.TheVariants.{Zero, One, Unknown}
-use Rattle.netlist.specs.declared.part.Part.{Part}
-use Rattle.netlist.specs.declared.part.Part.TheVariants.{Input, Gate, Flop}
 use Rattle.netlist.specs.Netlist.{NetView, NetlistView, net_named, net_at}
 
 -- the net of this name
 abbrev pub find_net : NetlistView → List ℕ → Option NetView
 find_net netlist name = option_map (net_at netlist) (net_named netlist name)
-
-abbrev pub is_input : Part → Bool
-is_input Input = true
-is_input (Gate kind) = false
-is_input Flop = false
-
-abbrev pub is_flop : Part → Bool
-is_flop Input = false
-is_flop (Gate kind) = false
-is_flop Flop = true
 
 -- the value that a word means
 abbrev pub value_of_word : List ℕ → Option Value

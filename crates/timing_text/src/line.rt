@@ -8,7 +8,7 @@ ghost use Rattle.timing_text.specs.Timings.{no_properties, with_property};
 
 use crate::fault::DelayFault;
 use crate::limits::{MOST_DELAY, MOST_TICKS};
-use crate::words::{is_flop, is_input, value_of};
+use crate::words::value_of;
 use logic3::Value;
 use netlist::Part;
 use text_lines::{is_plain, number, words_of};
@@ -117,7 +117,7 @@ pub(crate) fn property_of_part(
 {
     match spelled {
         Spelled::Delay(ticks) => {
-            if is_input(part) {
+            if part.is_input() {
                 return Err(DelayFault::IsInput { line });
             }
             if ticks < 1 || ticks > MOST_DELAY {
@@ -126,7 +126,7 @@ pub(crate) fn property_of_part(
             Ok(Property::Delay(ticks))
         }
         Spelled::Clock(clock) => {
-            if !is_flop(part) {
+            if !part.is_flop() {
                 return Err(DelayFault::NotAFlop { line });
             }
             if clock.period < 1 || clock.period > MOST_TICKS {
@@ -138,7 +138,7 @@ pub(crate) fn property_of_part(
             Ok(Property::Clock(clock))
         }
         Spelled::Initial(value) => {
-            if !is_flop(part) {
+            if !part.is_flop() {
                 return Err(DelayFault::NotAFlop { line });
             }
             let Some(value) = value else {

@@ -9,7 +9,7 @@ ghost use Rattle.timing_text.specs.Stimuli.{StimulusLine, net_stimuli, stimuli_o
 
 use crate::fault::StimulusFault;
 use crate::limits::MOST_TICKS;
-use crate::words::{is_input, value_of};
+use crate::words::value_of;
 use logic3::Change;
 use netlist::Netlist;
 use std::alloc::{AllocError, Global};
@@ -85,7 +85,7 @@ fn net_change(netlist: &Netlist, line: u64, code: &[u8]) -> Result<NetChange, St
     let Some(net) = netlist.find(name) else {
         return Err(StimulusFault::UnknownNet { line });
     };
-    if !is_input(netlist.part(net)) {
+    if !netlist.part(net).is_input() {
         return Err(StimulusFault::NotAnInput { line });
     }
     if tick > MOST_TICKS {

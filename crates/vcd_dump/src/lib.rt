@@ -16,5 +16,7 @@ mod writer;
 pub use bytes::write_all_bytes;
 pub use dumper::dump;
 pub use fault::DumpFault;
+pub use lines::push_numbered;
+pub use pieces::send_long;
 pub use stream::Stream;
 pub use unit::TimeUnit;

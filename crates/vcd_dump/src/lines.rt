@@ -1,4 +1,4 @@
-ghost use Rattle.std.specs.Prelude.{◌≡◌, ◌++◌, OnOk};
+ghost use Rattle.std.specs.Prelude.{◌≡◌, ◌++◌, decimal, OnOk};
 ghost use Rattle.vcd_dump.specs.Codes.{code_at};
 ghost use Rattle.vcd_dump.specs.Dump.{unit_text, heading, time_line, time_line_after, change_text, declaration_text};
 
@@ -22,13 +22,24 @@ pub fn unit_text(unit: TimeUnit) -> &'static [u8]
     }
 }
 
+/// Adds a text and a number in decimal.
+///
+/// # Errors
+/// An `AllocError` where a growth was refused.
+pub fn push_numbered(text: &mut Vec<u8>, before: &[u8], number: u64) -> Result<(), AllocError>
+    ensures { OnOk result (text.new.items ≡ text.old.items ++ (before.now ++ decimal number)) }
+{
+    let mut buffer = Buffer::new();
+    text.extend_from_slice(before)?;
+    text.extend_from_slice(buffer.format(number).as_bytes())?;
+    Ok(())
+}
+
 /// Adds the line of a time.
 pub fn push_time(line: &mut Vec<u8>, tick: u64) -> Result<(), AllocError>
     ensures { OnOk result (line.new.items ≡ line.old.items ++ time_line tick) }
 {
-    let mut buffer = Buffer::new();
-    line.push(b'#')?;
-    line.extend_from_slice(buffer.format(tick).as_bytes())?;
+    push_numbered(line, b"#", tick)?;
     line.push(b'\n')?;
     Ok(())
 }

@@ -1,6 +1,7 @@
-ghost use Rattle.std.specs.Prelude.{◌≡◌, ◌≢◌, [], OnOk, OnErr, IfErr};
+ghost use Rattle.std.specs.Prelude.{◌≡◌, [], OnOk, OnErr, IfErr};
 ghost use Rattle.std.specs.Io.KnownBytes.{Appends};
 ghost use Rattle.vcd_dump.specs.Bytes.{AppendsPrefix};
+ghost use Rattle.vcd_dump.specs.Faults.{IsFailedWrite};
 ghost use Rattle.vcd_dump.specs.Written.{GoesOut};
 
 use crate::bytes::write_all_bytes;
@@ -15,19 +16,23 @@ pub fn send<W: Write>(out: &mut W, text: &mut Vec<u8>) -> Result<(), DumpFault>
     ensures ok { OnOk result (Appends (W.contents out.old) (W.contents out.new) text.old.items) }
     ensures empty { OnOk result (text.new.items ≡ []) }
     ensures err { OnErr result (AppendsPrefix (W.contents out.old) (W.contents out.new) text.old.items) }
-    ensures fault { IfErr result (λ fault. fault ≢ DumpFault.Failed) }
+    ensures fault { IfErr result IsFailedWrite }
 {
     write_all_bytes(out, text.as_slice())?;
     text.clear();
     Ok(())
 }
 
-/// Writes the text that is waiting, where it is long.
+/// Writes the text that is waiting, where it is long, and none waits then; else all of it waits on.
+/// Takes no memory.
+///
+/// # Errors
+/// `Write` or `WroteNothing`; a first part of the text went out then.
 pub fn send_long<W: Write>(out: &mut W, text: &mut Vec<u8>) -> Result<(), DumpFault>
     ensures ok { OnOk result
         (GoesOut (W.contents out.old) (W.contents out.new) text.old.items text.new.items) }
     ensures err { OnErr result (AppendsPrefix (W.contents out.old) (W.contents out.new) text.old.items) }
-    ensures fault { IfErr result (λ fault. fault ≢ DumpFault.Failed) }
+    ensures fault { IfErr result IsFailedWrite }
 {
     if text.len() < PIECE {
         return Ok(());

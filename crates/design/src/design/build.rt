@@ -6,7 +6,7 @@ ghost use Rattle.timing_text.specs.Options.{options_of};
 ghost use Rattle.design.specs.Joined.{first_pins_of};
 
 use crate::design::Design;
-use crate::design::feeding::{fed_pins, pin_sources};
+use crate::design::feeding::fed_pins;
 use crate::fault::BuildFault;
 use netlist::Netlist;
 use std::alloc::{AllocError, Global};
@@ -41,7 +41,7 @@ impl Design {
         let timings = read_timings(alloc, &netlist, delays, default_delay, period)?;
         let stimuli = read_stimuli(alloc, &netlist, stimuli)?;
         let first_pins = first_pins(alloc, &netlist)?;
-        let sources = pin_sources(alloc, &netlist)?;
+        let sources = netlist.all_pins(alloc)?;
         let fed = fed_pins(alloc, netlist.nets(), sources.as_slice())?;
         Ok(Design {
             netlist,

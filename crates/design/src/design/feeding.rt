@@ -1,22 +1,9 @@
 //! The pins that nets feed.
 ghost use Rattle.std.specs.Prelude.{◌≡◌, ◌<◌, ◌≤◌, [], All, length, map, replicate, IfOk};
 ghost use Rattle.netlist.specs.Netlist.{most_pins};
-ghost use Rattle.design.specs.Joined.{joined_pins};
 ghost use Rattle.design.specs.Pins.{all_fed};
 
-use netlist::Netlist;
 use std::alloc::{AllocError, Global};
-
-/// The net that feeds each pin.
-pub(super) fn pin_sources(alloc: Global, netlist: &Netlist) -> Result<Vec<u32>, AllocError>
-    ensures { IfOk result (λ sources. sources.items ≡ joined_pins netlist.now.nets) }
-{
-    let mut sources = Vec::new(alloc);
-    for net in 0..netlist.nets() {
-        sources.extend_from_slice(netlist.pins_of(net))?;
-    }
-    Ok(sources)
-}
 
 /// The pins that each of so many nets feeds, in rising order, given the net that feeds each pin.
 pub(super) fn fed_pins(

@@ -6,7 +6,7 @@ ghost use Rattle.design.specs.PickedDesign.{picked_design, stimuli_in, timing_in
 
 use crate::design::Design;
 use crate::design::build::first_pins;
-use crate::design::feeding::{fed_pins, pin_sources};
+use crate::design::feeding::fed_pins;
 use logic3::Change;
 use smallvec::SmallVec;
 use std::alloc::{AllocError, Global};
@@ -30,7 +30,7 @@ impl Design {
     {
         let netlist = self.netlist.pick(alloc, keep, outputs)?;
         let first_pins = first_pins(alloc, &netlist)?;
-        let sources = pin_sources(alloc, &netlist)?;
+        let sources = netlist.all_pins(alloc)?;
         let fed = fed_pins(alloc, netlist.nets(), sources.as_slice())?;
         let timings = timings_of(alloc, self, keep)?;
         let stimuli = stimuli_of(alloc, self, keep)?;

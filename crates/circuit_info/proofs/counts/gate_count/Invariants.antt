@@ -1,6 +1,6 @@
 use Rattle.std.proofs.Common.{◌≡◌, count_by, take}
 use Rattle.netlist.specs.Netlist.{NetView}
-use Rattle.circuit_info.specs.Levels.{is_gate}
+use Rattle.netlist.specs.Part.{is_gate}
 use Rattle.circuit_info.proofs.counts.gate_count.Given as goal
 
 abbrev pub invariant-loop-net : goal.invariant-loop-net

@@ -3,7 +3,7 @@ use Rattle.std.proofs.lemmas.List.FromFn.{map-range_with_len_more}
 use Rattle.std.specs.List.{range_with_len}
 use Rattle.design.specs.Circuit.{Circuit}
 use Rattle.design.specs.Flow.{rank_at}
-use Rattle.design.proofs.Ranks.{rank_is}
+use Rattle.design.proofs.Ranks.{gate_by_rank, rank_is}
 use Rattle.design.proofs.order.other_nets.Goals as goal
 
 -- one more mark
@@ -16,5 +16,5 @@ others_more circuit net test others new here so_far pushed =
 pub loop-net-preserved : goal.loop-net-preserved
 loop-net-preserved c =
     let circuit = c.args.design.now.circuit in
-    let here = c.is_gate.ensures ∙ ap (λ rank. rank == 1) (sym (rank_is circuit c.loop-net.net c.part.result c.part.ensures)) in
+    let here = c.is_gate.ensures ∙ gate_by_rank c.part.result ∙ ap (λ rank. rank == 1) (sym (rank_is circuit c.loop-net.net c.part.result c.part.ensures)) in
     others_more circuit c.loop-net.net c.is_gate.result c.loop-net.others.items c.push.new.self.items here c.loop-net.invariant c.in_ok-push.ensures.items

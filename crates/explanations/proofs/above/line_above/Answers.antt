@@ -7,7 +7,7 @@ use Rattle.explanations.proofs.above.line_above.Goals as goal
 
 pub returns : goal.returns
 returns c =
-    c.number_of.ensures
+    c.number_or_none.ensures
     ∙ ap number_or_none (last_from_yields_List c.last.result c.last.ensures.ran
     (YieldsList-from_filter _ (is_above c.args.subject c.args.number (seen_topic c.args.topic))
     (YieldsList-at c.filter.ensures.source

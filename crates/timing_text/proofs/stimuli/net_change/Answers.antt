@@ -1,5 +1,5 @@
 use Rattle.std.proofs.Common.{ap, sym, ◌∙◌, arith}
-use Rattle.timing_text.specs.Words.{is_input}
+use Rattle.netlist.specs.Part.{is_input}
 use Rattle.timing_text.proofs.StimulusLines.{stimulus_or_fault-Ok}
 use Rattle.timing_text.proofs.stimuli.net_change.Goals as goal
 

@@ -3,7 +3,8 @@ use Rattle.std.proofs.lemmas.Bool.{cases_eq}
 use Rattle.netlist.specs.Netlist.{NetlistView}
 use Rattle.netlist.specs.Marks.{is_seen, KeepsSeen}
 use Rattle.netlist.proofs.CallerLemmas.{seen_now, seen_still}
-use Rattle.circuit_info.specs.Levels.{is_gate, is_gate_at}
+use Rattle.netlist.specs.Part.{is_gate}
+use Rattle.circuit_info.specs.Levels.{is_gate_at}
 use Rattle.circuit_info.specs.Climb.{IsClimb}
 use Rattle.circuit_info.proofs.Links.{AreJoined-one}
 use Rattle.circuit_info.proofs.Marks.{read_true, read_false}

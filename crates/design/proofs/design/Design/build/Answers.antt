@@ -1,8 +1,8 @@
 use Rattle.std.proofs.Common.{sym, ap, ◌∙◌, Err, length, map, arith}
 use Rattle.std.proofs.lemmas.Result.{err_from_is_err_and}
+use Rattle.netlist.proofs.CallerLemmas.{pins_exist, pins_few}
 use Rattle.timing_text.specs.Timings.{seen_timing}
 use Rattle.design.specs.Pins.{all_fed}
-use Rattle.design.proofs.Feeding.{pins_exist, pins_few}
 use Rattle.design.proofs.Built.{IsGiven, is_given, design_of-given, IsJoined-given, design_of-timing_fault, design_of-stimulus_fault}
 use Rattle.design.proofs.design.Design.build.Goals as goal
 use Rattle.design.proofs.design.Design.build.Goals.{In_ok-stimuli}

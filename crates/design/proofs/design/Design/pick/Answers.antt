@@ -1,9 +1,9 @@
 use Rattle.std.proofs.Common.{◌≡◌, length, map, All, Contains, sym, ap, subst, ◌∙◌, arith}
 use Rattle.netlist.specs.Netlist.{net_at}
 use Rattle.netlist.specs.Pick.{picked}
+use Rattle.netlist.proofs.CallerLemmas.{pins_exist, pins_few}
 use Rattle.design.specs.Design.{DesignView, IsDesign}
 use Rattle.design.specs.Pins.{all_fed}
-use Rattle.design.proofs.Feeding.{pins_exist, pins_few}
 use Rattle.design.proofs.Picked.{IsJoined-picked, design_view-picked, there}
 use Rattle.design.proofs.Stored.{well_formed}
 use Rattle.design.proofs.design.Design.pick.Goals as goal
