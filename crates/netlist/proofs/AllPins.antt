@@ -1,5 +1,5 @@
 -- The pins of all nets are nets, and few.
-use Rattle.std.proofs.Common.{◌≡◌, ℕ, suc, ◌+◌, ◌<◌, ◌≤◌, List, [], ◌∷◌, length, All, arith}
+use Rattle.std.proofs.Common.{ℕ, suc, ◌<◌, ◌≤◌, List, [], ◌∷◌, length, All, arith}
 use Rattle.std.proofs.lemmas.List.Concat.{length-flat_map}
 use Rattle.std.proofs.lemmas.List.Elements.{All-nil, All-append}
 use Rattle.netlist.specs.Netlist.{NetView, NetlistView, IsNetlist, all_pins}

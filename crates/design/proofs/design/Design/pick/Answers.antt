@@ -7,7 +7,7 @@ use Rattle.design.specs.Pins.{all_fed}
 use Rattle.design.proofs.Picked.{IsJoined-picked, design_view-picked, there}
 use Rattle.design.proofs.Stored.{well_formed}
 use Rattle.design.proofs.design.Design.pick.Goals as goal
-use Rattle.design.proofs.design.Design.pick.Goals.{In_ok-netlist, In_ok-stimuli}
+use Rattle.design.proofs.design.Design.pick.Goals.{In_ok-netlist}
 
 formed : (c : In_ok-netlist) → IsDesign c.args.self.now
 formed c = well_formed c.self.invariant c.self.view_is
