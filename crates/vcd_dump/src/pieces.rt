@@ -1,4 +1,4 @@
-ghost use Rattle.std.specs.Prelude.{◌≡◌, [], OnOk, OnErr, IfErr};
+ghost use Rattle.std.specs.Prelude.{◌≡◌, ◌<◌, ◌≤◌, [], length, OnOk, OnErr, IfErr};
 ghost use Rattle.std.specs.Io.KnownBytes.{Appends};
 ghost use Rattle.vcd_dump.specs.Bytes.{AppendsPrefix};
 ghost use Rattle.vcd_dump.specs.Faults.{IsFailedWrite};
@@ -23,14 +23,16 @@ pub fn send<W: Write>(out: &mut W, text: &mut Vec<u8>) -> Result<(), DumpFault>
     Ok(())
 }
 
-/// Writes the text that is waiting, where it is long, and none waits then; else all of it waits on.
-/// Takes no memory.
+/// Writes the text that is waiting where it has 65,536 bytes or more, and none waits then; a shorter one
+/// waits on. Takes no memory.
 ///
 /// # Errors
 /// `Write` or `WroteNothing`; a first part of the text went out then.
 pub fn send_long<W: Write>(out: &mut W, text: &mut Vec<u8>) -> Result<(), DumpFault>
     ensures ok { OnOk result
         (GoesOut (W.contents out.old) (W.contents out.new) text.old.items text.new.items) }
+    ensures long { OnOk result (65_536 ≤ length text.old.items → text.new.items ≡ []) }
+    ensures short { OnOk result (length text.old.items < 65_536 → text.new.items ≡ text.old.items) }
     ensures err { OnErr result (AppendsPrefix (W.contents out.old) (W.contents out.new) text.old.items) }
     ensures fault { IfErr result IsFailedWrite }
 {
