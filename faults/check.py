@@ -3,9 +3,9 @@
 
 The probes of memory (crates/memory_probes) and each command of nullsim are run once for each request for
 memory that they make, without it; then nullsim is run over faulty streams and files, over texts that are
-cut off or changed at random, and over texts and circuits as large as they may be. Last come products
-of a multiplier, the commands and pictures of the pages, and the script that builds and starts the program. The last
-line is 'N passed, M failed', over programs, commands, streams, texts, products, pages and the script.
+cut off or changed at random, and over texts and circuits as large as they may be. Last come the answers in
+`cases/`, the examples of `explain`, products of a multiplier, the commands and pictures of the pages, and the script
+that builds and starts the program. The last line is 'N passed, M failed', over all of these.
 
     check.py [--random COUNT] [--seed FIRST]    how many circuits and decks are changed at random, and by which seeds
 """
@@ -16,6 +16,8 @@ import tempfile
 import time
 from typing import Callable
 
+import cases
+import explained
 import pages
 import products
 import refused
@@ -64,7 +66,8 @@ def checks(refuser: refused.Refuser, folder: str, seeds: range) -> list:
         found.append((f"{line_of(words)}, without memory", check))
     found += streams.cases(copy_for_all(program, folder), folder, deck())
     found += [*texts.cases(program, folder, seeds), *sizes.cases(program, folder)]
-    return [*found, *products.cases(program, folder), *pages.cases(program, folder), *script.cases(folder)]
+    found += [*cases.cases(program, folder), *explained.cases(program, folder), *products.cases(program, folder)]
+    return [*found, *pages.cases(program, folder), *script.cases(folder)]
 
 
 def fault_of(check: Callable[[], str | None]) -> str | None:

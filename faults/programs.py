@@ -20,44 +20,12 @@ class Ended(NamedTuple):
     err: bytes
 
 
-def crates_of(program: str) -> set[str]:
-    """The crates that a program is made of."""
-    lines = (ROOT / "crates.txt").read_text(encoding="utf-8").splitlines()
-    below = {name: libraries.split() for name, _, libraries in (line.partition(":") for line in lines)}
-    found, left = set(), [program]
-    while left:
-        name = left.pop()
-        if name in below and name not in found:
-            found.add(name)
-            left += below[name]
-    return found
-
-
-def newest_source(program: str) -> float:
-    """When the last source of a program was written."""
-    files = [ROOT / "crates.txt"]
-    for crate in crates_of(program):
-        for part in ("src", "specs", "proofs"):
-            files += (CRATES / crate / part).rglob("*.*")
-    return max(file.stat().st_mtime for file in files)
-
-
 def built(name: str) -> Path:
-    """The program of a crate as the gate left it. Where a source is newer, or it isn't there, it is
-    proved and built first."""
-    crate = CRATES / name
-    program = crate / "out" / name
-    if program.exists() and program.stat().st_mtime >= newest_source(name):
-        return program
-    print(f"faults: building {name}, and proving it first", file=sys.stderr, flush=True)
-    program.unlink(missing_ok=True)
-    given = crate / "stdin"
-    with open(given if given.exists() else os.devnull, "rb") as stdin:
-        said = subprocess.run(["rt", "run"], cwd=crate, stdin=stdin, capture_output=True, check=False)
-    if not program.exists():
-        sys.stderr.buffer.write(said.stderr)
+    """The program of a crate as the gate left it. Where a source is newer, or it isn't there, it is proved and built
+    first."""
+    if subprocess.run([sys.executable, ROOT / "tools/build.py", name], check=False).returncode:
         sys.exit(f"faults: {name} can't be built")
-    return program
+    return CRATES / name / "out" / name
 
 
 def copy_for_all(program: Path, folder: str) -> Path:

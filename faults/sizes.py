@@ -204,6 +204,12 @@ def longest_decks(texts: Texts) -> str | None:
     return refused(run([texts.program], input=whole + b"\n"), "TooLong")
 
 
+def line_far_down(texts: Texts) -> str | None:
+    """Lines count from 1 within their section of a deck, whatever their number."""
+    deck = b"%nullsim 5\n%bench\nINPUT(a)\n%stimuli\n" + 123_455 * b"\n" + b"0 b 0\n"
+    return differs(run([texts.program], input=deck), Ended(1, b"", b"stimuli:123456: UnknownNet\n"))
+
+
 def cases(program: Path, folder: str) -> Iterator[tuple[str, Callable[[], str | None]]]:
     """All runs, each with its name."""
     texts = Texts(program, folder)
@@ -211,5 +217,6 @@ def cases(program: Path, folder: str) -> Iterator[tuple[str, Callable[[], str | 
     yield "numbers of a million digits", lambda: long_numbers(texts, "9" * 1_000_000)
     yield "ten million picks, and one more", lambda: most_picks(texts)
     yield "a million events that change nothing", lambda: idle_events(texts)
-    for check in (long_chain, wide_run, one_net_at_every_pin, ring, busy_xor, longest_texts, most_lines, longest_decks):
+    for check in (long_chain, wide_run, one_net_at_every_pin, ring, busy_xor, longest_texts, most_lines, longest_decks,
+                  line_far_down):
         yield check.__name__.replace("_", " "), lambda check=check: check(texts)

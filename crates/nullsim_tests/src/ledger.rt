@@ -4,7 +4,7 @@ ghost use Rattle.orders.specs.Readings.{AddsReadings};
 ghost use Rattle.nullsim_tests.specs.Ledger.{seen_notes};
 ghost use Rattle.nullsim_tests.specs.Shelf.{text_under};
 
-use crate::commanding::{Shelf, words_of};
+use crate::shelf::{Shelf, words_of};
 use nullsim::{KeptTexts, ReadFault, Reasoned, Texts, WithReason, command};
 use std::alloc::Global;
 use std::process::Abort;
@@ -74,7 +74,7 @@ fn noted(
 // The names that a command line asks for, each with a blank behind it, and with a mark before one
 // that could not be read.
 fn names_asked(alloc: Global, line: &str) -> Result<Vec<u8>, Fail> {
-    let words = words_of(alloc, line, "")?;
+    let words = words_of(alloc, line)?;
     let mut ledger = Ledger {
         alloc,
         shelf: Shelf::new(alloc),
@@ -115,8 +115,23 @@ fn files_in_their_order(rt: HostRuntime) -> Result<(), Fail> {
             "plain --bench bad.bench --delays bad.delays --stimuli too-big --horizon 5",
             "bad.bench bad.delays !too-big ",
         ),
+        (
+            "check --bench bad.bench --period 0 --stimuli inv.stim --horizon 10000001",
+            "bad.bench inv.stim ",
+        ),
+        // The files of a first run come before those of a second.
+        (
+            "twin --second inv.bench --second-delays slow.delays --first one.bench --first-stimuli inv.stim --net y --horizon 5",
+            "one.bench inv.stim inv.bench slow.delays ",
+        ),
+        (
+            "diff --first bad.bench --second none.bench --second-stimuli inv.stim --horizon 5",
+            "bad.bench !none.bench ",
+        ),
         ("cone --bench inv.bench y", "inv.bench "),
+        // Arguments that are wrong, and help, need no file.
         ("plain --bench inv.bench", ""),
+        ("run --bench inv.bench --horizon 5 --help", ""),
     ] {
         let asked = names_asked(rt.alloc(), line)?;
         assert!(&rt; asked.as_slice() == names.as_bytes(), "at {line}");

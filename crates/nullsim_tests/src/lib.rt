@@ -1,34 +1,17 @@
-//! Tests of the program, with words and without: worked examples, statuses, faulty streams.
+//! Tests of the program's library over readers, writers and texts of their own, some of which fail. What
+//! the built program answers is in `cases/`, at the top of the repository.
 #![tactic(auto)]
 
 #[cfg(test)]
-mod asking;
-#[cfg(test)]
-mod checking;
-#[cfg(test)]
-mod commanding;
-#[cfg(test)]
-mod comparing;
-#[cfg(test)]
-mod differing;
-#[cfg(test)]
-mod drawing;
-#[cfg(test)]
-mod files;
-#[cfg(test)]
-mod helping;
+mod failures;
 #[cfg(test)]
 mod inputs;
 #[cfg(test)]
 mod ledger;
 #[cfg(test)]
-mod plainly;
-#[cfg(test)]
 mod progressing;
 #[cfg(test)]
-mod refusals;
-#[cfg(test)]
-mod running;
+mod shelf;
 #[cfg(test)]
 mod telling;
 #[cfg(test)]

@@ -1,74 +1,14 @@
-//! Decks through `tell`: dumps byte for byte, reports, faulty writers.
-use crate::commanding::contains;
+//! Decks through `tell` and `deck`: reports, and faulty writers.
 use nullsim::{Report, deck, tell};
-use std::alloc::{AllocError, Global};
+use std::alloc::Global;
 use std::io::Write;
 use std::process::Abort;
 use std::test::Fail;
-use worked_examples::dumps::{CONTROLLED_DUMP, CROSSING_DUMP, INVERTER_DUMP, SLOW_DUMP};
+use worked_examples::dumps::INVERTER_DUMP;
 use worked_examples::{Narrow, SLIPS, Slip, Stumbling};
-
-// What goes out for the deck, which is carried out: nothing goes to standard error.
-fn out_of(rt: &impl Abort, alloc: Global, deck: &[u8]) -> Vec<u8> {
-    let mut input = deck;
-    let mut out = Vec::new(alloc);
-    let mut err = Vec::new(alloc);
-    assert_eq!(rt; tell(alloc, &mut input, &mut out, &mut err), 0);
-    assert!(rt; err.is_empty());
-    out
-}
 
 pub(crate) const INVERTER: &[u8] =
     b"%nullsim 5\n%bench\nINPUT(a)\nOUTPUT(y)\ny = NOT(a)\n%stimuli\n0 a 0\n3 a 1\n";
-
-#[test]
-fn worked_decks(rt: HostRuntime) {
-    for (deck, dump) in [
-        (INVERTER, INVERTER_DUMP),
-        (
-            b"%nullsim 0\n%bench\nINPUT(a)\nOUTPUT(y)\ny = NOT(a)\n%stimuli\n0 a 0\n3 a 1\n",
-            &INVERTER_DUMP[..169],
-        ),
-        // The last change stands at the last tick, whose time line comes once.
-        (
-            b"%nullsim 4\n%stimuli\n0 a 0\n3 a 1\n%bench\nINPUT(a)\nOUTPUT(y)\ny = NOT(a)\n",
-            &INVERTER_DUMP[..187],
-        ),
-        (
-            b"%nullsim 5\n%bench\nINPUT(a)\nOUTPUT(y)\ny = NOT(a)\n%stimuli\n0 a 0\n3 a 1\n%delays\ny 9\n",
-            SLOW_DUMP,
-        ),
-        (
-            b"%nullsim 6\n%bench\nINPUT(a)\nINPUT(b)\ny = AND(a, b)\n%stimuli\n0 a 1\n4 a 0\n0 b 0\n4 b 1\n",
-            CROSSING_DUMP,
-        ),
-        (
-            b"%nullsim 2\n%bench\nINPUT(a)\nINPUT(b)\ny = AND(a, b)\n%stimuli\n0 a 0\n",
-            CONTROLLED_DUMP,
-        ),
-        // A flip-flop, whose period is 10.
-        (
-            b"%nullsim 12\n%bench\nINPUT(d)\nq = DFF(d)\n%stimuli\n4 d 1\n",
-            b"$version nullsim 1 $end\n$timescale 1 ns $end\n$scope module top $end\n$var wire 1 ! d $end\n$var wire 1 \" q $end\n$upscope $end\n$enddefinitions $end\n#0\n$dumpvars\nx!\nx\"\n$end\n#4\n1!\n#11\n1\"\n#12\n",
-        ),
-        // Under schedules.
-        (
-            b"%nullsim 5\n%bench\nINPUT(a)\nOUTPUT(y)\ny = NOT(a)\n%stimuli\n0 a 0\n3 a 1\n%schedule\nadvance a\ndeliver y 0 # one message\nadvance y\n",
-            INVERTER_DUMP,
-        ),
-        (
-            b"%nullsim 5\n%schedule\n# %foo\n\nadvance y\n%stimuli\n0 a 0\n3 a 1\n%bench\nINPUT(a)\nOUTPUT(y)\ny = NOT(a)\n",
-            INVERTER_DUMP,
-        ),
-        (
-            b"%nullsim 5\n%schedule\n%stimuli\n0 a 0\n3 a 1\n%bench\nINPUT(a)\nOUTPUT(y)\ny = NOT(a)\n",
-            INVERTER_DUMP,
-        ),
-    ] {
-        let out = out_of(&rt, rt.alloc(), deck);
-        assert!(rt; out.as_slice() == dump);
-    }
-}
 
 // So many events come before the rounds of the deck, and then each net is known up to this tick.
 fn report_of(
@@ -155,28 +95,4 @@ fn writers_that_stumble_once(rt: HostRuntime) {
             assert!(rt; INVERTER_DUMP.starts_with(out.taken.as_slice()));
         }
     }
-}
-
-// A deck of ninety-six inputs.
-fn deck_of_inputs(alloc: Global) -> Result<String, AllocError> {
-    let mut deck = String::from_str(alloc, "%nullsim 0\n%bench\n")?;
-    for number in 0..96u32 {
-        deck.push_str(format!(in alloc; "INPUT(n{number})\n")?.as_str())?;
-    }
-    Ok(deck)
-}
-
-#[test]
-fn many_codes(rt: HostRuntime) -> Result<(), Fail> {
-    let deck = deck_of_inputs(rt.alloc())?;
-    let out = out_of(&rt, rt.alloc(), deck.as_str().as_bytes());
-    for line in [
-        b"\n$var wire 1 ! n0 $end\n".as_slice(),
-        b"\n$var wire 1 ~ n93 $end\n".as_slice(),
-        b"\n$var wire 1 !! n94 $end\n".as_slice(),
-        b"\n$var wire 1 \"! n95 $end\n".as_slice(),
-    ] {
-        assert!(rt; contains(out.as_slice(), line));
-    }
-    Ok(())
 }

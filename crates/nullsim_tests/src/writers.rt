@@ -1,14 +1,19 @@
 //! Command lines through `command`, on writers that fail at some byte, at some call or at the flush.
-use crate::checking::S27_SAME;
-use crate::commanding::end_of;
-use crate::comparing::{BOTH, CONE_OF_Y};
-use crate::running::COUNTS;
+use crate::shelf::status_of;
 use std::alloc::Global;
 use std::io::Write;
 use std::process::Abort;
 use std::test::Fail;
 use worked_examples::dumps::INVERTER_DUMP;
 use worked_examples::{Narrow, SLIPS, Slip, Stumbling};
+
+const COUNTS: &str = "events 7 changes 4 nulls 3 rounds 2\n";
+
+const S27_SAME: &[u8] = b"nets 17\npins 21\nsame 17\n";
+
+const CONE_OF_Y: &[u8] = b"INPUT(a)\ny = NOT(a)\nOUTPUT(y)\n";
+
+const BOTH: &[u8] = b"agree yes\nfirst 1 1\nfirst 4 0\nsecond 1 1\nsecond 4 0\n";
 
 /// A command line and the text that it writes.
 type Line = (&'static str, &'static [u8]);
@@ -104,7 +109,7 @@ fn ends<W: Write>(
     status: u8,
     told: &str,
 ) -> Result<(), Fail> {
-    let (got, _) = end_of(alloc, line, "", out, err)?;
+    let got = status_of(alloc, line, out, err)?;
     assert_eq!(rt; got, status, "at {line}");
     assert!(rt; err.taken.as_slice() == told.as_bytes(), "at {line}");
     Ok(())

@@ -74,14 +74,6 @@ pub const WIRED_XOR_DUMP: &[u8] =
 pub const WIRED_FLOP_DUMP: &[u8] =
     b"$version nullsim 1 $end\n$timescale 1 ns $end\n$scope module top $end\n$var wire 1 ! d $end\n$var wire 1 \" q $end\n$upscope $end\n$enddefinitions $end\n#0\n$dumpvars\nx!\nx\"\n$end\n#4\n1!\n#5\n0!\n#9\n0\"\n";
 
-/// Of a gate whose two pins cross at tick 4, up to tick 6.
-pub const CROSSING_DUMP: &[u8] =
-    b"$version nullsim 1 $end\n$timescale 1 ns $end\n$scope module top $end\n$var wire 1 ! a $end\n$var wire 1 \" b $end\n$var wire 1 # y $end\n$upscope $end\n$enddefinitions $end\n#0\n$dumpvars\n1!\n0\"\nx#\n$end\n#1\n0#\n#4\n0!\n1\"\n#6\n";
-
-/// Of the same gate with one pin driven, by 0, up to tick 2.
-pub const CONTROLLED_DUMP: &[u8] =
-    b"$version nullsim 1 $end\n$timescale 1 ns $end\n$scope module top $end\n$var wire 1 ! a $end\n$var wire 1 \" b $end\n$var wire 1 # y $end\n$upscope $end\n$enddefinitions $end\n#0\n$dumpvars\n0!\nx\"\nx#\n$end\n#1\n0#\n#2\n";
-
 /// Of the nets a, y, b and z, where y inverts a, and z is 1 where a and b are, up to tick 5.
 pub const TWIN_DUMP: &[u8] =
     b"$version nullsim 1 $end\n$timescale 1 ns $end\n$scope module top $end\n$var wire 1 ! a $end\n$var wire 1 \" y $end\n$var wire 1 # b $end\n$var wire 1 $ z $end\n$upscope $end\n$enddefinitions $end\n#0\n$dumpvars\n0!\nx\"\n1#\nx$\n$end\n#1\n1\"\n0$\n#3\n1!\n#4\n0\"\n1$\n#5\n";

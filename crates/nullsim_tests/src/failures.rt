@@ -1,0 +1,134 @@
+//! What is told of an answer that can't be written or flushed, with `--verbose` and without.
+use crate::shelf::status_of;
+use std::alloc::Global;
+use std::io::{self, Error, ErrorKind, Write};
+use std::process::Abort;
+use std::test::Fail;
+
+/// What a writer does that takes bytes up to its room.
+#[derive(Clone, Copy)]
+enum Behind {
+    /// It fails so.
+    Fails(ErrorKind),
+    /// It takes nothing.
+    TakesNothing,
+    /// It has room for all, and its flush fails so.
+    FailsToFlush(ErrorKind),
+}
+
+/// A writer with so much room.
+#[derive(Drop)]
+struct Short {
+    room: usize,
+    behind: Behind,
+}
+
+impl Write for Short {
+    fn write(&mut self, buf: &[u8]) -> io::Result<usize> {
+        let count = buf.len().min(self.room);
+        if count > 0 {
+            self.room -= count;
+            return Ok(count);
+        }
+        match self.behind {
+            Behind::Fails(kind) => Err(Error::from(kind)),
+            Behind::TakesNothing | Behind::FailsToFlush(_) => Ok(0),
+        }
+    }
+
+    fn flush(&mut self) -> io::Result<()> {
+        match self.behind {
+            Behind::FailsToFlush(kind) => Err(Error::from(kind)),
+            Behind::Fails(_) | Behind::TakesNothing => Ok(()),
+        }
+    }
+}
+
+/// The room of a writer and what is behind it, the line on standard error, and what stands behind that
+/// with `--verbose`.
+type Failure = (usize, Behind, &'static str, &'static str);
+
+static FAILURES: [Failure; 5] = [
+    // A full disk.
+    (
+        0,
+        Behind::Fails(ErrorKind::StorageFull),
+        "stdout:0: Write\n",
+        "the system says: no storage space\n\
+          Write of reading and writing: standard output couldn't be written or flushed: the disk is full, or who read it has ended.\n\
+          want room on the disk, or a reader that reads to the end\n",
+    ),
+    // A reader that ends early.
+    (
+        9,
+        Behind::Fails(ErrorKind::BrokenPipe),
+        "stdout:0: Write\n",
+        "the system says: broken pipe\n\
+          Write of reading and writing: standard output couldn't be written or flushed: the disk is full, or who read it has ended.\n\
+          want room on the disk, or a reader that reads to the end\n",
+    ),
+    // A disk that is full at the flush.
+    (
+        999,
+        Behind::FailsToFlush(ErrorKind::QuotaExceeded),
+        "stdout:0: Write\n",
+        "the system says: quota exceeded\n\
+          Write of reading and writing: standard output couldn't be written or flushed: the disk is full, or who read it has ended.\n\
+          want room on the disk, or a reader that reads to the end\n",
+    ),
+    // The system says nothing.
+    (
+        0,
+        Behind::TakesNothing,
+        "stdout:0: WroteNothing\n",
+        "WroteNothing of reading and writing: standard output took no byte of what was written.\n\
+          want an output that takes what is written to it\n",
+    ),
+    (
+        9,
+        Behind::TakesNothing,
+        "stdout:0: WroteNothing\n",
+        "WroteNothing of reading and writing: standard output took no byte of what was written.\n\
+          want an output that takes what is written to it\n",
+    ),
+];
+
+/// The answer to a command line on such a writer has the status 3, and these bytes go to standard error.
+fn answers(
+    rt: &impl Abort,
+    alloc: Global,
+    line: &str,
+    room: usize,
+    behind: Behind,
+    told: &[u8],
+) -> Result<(), Fail> {
+    let (mut out, mut err) = (Short { room, behind }, Vec::new(alloc));
+    let status = status_of(alloc, line, &mut out, &mut err)?;
+    assert_eq!(rt; status, 3, "at {line}, {room}");
+    assert!(rt; err.as_slice() == told, "at {line}, {room}");
+    Ok(())
+}
+
+fn is_told(rt: &impl Abort, alloc: Global, line: &str, failure: &Failure) -> Result<(), Fail> {
+    let (room, behind, fault, explained) = *failure;
+    let mut told = Vec::from_slice(alloc, fault.as_bytes())?;
+    answers(rt, alloc, line, room, behind, told.as_slice())?;
+    told.extend_from_slice(explained.as_bytes())?;
+    let verbose = format!(in alloc; "-v {line}")?;
+    answers(rt, alloc, verbose.as_str(), room, behind, told.as_slice())
+}
+
+#[test]
+fn failed_writes(rt: HostRuntime) -> Result<(), Fail> {
+    for line in [
+        "info --bench inv.bench",
+        "cone --bench inv.bench y",
+        "run --bench inv.bench --horizon 20",
+        "plain --bench inv.bench --horizon 20",
+    ] {
+        for failure in &FAILURES {
+            is_told(&rt, rt.alloc(), line, failure)?;
+        }
+    }
+    Ok(())
+}
