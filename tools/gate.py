@@ -14,10 +14,12 @@ import sys
 import time
 from collections.abc import Iterator
 from concurrent.futures import Future, ThreadPoolExecutor
+from heapq import heappop, heappush
+from pathlib import Path
 
 import crates
 from build import free_memory
-from wrong_bodies import WRONG_BODIES, printed, tried_in
+from wrong_bodies import WRONG_BODIES, Answer, printed, tried_in
 
 # What `rt ci` prints of a crate that is proved.
 PROVED = re.compile(r"rt: (\w+) (?:proved$|is kept)")
@@ -63,14 +65,16 @@ def adopt(crate: str) -> None:
 
 
 class Beside:
-    """The wrong bodies that `rt ci` doesn't try, each crate's begun once the libraries below it are proved."""
+    """The wrong bodies that `rt ci` doesn't try: those of a crate wait until the libraries below it are proved, and of the
+    crates that are ready the one with the most goes first."""
 
     def __init__(self, proofs: Part, lanes: ThreadPoolExecutor) -> None:
         self.proofs, self.lanes = proofs, lanes
         self.left = {crate: sorted((WRONG_BODIES / crate).glob("*.edit")) for crate in crates.libraries()}
+        self.ready: list[tuple[int, str, list[Path]]] = []
         self.proved: set[str] = set()
-        self.tasks: dict[str, Future] = {}
-        self.begin()
+        self.tasks: list[Future] = []
+        self.make_ready()
 
     def has_company(self) -> bool:
         """Returns whether `rt ci` still runs, and then only once there is memory for another check beside it."""
@@ -78,11 +82,17 @@ class Beside:
             time.sleep(5)
         return self.proofs.ran.poll() is None
 
-    def begin(self) -> None:
+    def make_ready(self) -> None:
         for crate in [it for it in self.left if self.proved.issuperset(crates.below(it))]:
             files = self.left.pop(crate)
             if files:
-                self.tasks[crate] = self.lanes.submit(tried_in, crate, files, self.has_company)
+                heappush(self.ready, (-len(files), crate, files))
+                self.tasks.append(self.lanes.submit(self.try_next))
+
+    def try_next(self) -> tuple[str, list[Answer]]:
+        """Tries the wrong bodies of one of the crates that are ready."""
+        _, crate, files = heappop(self.ready)
+        return crate, tried_in(crate, files, self.has_company)
 
     def take(self, line: str) -> None:
         """Takes a line of `rt ci`."""
@@ -90,11 +100,11 @@ class Beside:
         if told and told[1] in crates.libraries():
             adopt(told[1])
             self.proved.add(told[1])
-            self.begin()
+            self.make_ready()
 
     def counts(self) -> Iterator[tuple[int, int]]:
-        for crate, task in self.tasks.items():
-            yield printed(crate, task.result())
+        for task in self.tasks:
+            yield printed(*task.result())
 
 
 def taken(part: str, begun: float) -> None:

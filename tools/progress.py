@@ -40,8 +40,9 @@ class Progress:
     def show(self) -> None:
         if self.rewrites:
             now = time.monotonic()
-            line = f"{self.done} of {self.count} crates are proved; {minutes(now - self.begun)} gone, about {minutes(self.end - now)} left"
-            print(f"\r\033[Knullsim: {line}", end="", file=sys.stderr, flush=True)
+            times = f"{minutes(now - self.begun)} gone, about {minutes(self.end - now)} left"
+            line = f"nullsim: {self.done} crates proved, {self.count - self.done} left; {times}"
+            print(f"\r\033[K{line}", end="", file=sys.stderr, flush=True)
 
     def close(self) -> None:
         """Ends the line that is rewritten."""

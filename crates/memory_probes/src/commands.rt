@@ -1,10 +1,10 @@
 //! Words, orders and the program with words: a first part of the answer is out, and want of memory is told.
-use crate::following::Follower;
-use crate::telling::Teller;
+use crate::faults::told;
 use crate::whole_runs::{
     CONE, INFO, NO_DIFFERENCE, OSCILLATOR, SAME, TOLD, TWINS, answered, ended,
 };
 use command_line::parse_words;
+use engine_probes::{Follower, Teller};
 use nullsim::{
     Asked, Keeping, Order, ReadFault, Reasoned, Texts, WithReason, answer_order, asked_by_words,
     command, read_text,
@@ -72,7 +72,7 @@ static LINES: [Line; 7] = [
 /// Probes each command line.
 pub(crate) fn probe<W: Write>(alloc: Global, teller: &mut Teller<W>) -> Option<()> {
     for (line, text) in &LINES {
-        let words = teller.told("words", words_of(alloc, line))?;
+        let words = told(teller, "words", words_of(alloc, line))?;
         orders(alloc, teller, words.as_slice(), text)?;
         commands(alloc, teller, words.as_slice(), text)?;
     }
@@ -93,8 +93,8 @@ fn orders<W: Write>(
     words: &[String],
     text: &'static [u8],
 ) -> Option<()> {
-    teller.told("parse_words", parse_words(alloc, words))?;
-    match teller.told("asked_by_words", asked_by_words(alloc, words))? {
+    told(teller, "parse_words", parse_words(alloc, words))?;
+    match told(teller, "asked_by_words", asked_by_words(alloc, words))? {
         Asked::Order { order, .. } => {
             carried_out(alloc, teller, &order, text)?;
             told_orders(alloc, teller, &order, text)

@@ -1,5 +1,6 @@
 //! What is told of faults.
-use crate::telling::Teller;
+use crate::faults::told;
+use engine_probes::Teller;
 use explanations::{AtHand, Subject, explanation_text, fault_text, names_text, tables};
 use nullsim::{Reasoned, WithReason, said_of};
 use std::alloc::Global;
@@ -33,12 +34,13 @@ impl Write for Full {
 /// says of a fault.
 pub(crate) fn probe<W: Write>(alloc: Global, teller: &mut Teller<W>) -> Option<()> {
     let tables = tables();
-    teller.told(
+    told(
+        teller,
         "explanation_text",
         explanation_text(alloc, &tables, "BadLine"),
     )?;
-    teller.told("names_text", names_text(alloc, &tables))?;
-    teller.told("fault_text", fault_text(alloc, &tables, FAULT))?;
+    told(teller, "names_text", names_text(alloc, &tables))?;
+    told(teller, "fault_text", fault_text(alloc, &tables, FAULT))?;
     reasons(alloc, teller)
 }
 

@@ -1,63 +1,45 @@
 //! Which fault of each layer says that a growth was refused.
-use crate::telling::Fault;
-use bench_text::BenchFault;
-use cmb_events::ScheduleFault;
-use cmb_kernel::KernelFault;
+ghost use Rattle.std.specs.Prelude.{◌≡◌, IfSome, Ok};
+
 use decks::DeckFault;
-use design::BuildFault;
-use fanin_cone::ConeFault;
+use engine_probes::Teller;
 use nullsim::NoOrder;
 use prepared_runs::SimFault;
 use program_io::{ProgramFault, ReadFault};
 use run_pairs::TwinFault;
-use timing_text::{DelayFault, StimulusFault};
-use vcd_dump::DumpFault;
+use std::alloc::AllocError;
+use std::io::Write;
 
-impl Fault for BenchFault {
-    fn is_memory(&self) -> bool {
-        matches!(self, BenchFault::Memory)
+/// A fault of a call: that a growth was refused, or another one.
+pub(crate) trait Fault {
+    /// Whether a growth was refused.
+    fn is_memory(&self) -> bool;
+}
+
+/// Tells of a call whose answer is all that is to be looked at. There is nothing to go on with
+/// where it is a fault.
+pub(crate) fn told<T: Drop, E: Fault + Drop, W: Write>(
+    teller: &mut Teller<W>,
+    call: &str,
+    answer: Result<T, E>,
+) -> Option<T>
+    ensures { IfSome result (λ value. answer ≡ Ok value) }
+{
+    match answer {
+        Ok(value) => {
+            teller.fine(call, true)?;
+            Some(value)
+        }
+        Err(fault) => {
+            teller.refused(call, fault.is_memory());
+            None
+        }
     }
 }
 
-impl Fault for DelayFault {
+impl Fault for AllocError {
     fn is_memory(&self) -> bool {
-        matches!(self, DelayFault::Memory)
-    }
-}
-
-impl Fault for StimulusFault {
-    fn is_memory(&self) -> bool {
-        matches!(self, StimulusFault::Memory)
-    }
-}
-
-impl Fault for BuildFault {
-    fn is_memory(&self) -> bool {
-        matches!(self, BuildFault::Memory)
-    }
-}
-
-impl Fault for ScheduleFault {
-    fn is_memory(&self) -> bool {
-        matches!(self, ScheduleFault::Memory)
-    }
-}
-
-impl Fault for KernelFault {
-    fn is_memory(&self) -> bool {
-        matches!(self, KernelFault::Memory)
-    }
-}
-
-impl Fault for ConeFault {
-    fn is_memory(&self) -> bool {
-        matches!(self, ConeFault::Memory)
-    }
-}
-
-impl Fault for DumpFault {
-    fn is_memory(&self) -> bool {
-        matches!(self, DumpFault::Memory)
+        true
     }
 }
 

@@ -1,8 +1,8 @@
 //! Whole runs: a first part of the text is out.
-use crate::following::Follower;
-use crate::telling::{Fault, Teller};
+use crate::faults::{Fault, told};
 use circuit_texts::{cone_text, info};
 use decks::{answer_deck, deck, tell};
+use engine_probes::{Follower, Teller};
 use plain_runs::{plain, plain_with_progress};
 use prepared_runs::{Picks, Show, Source, View};
 use program_io::{
@@ -90,7 +90,7 @@ pub(crate) fn probe<W: Write>(alloc: Global, teller: &mut Teller<W>) -> Option<(
     for (source, horizon, net, dump) in &RUNS {
         let view = View {
             horizon: *horizon,
-            show: teller.told("Show::Named", shown(alloc, *net))?,
+            show: told(teller, "Show::Named", shown(alloc, *net))?,
             unit: TimeUnit::Ns,
         };
         dumps(alloc, teller, source, &view, dump)?;
@@ -188,14 +188,18 @@ fn written_dumps<W: Write>(
 
 fn comparisons<W: Write>(alloc: Global, teller: &mut Teller<W>) -> Option<()> {
     let answer = twin(alloc, &OSCILLATOR, &OSCILLATOR, b"y", 12);
-    teller.told("runs::twin", answer)?;
-    teller.told("runs::check", check(alloc, &OSCILLATOR, 12))?;
+    told(teller, "runs::twin", answer)?;
+    told(teller, "runs::check", check(alloc, &OSCILLATOR, 12))?;
     let text = cone_text(alloc, OSCILLATOR.bench, &[b"y".as_slice()]);
-    teller.told("runs::cone_text", text)?;
-    teller.told("runs::info", info(alloc, OSCILLATOR.bench))?;
+    told(teller, "runs::cone_text", text)?;
+    told(teller, "runs::info", info(alloc, OSCILLATOR.bench))?;
     let answer = diff(alloc, &OSCILLATOR, &OSCILLATOR, &[], COUNTING);
-    teller.told("runs::diff", answer)?;
-    teller.told("run_notes::notes_text", notes_text(alloc, &OSCILLATOR, 12))?;
+    told(teller, "runs::diff", answer)?;
+    told(
+        teller,
+        "run_notes::notes_text",
+        notes_text(alloc, &OSCILLATOR, 12),
+    )?;
     Some(())
 }
 
@@ -251,6 +255,6 @@ pub(crate) fn answered<W: Write>(
 fn readings<W: Write>(alloc: Global, teller: &mut Teller<W>) -> Option<()> {
     let bytes = [b'z'; 20_000];
     let mut input = bytes.as_slice();
-    let text = teller.told("read_text", read_text(alloc, &mut input))?;
+    let text = told(teller, "read_text", read_text(alloc, &mut input))?;
     teller.fine("read_text", text.as_slice() == bytes.as_slice())
 }

@@ -6,7 +6,7 @@ use Rattle.vcd_dump.specs.declared.fault.DumpFault.{DumpFault}
 use Rattle.vcd_dump.specs.declared.fault.DumpFault.TheVariants.{Failed}
 use Rattle.vcd_dump.specs.Spans.{StreamView, IsPart, CanSpan, with_part, with_parts}
 use Rattle.vcd_dump.proofs.CallerLemmas.{with_parts-none, with_parts-more, with_parts-can}
-use Rattle.memory_probes.proofs.dumps.write_both.Goals as goal
+use Rattle.engine_probes.proofs.dumps.write_both.Goals as goal
 
 -- a stream that was given both parts
 given_both : (stream one two : StreamView) (first second : List Change) → stream.failed ≡ false → stream.given ≡ 0 → stream.lines ≡ [] →

@@ -18,24 +18,24 @@ impl Fault for std::alloc::AllocError {
 /// Tells what each call answered and what stands after it: the line `fine CALL` or `refused CALL` where
 /// that is as it must be, and `wrong CALL` where it isn't. It takes no memory.
 #[derive(Drop)]
-pub(crate) struct Teller<W> {
+pub struct Teller<W> {
     out: W,
 }
 
 impl<W: Write> Teller<W> {
     /// A teller that writes to this.
-    pub(crate) fn new(out: W) -> Teller<W> {
+    pub fn new(out: W) -> Teller<W> {
         Teller { out }
     }
 
     /// Tells of a call that was not refused memory. There is nothing to go on with where it is wrong.
-    pub(crate) fn fine(&mut self, call: &str, holds: bool) -> Option<()> {
+    pub fn fine(&mut self, call: &str, holds: bool) -> Option<()> {
         self.line("fine ", call, holds);
         if holds { Some(()) } else { None }
     }
 
     /// Tells of a call that was refused memory, and said so. A probe ends with it.
-    pub(crate) fn refused(&mut self, call: &str, holds: bool) {
+    pub fn refused(&mut self, call: &str, holds: bool) {
         self.line("refused ", call, holds);
     }
 

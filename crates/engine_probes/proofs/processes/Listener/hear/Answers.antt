@@ -1,7 +1,7 @@
 use Rattle.std.proofs.Common.{◌≡◌, ◌∙◌, false, arith, rules}
 use Rattle.cmb_channels.specs.declared.message.Message.TheVariants.{Change as Changes}
 use Rattle.gate_process.proofs.CallerLemmas.{can_hear_change, lasts_heard}
-use Rattle.memory_probes.proofs.processes.Listener.hear.Goals as goal
+use Rattle.engine_probes.proofs.processes.Listener.hear.Goals as goal
 
 pub receive-requires-clause-can_hear : goal.receive-requires-clause-can_hear
 receive-requires-clause-can_hear c =

@@ -1,5 +1,5 @@
 use Rattle.std.proofs.Common.{◌≡◌}
-use Rattle.memory_probes.proofs.kernels.drained.Given as goal
+use Rattle.engine_probes.proofs.kernels.drained.Given as goal
 
 abbrev pub invariant-loop-net : goal.invariant-loop-net
 invariant-loop-net g l = l.kernel.circuit ≡ l.fn.design.circuit

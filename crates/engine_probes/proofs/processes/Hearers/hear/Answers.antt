@@ -4,8 +4,8 @@ use Rattle.cmb_channels.specs.declared.message.Message.TheVariants.{Change as Ch
 use Rattle.gate_process.specs.Step.{ProcessView}
 use Rattle.gate_process.specs.Truth.{CanHear}
 use Rattle.gate_process.proofs.CallerLemmas.{can_hear_change}
-use Rattle.memory_probes.proofs.Among.{length_among, stays_among}
-use Rattle.memory_probes.proofs.processes.Hearers.hear.Goals as goal
+use Rattle.engine_probes.proofs.Among.{length_among, stays_among}
+use Rattle.engine_probes.proofs.processes.Hearers.hear.Goals as goal
 
 pub receive-requires-clause-running : goal.receive-requires-clause-running
 receive-requires-clause-running c = λ process at.

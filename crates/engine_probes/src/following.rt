@@ -4,7 +4,7 @@ use std::io::{self, Write};
 /// A writer that takes all that it is given, and looks whether it is a first part of a text. It takes
 /// no memory.
 #[derive(Drop)]
-pub(crate) struct Follower {
+pub struct Follower {
     // What is left of the text.
     rest: &'static [u8],
     follows: bool,
@@ -12,7 +12,7 @@ pub(crate) struct Follower {
 
 impl Follower {
     /// A writer that looks for this text.
-    pub(crate) fn of(text: &'static [u8]) -> Follower {
+    pub fn of(text: &'static [u8]) -> Follower {
         Follower {
             rest: text,
             follows: true,
@@ -20,17 +20,17 @@ impl Follower {
     }
 
     /// Whether what it took is a first part of the text, or all of it.
-    pub(crate) fn follows(&self) -> bool {
+    pub fn follows(&self) -> bool {
         self.follows
     }
 
     /// Whether what it took is the text.
-    pub(crate) fn is_whole(&self) -> bool {
+    pub fn is_whole(&self) -> bool {
         self.follows && self.rest.is_empty()
     }
 
     /// How many bytes of the text it didn't take.
-    pub(crate) fn left(&self) -> usize {
+    pub fn left(&self) -> usize {
         self.rest.len()
     }
 }

@@ -1,6 +1,6 @@
 use Rattle.std.proofs.Common.{◌≡◌, ◌∙◌, false, rules}
 use Rattle.gate_process.proofs.CallerLemmas.{lasts_advanced}
-use Rattle.memory_probes.proofs.processes.Listener.advance.Goals as goal
+use Rattle.engine_probes.proofs.processes.Listener.advance.Goals as goal
 
 pub invariant_of-self : goal.invariant_of-self
 invariant_of-self c =

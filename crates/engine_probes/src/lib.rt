@@ -1,0 +1,33 @@
+//! Calls what takes memory, of the crates below whole runs, and tells in a line what each call answered and
+//! what stands after it. The program `memory_probes` runs it, and goes on with whole runs.
+#![tactic(auto)]
+
+mod channels;
+mod circuits;
+mod diagrams;
+mod dumps;
+mod faults;
+mod following;
+mod kernels;
+mod processes;
+mod telling;
+mod texts;
+mod waves;
+
+pub use following::Follower;
+use std::alloc::Global;
+use std::io::Write;
+pub use telling::Teller;
+
+/// Makes all calls, each group to its end or up to a call that was refused memory.
+pub fn probe<W: Write>(alloc: Global, teller: &mut Teller<W>) {
+    let _ = waves::probe(alloc, teller);
+    let _ = texts::probe(alloc, teller);
+    let _ = texts::probe_designs(alloc, teller);
+    let _ = circuits::probe(alloc, teller);
+    let _ = channels::probe(alloc, teller);
+    let _ = processes::probe(alloc, teller);
+    let _ = kernels::probe(alloc, teller);
+    let _ = dumps::probe(alloc, teller);
+    let _ = diagrams::probe(alloc, teller);
+}
