@@ -1,5 +1,5 @@
 //! The worked circuits, drawn.
-use crate::circuits::{CROSSING, Circuit, HAZARD, INVERTER, MARKED, S27, SAMPLER};
+use crate::diagrams::circuits::{CROSSING, Circuit, HAZARD, INVERTER, MARKED, S27, SAMPLER};
 use Form::{Svg, Text};
 use design::{Design, plain_waves};
 use logic3::Waveform;

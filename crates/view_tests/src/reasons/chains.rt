@@ -1,5 +1,5 @@
 //! Chains of causes, worked by hand.
-use crate::circuits::{
+use crate::reasons::circuits::{
     CONTROLLED, Circuit, GATE_RING, HAZARD, PRESET_RING, RING_COUNTER, S27, WIRED,
 };
 use causes::{Cause, Reason, why, why_text};

@@ -1,9 +1,5 @@
 //! Diagrams of worked circuits, byte for byte, and the limits of diagrams.
-#![tactic(auto)]
 
-#[cfg(test)]
 mod circuits;
-#[cfg(test)]
-mod diagrams;
-#[cfg(test)]
+mod drawings;
 mod limits;

@@ -2,7 +2,7 @@
 //! (PCG's XSH RR with 64 bits of state, seeded as `rand_core` expands a number to a seed), apart from
 //! this repository: an odd word is a 1. For the first seeds the words are, by their last bits,
 //! 0: 1110 1100 0010 .., 1: 0010 1000 0010 1010 .., 7: 10100 .., 42: 0000 0101 1111 ...
-use crate::circuits::{COUNTER, Drawn, INVERTER, NONE, THREE, text_of};
+use crate::stimuli::circuits::{COUNTER, Drawn, INVERTER, NONE, THREE, text_of};
 use Drive::{Clock, Hold, Pulse};
 use Value::{One, Unknown, Zero};
 use drawn_stimuli::Drive;

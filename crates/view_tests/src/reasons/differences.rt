@@ -1,5 +1,5 @@
 //! Where two waveforms differ first, worked by hand, and the lines of comparisons.
-use crate::circuits::TWO_INPUTS;
+use crate::reasons::circuits::TWO_INPUTS;
 use Value::{One, Unknown, Zero};
 use design::plain_waves;
 use logic3::{Value, Waveform};

@@ -1,5 +1,5 @@
 //! The limits of diagrams, and writers that fail.
-use crate::circuits::INVERTER;
+use crate::diagrams::circuits::INVERTER;
 use bench_text::read;
 use design::Design;
 use logic3::Waveform;

@@ -1,5 +1,5 @@
 //! Traces that were worked out by hand.
-use crate::circuits::{
+use crate::traces::circuits::{
     CROSSING, Circuit, DOUBLE_PIN, GATED_OSCILLATOR, HAZARD, INVERTER, PRESET_RING, SAMPLER,
     SELF_INVERTER,
 };

@@ -1,5 +1,5 @@
 //! What is refused, with which fault, and which comes first.
-use crate::circuits::{Drawn, NONE, THREE, text_of};
+use crate::stimuli::circuits::{Drawn, NONE, THREE, text_of};
 use Drive::{Clock, Hold, Pulse};
 use Value::One;
 use drawn_stimuli::{Drive, DriveFault};

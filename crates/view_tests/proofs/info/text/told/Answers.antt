@@ -1,6 +1,6 @@
 use Rattle.std.proofs.Common.{◌<◌, length, All, Contains, sym, subst}
 use Rattle.std.proofs.lemmas.List.Elements.{All-contains_itself, All-weaker}
-use Rattle.info_tests.proofs.text.told.Goals as goal
+use Rattle.view_tests.proofs.info.text.told.Goals as goal
 
 -- what lies outside of a cone is a net
 pub info_text-requires : goal.info_text-requires

@@ -1,5 +1,5 @@
 //! Writers that fail.
-use crate::circuits::{INVERTER, SELF_INVERTER};
+use crate::traces::circuits::{INVERTER, SELF_INVERTER};
 use event_trace::trace;
 use std::test::Fail;
 use timing_text::Horizon;

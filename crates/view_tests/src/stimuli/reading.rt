@@ -1,5 +1,5 @@
 //! Texts that are read back by the reader of stimuli.
-use crate::circuits::text_of;
+use crate::stimuli::circuits::text_of;
 use bench_text::read;
 use drawn_stimuli::Drive;
 use logic3::{Change, Value};

@@ -1,0 +1,14 @@
+//! Tests of what people see beside dumps: what a circuit is, drawn stimuli, diagrams, traces, causes and
+//! differences.
+#![tactic(auto)]
+
+#[cfg(test)]
+mod diagrams;
+#[cfg(test)]
+mod info;
+#[cfg(test)]
+mod reasons;
+#[cfg(test)]
+mod stimuli;
+#[cfg(test)]
+mod traces;
