@@ -166,12 +166,22 @@ def link_fault(copy: Copy) -> str | None:
 
 
 def unproved_fault(copy: Copy) -> str | None:
-    """What is wrong with a run without proofs: `rt try` gets the words, and the files that they name."""
-    (copy.top.parent / "a.bench").write_text("INPUT(a)\n")
-    ended = copy.ended("--unproved", "info", "--bench", "a.bench")
-    wanted = f"rt try --data a.bench={copy.top.parent}/a.bench -- info --bench a.bench"
-    if ended.status != 0 or ended.out != b"a deck" or b"nothing of this run is proved" not in ended.err or copy.calls() != [wanted]:
-        return f"{ended}, {copy.calls()}"
+    """What is wrong with a run without proofs: `rt try` gets the arguments, and the files that they name, each under a name
+    of its own."""
+    there = copy.top.parent
+    for folder in ("", "one", "other"):
+        written(there / folder / "a.bench", "INPUT(a)\n")
+    one, other = f"{there}/one/a.bench", f"{there}/other/a.bench"
+    for words, wanted in (
+        ("info --bench a.bench", f"--data a.bench={there}/a.bench -- info --bench a.bench"),
+        (f"diff --first={one} --second {other}",
+         f"--data a.bench={one} --data file1/a.bench={other} -- diff --first=a.bench --second file1/a.bench"),
+    ):
+        ended, calls = copy.ended("--unproved", *words.split()), copy.calls()
+        if ended.status != 0 or ended.out != b"a deck" or b"nothing of this run is proved" not in ended.err:
+            return f"{ended}"
+        if calls != [f"rt try {wanted}"]:
+            return f"{calls}"
     return None
 
 

@@ -12,23 +12,37 @@ from build import PROGRAM
 from progress import tell
 
 
-def given(word: str) -> tuple[str, str | None]:
-    """Returns an argument as the program gets it, and if it names a file, that file. `rt try` runs the program in a folder
-    of its own, into which it copies such files."""
-    if not Path(word).is_file():
-        return word, None
-    path = os.path.normpath(word)
-    is_outside = path.startswith(("/", ".."))
-    return os.path.basename(path) if is_outside else path, os.path.abspath(word)
+class Arguments:
+    """Arguments as the program gets them, and the files that they name. `rt try` runs the program in a folder of its own,
+    into which it copies such files."""
+
+    def __init__(self, words: list[str]) -> None:
+        self.files: dict[str, str] = {}
+        self.words = [self.taken(word) for word in words]
+
+    def taken(self, word: str) -> str:
+        """Takes an argument, which may be an option with its value."""
+        option, equals, value = word.partition("=") if word.startswith("--") else ("", "", word)
+        return option + equals + (self.name(value) if Path(value).is_file() else value)
+
+    def name(self, path: str) -> str:
+        """Takes a file, and returns its name in that folder: its path, or if it is elsewhere, a name that no other has."""
+        name, file = os.path.normpath(path), os.path.abspath(path)
+        if name.startswith(("/", "..")):
+            name = os.path.basename(name)
+        if self.files.get(name, file) != file:
+            name = f"file{len(self.files)}/{name}"
+        self.files[name] = file
+        return name
 
 
 def main() -> int:
     tell("nothing of this run is proved, and all sources are compiled first, which takes about a minute")
-    pairs = [given(word) for word in sys.argv[1:]]
-    files = [word for name, file in pairs if file for word in ("--data", f"{name}={file}")]
+    arguments = Arguments(sys.argv[1:])
+    files = [word for name, file in arguments.files.items() for word in ("--data", f"{name}={file}")]
     os.chdir(crates.CRATES / PROGRAM)
     try:
-        os.execvp("rt", ["rt", "try", *files, "--", *(word for word, _ in pairs)])
+        os.execvp("rt", ["rt", "try", *files, "--", *arguments.words])
     except FileNotFoundError:
         tell("the command rt of the Rattle toolchain has to be on the path")
         return 2

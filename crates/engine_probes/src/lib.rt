@@ -1,5 +1,5 @@
-//! Calls what takes memory, of the crates below whole runs, and tells in a line what each call answered and
-//! what stands after it. The program `memory_probes` runs it, and goes on with whole runs.
+//! Makes the calls that take memory, of the crates below whole runs, and prints for each a line with its
+//! answer. The program `memory_probes` calls it, and continues with whole runs.
 #![tactic(auto)]
 
 mod channels;

@@ -10,14 +10,13 @@ use run_pairs::TwinFault;
 use std::alloc::AllocError;
 use std::io::Write;
 
-/// A fault of a call: that a growth was refused, or another one.
+/// A fault of a call. It is a trait of this crate, since the faults are types of other crates.
 pub(crate) trait Fault {
     /// Whether a growth was refused.
     fn is_memory(&self) -> bool;
 }
 
-/// Tells of a call whose answer is all that is to be looked at. There is nothing to go on with
-/// where it is a fault.
+/// Prints the line of a call of which only the answer is checked. Returns its value, if it isn't a fault.
 pub(crate) fn told<T: Drop, E: Fault + Drop, W: Write>(
     teller: &mut Teller<W>,
     call: &str,

@@ -1,4 +1,4 @@
-//! What is told of an answer that can't be written or flushed, with `--verbose` and without.
+//! The messages for an answer that can't be written or flushed, with `--verbose` and without.
 use crate::shelf::status_of;
 use std::alloc::Global;
 use std::io::{self, Error, ErrorKind, Write};

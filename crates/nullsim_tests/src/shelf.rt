@@ -126,8 +126,25 @@ fn texts_without_memory(rt: HostRuntime) -> Result<(), Fail> {
         "cone --bench too-big y",
         "info --bench too-big",
         "diff --first one.bench --second too-big --horizon 5",
+        "twin --first bad.bench --second too-big --net y --horizon 5",
     ] {
         runs_out_of_memory(&rt, rt.alloc(), line)?;
     }
+    Ok(())
+}
+
+fn contains(text: &[u8], part: &[u8]) -> bool {
+    !part.is_empty() && text.windows(part.len()).any(|window| window == part)
+}
+
+// The program reads a deck where it gets no arguments; `command` refuses them, without a tip.
+#[test]
+fn no_arguments(rt: HostRuntime) -> Result<(), Fail> {
+    let alloc = rt.alloc();
+    let (mut out, mut err) = (Vec::new(alloc), Vec::new(alloc));
+    assert_eq!(rt; status_of(alloc, "", &mut out, &mut err)?, 2);
+    assert!(rt; out.is_empty());
+    assert!(rt; !err.is_empty());
+    assert!(rt; !contains(err.as_slice(), b"  tip: "));
     Ok(())
 }
