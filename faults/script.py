@@ -46,6 +46,11 @@ def written(file: Path, text: str) -> None:
     file.chmod(0o755)
 
 
+def heed_interrupts() -> None:
+    """Lets a process end by Ctrl-C, even where the gate runs in the background, and so ignores it."""
+    signal.signal(signal.SIGINT, signal.SIG_DFL)
+
+
 class Copy:
     """A copy of the repository's folders, in which each crate has one source."""
 
@@ -86,7 +91,8 @@ class Copy:
         streams |= {key: how.pop(key) for key in ("stderr",) if key in how}
         path = f"{self.kit}/bin:{os.environ['PATH']}"
         variables = {**os.environ, "PATH": path, "NOTES": str(self.notes), "KIT": str(self.kit), **how}
-        return subprocess.Popen([self.top / script, *words], cwd=self.top.parent, env=variables, start_new_session=True, **streams)
+        return subprocess.Popen([self.top / script, *words], cwd=self.top.parent, env=variables, start_new_session=True,
+                                preexec_fn=heed_interrupts, **streams)
 
     def ended(self, *words: str, **how) -> Ended:
         run = self.begun(*(words or ("two", "words")), **how)
