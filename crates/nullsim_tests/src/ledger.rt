@@ -17,7 +17,7 @@ type Note = (Vec<u8>, Option<ReadFault>);
 #[derive(Drop)]
 struct Ledger {
     alloc: Global,
-    shelf: Shelf,
+    shelf: Shelf<'static>,
     notes: Option<Vec<Note>>,
 }
 

@@ -3,6 +3,8 @@
 #![tactic(auto)]
 
 #[cfg(test)]
+mod cut_decks;
+#[cfg(test)]
 mod failures;
 #[cfg(test)]
 mod inputs;
@@ -12,6 +14,8 @@ mod ledger;
 mod progressing;
 #[cfg(test)]
 mod shelf;
+#[cfg(test)]
+mod sizes;
 #[cfg(test)]
 mod telling;
 #[cfg(test)]

@@ -10,10 +10,10 @@ use std::test::Fail;
 use worked_examples::{S27_BENCH, S27_STIMULI};
 
 /// A text with its name.
-pub(crate) type Named = (&'static str, &'static [u8]);
+pub(crate) type Named<'a> = (&'a str, &'a [u8]);
 
 /// The texts that the calls of the tests name.
-static FILES: [Named; 9] = [
+static FILES: [Named<'static>; 9] = [
     ("inv.bench", b"INPUT(a)\nOUTPUT(y)\ny = NOT(a)\n"),
     ("inv.stim", b"0 a 0\n3 a 1\n"),
     ("slow.delays", b"y 9\n"),
@@ -30,24 +30,26 @@ static FILES: [Named; 9] = [
 
 /// Texts by name.
 #[derive(Drop)]
-pub(crate) struct Shelf {
+pub(crate) struct Shelf<'a> {
     alloc: Global,
-    pub(crate) texts: &'static [Named],
+    pub(crate) texts: &'a [Named<'a>],
 }
 
-impl Shelf {
-    pub(crate) fn new(alloc: Global) -> Shelf {
-        Shelf {
-            alloc,
-            texts: FILES.as_slice(),
-        }
+impl<'a> Shelf<'a> {
+    pub(crate) fn new(alloc: Global) -> Shelf<'a> {
+        Shelf::of(alloc, FILES.as_slice())
+    }
+
+    /// A shelf with these texts.
+    pub(crate) fn of(alloc: Global, texts: &'a [Named<'a>]) -> Shelf<'a> {
+        Shelf { alloc, texts }
     }
 }
 
 /// The most bytes that are handed out of a text.
 const MOST: usize = 16_777_217;
 
-impl Texts for Shelf {
+impl<'a> Texts for Shelf<'a> {
     ghost known = { λ shelf. text_under shelf.texts.now };
 
     fn text(&mut self, name: &str) -> Result<Vec<u8>, ReadFault> {
@@ -59,13 +61,13 @@ impl Texts for Shelf {
     }
 }
 
-impl Reasoned for Shelf {
+impl<'a> Reasoned for Shelf<'a> {
     fn reason(&self) -> Option<&[u8]> {
         None
     }
 }
 
-impl KeptTexts for Shelf {
+impl<'a> KeptTexts for Shelf<'a> {
     fn keep(&mut self) {}
 
     fn kept(&self, _name: &str) -> Option<&[u8]> {
@@ -73,7 +75,7 @@ impl KeptTexts for Shelf {
     }
 }
 
-fn text_under(shelf: &[Named], name: &str) -> Option<&'static [u8]>
+fn text_under<'a>(shelf: &[Named<'a>], name: &str) -> Option<&'a [u8]>
     ensures { option_map (λ text. text.now) result ≡ text_under shelf.now name.now }
 {
     let named = shelf.iter().find(|named| named.0 == name)?;
@@ -95,15 +97,20 @@ pub(crate) fn status_of<W: Write, E: Write>(
     out: &mut W,
     err: &mut E,
 ) -> Result<u8, AllocError> {
+    status_over(alloc, Shelf::new(alloc), line, out, err)
+}
+
+/// The exit status of a call over these texts.
+pub(crate) fn status_over<W: Write, E: Write>(
+    alloc: Global,
+    mut texts: Shelf<'_>,
+    line: &str,
+    out: &mut W,
+    err: &mut E,
+) -> Result<u8, AllocError> {
     let words = words_of(alloc, line)?;
     let mut out = WithReason::new(alloc, out);
-    Ok(command(
-        alloc,
-        words.as_slice(),
-        &mut Shelf::new(alloc),
-        &mut out,
-        err,
-    ))
+    Ok(command(alloc, words.as_slice(), &mut texts, &mut out, err))
 }
 
 fn runs_out_of_memory(rt: &impl Abort, alloc: Global, line: &str) -> Result<(), Fail> {

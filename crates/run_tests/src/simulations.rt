@@ -105,6 +105,15 @@ fn counts([events, changes, nulls, rounds]: [u64; 4]) -> Counts {
     }
 }
 
+// The report of a run without a schedule that counts this in all.
+fn unscheduled(total: [u64; 4]) -> Report {
+    Report {
+        after: counts([0, 0, 0, 0]),
+        least: 0,
+        total: counts(total),
+    }
+}
+
 // All nets in nanoseconds, up to a horizon.
 fn all_up_to(horizon: u64) -> View<'static> {
     View {
@@ -125,19 +134,11 @@ fn dumps_alike(rt: &impl Abort, alloc: Global, source: &Source, view: &View, dum
 }
 
 // The run ends with this report and this dump, which is that of sweeps and of the plain engine too.
-fn runs(
-    rt: &impl Abort,
-    alloc: Global,
-    source: &Source,
-    horizon: u64,
-    report: Report,
-    dump: &[u8],
-) {
-    let view = all_up_to(horizon);
+fn runs(rt: &impl Abort, alloc: Global, source: &Source, view: &View, report: Report, dump: &[u8]) {
     let mut out = Vec::new(alloc);
-    assert!(rt; simulate(alloc, source, &view, &mut out) == Ok(report));
+    assert!(rt; simulate(alloc, source, view, &mut out) == Ok(report));
     assert!(rt; out.as_slice() == dump);
-    dumps_alike(rt, alloc, source, &view, dump);
+    dumps_alike(rt, alloc, source, view, dump);
 }
 
 const DELIVERIES: &[u8] = b"deliver b 0\ndeliver y 0\ndeliver y 1\n";
@@ -244,19 +245,18 @@ fn worked_runs(rt: HostRuntime) {
             least: 0,
             total: counts(total),
         };
-        runs(&rt, rt.alloc(), &source, horizon, report, dump);
+        let view = all_up_to(horizon);
+        runs(&rt, rt.alloc(), &source, &view, report, dump);
     }
 }
 
 // Up to tick 0 the inverter's dump ends after the first values.
 #[test]
 fn first_tick(rt: HostRuntime) {
-    let report = Report {
-        after: counts([0, 0, 0, 0]),
-        least: 0,
-        total: counts([2, 1, 1, 1]),
-    };
-    runs(&rt, rt.alloc(), &INVERTER, 0, report, &INVERTER_DUMP[..169]);
+    let report = unscheduled([2, 1, 1, 1]);
+    let view = all_up_to(0);
+    let dump = &INVERTER_DUMP[..169];
+    runs(&rt, rt.alloc(), &INVERTER, &view, report, dump);
 }
 
 #[test]
@@ -328,7 +328,8 @@ fn outputs_only(rt: HostRuntime) {
         show: Show::Outputs,
         unit: TimeUnit::Ps,
     };
-    dumps_alike(&rt, rt.alloc(), &INVERTER, &view, OUTPUTS_DUMP);
+    let report = unscheduled([7, 4, 3, 2]);
+    runs(&rt, rt.alloc(), &INVERTER, &view, report, OUTPUTS_DUMP);
     let without_outputs = Source {
         bench: b"INPUT(a)",
         stimuli: b"",
@@ -336,5 +337,7 @@ fn outputs_only(rt: HostRuntime) {
     };
     let dump =
         b"$version nullsim 1 $end\n$timescale 1 ps $end\n$scope module top $end\n$upscope $end\n$enddefinitions $end\n#0\n$dumpvars\n$end\n#5\n";
-    dumps_alike(&rt, rt.alloc(), &without_outputs, &view, dump);
+    // Its input advances once, and no pin has anything to take.
+    let report = unscheduled([1, 0, 1, 1]);
+    runs(&rt, rt.alloc(), &without_outputs, &view, report, dump);
 }
