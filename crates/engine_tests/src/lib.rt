@@ -13,6 +13,8 @@ mod drains;
 #[cfg(test)]
 mod dumps;
 #[cfg(test)]
+mod fabrics;
+#[cfg(test)]
 mod kernels;
 #[cfg(test)]
 mod parts;

@@ -8,6 +8,7 @@ use cmb_channels::{Fabric, Message, Queues};
 use cmb_events::Event;
 use cmb_kernel::{Kernel, KernelFault};
 use design::Design;
+use logic3::Change;
 use std::alloc::{AllocError, Global};
 use std::process::Abort;
 use std::test::Fail;
@@ -126,8 +127,26 @@ fn answer<F: Fabric>(
     }
 }
 
+// A drain answers that the kernel has failed, and adds nothing to the list.
+fn refuses_drains<F: Fabric>(
+    rt: &impl Abort,
+    kernel: &mut Kernel<F>,
+    taken: &mut Vec<Change>,
+    bound: u64,
+) {
+    assert!(rt; kernel.is_failed());
+    assert!(rt; 0 < kernel.nets());
+    assert!(rt; kernel.drain_below(0, bound, taken) == Err(KernelFault::Failed));
+    assert!(rt; taken.is_empty());
+}
+
 // The kernel answers to every call that it has failed, whatever is wrong with the call.
-fn has_failed<F: Fabric>(rt: &impl Abort, kernel: &mut Kernel<F>, many: &[Event]) {
+fn has_failed<F: Fabric>(
+    rt: &impl Abort,
+    kernel: &mut Kernel<F>,
+    taken: &mut Vec<Change>,
+    many: &[Event],
+) {
     let failed = Err(KernelFault::Failed);
     assert!(rt; kernel.is_failed());
     assert!(rt; kernel.apply(Advance(0)) == Err(KernelFault::Failed));
@@ -137,6 +156,8 @@ fn has_failed<F: Fabric>(rt: &impl Abort, kernel: &mut Kernel<F>, many: &[Event]
     assert!(rt; kernel.round() == failed);
     assert!(rt; kernel.sweep(&[], 6) == failed);
     assert!(rt; kernel.complete() == failed);
+    refuses_drains(rt, kernel, taken, 0);
+    refuses_drains(rt, kernel, taken, 9);
     assert!(rt; kernel.is_failed());
 }
 
@@ -151,7 +172,7 @@ fn fails_for_good(
     let mut kernel: Kernel<Rationed<0, 0>> = Kernel::new(alloc, design, Horizon::new(5)?)?;
     let first = answer(rt, design, &mut kernel, call);
     assert!(rt; first == Err(KernelFault::Memory));
-    has_failed(rt, &mut kernel, many);
+    has_failed(rt, &mut kernel, &mut Vec::new(alloc), many);
     Ok(())
 }
 

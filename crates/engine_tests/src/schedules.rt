@@ -197,6 +197,8 @@ fn all_exist(rt: &impl Abort, alloc: Global, design: &Design) -> Result<(), Fail
 fn seeded_schedules(rt: HostRuntime) -> Result<(), Fail> {
     let late_pin = LATE_PIN.build(rt.alloc())?;
     all_exist(&rt, rt.alloc(), &late_pin)?;
+    let most = Schedule::seeded(rt.alloc(), 2026, 10_000_000, &late_pin)?;
+    assert!(rt; most.events().len() == 10_000_000);
     for picks in [10_000_001, u64::MAX] {
         let answer = Schedule::seeded(rt.alloc(), 2026, picks, &late_pin);
         is_refused(&rt, answer, ScheduleFault::TooManyEvents);
