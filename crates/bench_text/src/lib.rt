@@ -9,5 +9,6 @@ mod token;
 mod writer;
 
 pub use fault::BenchFault;
+pub use netlist::{Netlist, Part};
 pub use reader::read;
 pub use writer::{push_statement, write};

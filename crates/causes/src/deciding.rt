@@ -82,7 +82,7 @@ pub fn last_tick(changes: &[Change], tick: u64) -> Option<u64>
     requires { TicksRise changes.now }
     ensures { result ≡ last_tick changes.now tick }
 {
-    let due = changes.partition_point(|change| u64::from(change.tick) <= tick);
+    let due = changes.partition_point(|change| change.tick <= tick);
     let change = changes[..due].last()?;
-    Some(u64::from(change.tick))
+    Some(change.tick)
 }

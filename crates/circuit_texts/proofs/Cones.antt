@@ -61,7 +61,7 @@ module _ (netlist : NetlistView) (names : List (List ℕ)) (some : 0 < length na
 
 -- ---- no answer is a failed write
 
-pub never_of_bench : (fault : BenchFault) (dumped : DumpFault) → Dump dumped ≢ sim_of_bench fault
+never_of_bench : (fault : BenchFault) (dumped : DumpFault) → Dump dumped ≢ sim_of_bench fault
 never_of_bench bench.Memory dumped e = cc
 never_of_bench _ dumped e = cc
 

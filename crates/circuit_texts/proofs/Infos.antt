@@ -7,12 +7,7 @@ use Rattle.netlist.specs.Netlist.{NetlistView, name_at}
 use Rattle.fanin_cone.specs.Cone.{IsOutsideOf}
 use Rattle.circuit_info.specs.Text.{IsInfoText}
 use Rattle.circuit_info.proofs.CallerLemmas.{one_info_text}
-use Rattle.vcd_dump.specs.declared.fault.DumpFault.{DumpFault}
-use Rattle.prepared_runs.specs.declared.fault.SimFault.{SimFault}
-use Rattle.prepared_runs.specs.declared.fault.SimFault.TheVariants.{Dump}
-use Rattle.prepared_runs.specs.Faults.{sim_of_bench}
 use Rattle.circuit_texts.specs.InfoText.{IsInfoAnswer, IsInfoOf}
-use Rattle.circuit_texts.proofs.Cones.{never_of_bench}
 use Rattle.circuit_texts.proofs.Members.{same_from_members}
 
 -- what lies outside cones is one list of numbers
@@ -28,7 +23,7 @@ one_info_of netlist a b is other_is =
     let same = one_outside netlist (map (name_at netlist) netlist.outputs) other_is.unobserved is.unobserved other_is.outside is.outside in
     one_info_text netlist is.unobserved a b is.told (subst (λ (nets : List ℕ). IsInfoText netlist nets b) same other_is.told)
 
-pub one_info_answer : (bench : List ℕ) (a b : Result (List ℕ) SimFault) → IsInfoAnswer bench a → IsInfoAnswer bench b → a ≡ b
+pub one_info_answer : (bench : List ℕ) (a b : Result (List ℕ) BenchFault) → IsInfoAnswer bench a → IsInfoAnswer bench b → a ≡ b
 one_info_answer bench a b is other_is = go (netlist_of bench) refl
   where
     go : (read : Result NetlistView BenchFault) → netlist_of bench ≡ read → a ≡ b
@@ -37,22 +32,9 @@ one_info_answer bench a b is other_is = go (netlist_of bench) refl
         let other : (text : List ℕ) × IsInfoOf netlist text × (b ≡ Ok text) = rw found at other_is in
         one.2 ∙ ap (λ text. Ok text) (one_info_of netlist one.0 other.0 one.1 other.1) ∙ sym other.2
     go (Err fault) found =
-        let one : a ≡ Err (sim_of_bench fault) = rw found at is in
-        let other : b ≡ Err (sim_of_bench fault) = rw found at other_is in
+        let one : a ≡ Err fault = rw found at is in
+        let other : b ≡ Err fault = rw found at other_is in
         one ∙ sym other
-
--- no answer is a failed write
-pub IsInfoAnswer-unwritten : (dumped : DumpFault) (bench : List ℕ) → IsInfoAnswer bench (Err (Dump dumped)) → ⊥
-IsInfoAnswer-unwritten dumped bench is = go (netlist_of bench) refl
-  where
-    go : (read : Result NetlistView BenchFault) → netlist_of bench ≡ read → ⊥
-    go (Ok netlist) found =
-        let told : (text : List ℕ) × IsInfoOf netlist text × (◌≡◌ {A = Result (List ℕ) SimFault} (Err (Dump dumped)) (Ok text)) = rw found at is in
-        let never = told.2 in cc
-    go (Err fault) found =
-        let refused : ◌≡◌ {A = Result (List ℕ) SimFault} (Err (Dump dumped)) (Err (sim_of_bench fault)) = rw found at is in
-        let same : Dump dumped ≡ sim_of_bench fault = cc in
-        never_of_bench fault dumped same
 
 -- the nets outside cones are nets
 pub All-outside : (netlist : NetlistView) (names : List (List ℕ)) (nets : List ℕ) → IsOutsideOf netlist names nets →

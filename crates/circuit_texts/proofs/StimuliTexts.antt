@@ -1,5 +1,5 @@
 -- The answer to a request for stimuli, step by step.
-use Rattle.std.proofs.Common.{◌≡◌, ℕ, List, Result, Ok, Err, refl}
+use Rattle.std.proofs.Common.{◌≡◌, ℕ, List, Ok, Err, refl}
 use Rattle.bench_text.specs.declared.fault.BenchFault.{BenchFault}
 use Rattle.bench_text.specs.NetlistOf.{netlist_of}
 use Rattle.netlist.specs.Netlist.{NetlistView}
@@ -7,14 +7,10 @@ use Rattle.timing_text.specs.declared.fault.OptionFault.{OptionFault}
 use Rattle.timing_text.specs.Options.{horizon_of}
 use Rattle.drawn_stimuli.specs.declared.drive.Draws.{Draws}
 use Rattle.drawn_stimuli.specs.declared.fault.DriveFault.{DriveFault}
-use Rattle.drawn_stimuli.specs.declared.fault.DriveFault.TheVariants as drives
 use Rattle.drawn_stimuli.specs.Inputs.{DriveView}
 use Rattle.drawn_stimuli.specs.StimulusText.{stimuli_text}
-use Rattle.prepared_runs.specs.declared.fault.SimFault.{SimFault}
-use Rattle.prepared_runs.specs.declared.fault.SimFault.TheVariants.{Setting}
-use Rattle.circuit_texts.specs.Driven.{stimuli_of_drives}
-use Rattle.prepared_runs.specs.Ends.{IsRefusal}
-use Rattle.prepared_runs.specs.Faults.{sim_of_bench, sim_of_drives}
+use Rattle.circuit_texts.specs.declared.driven_fault.DrivenFault.TheVariants.{Setting}
+use Rattle.circuit_texts.specs.Driven.{driven_of_bench, driven_of_drives, stimuli_of_drives}
 
 module _ (bench : List ℕ) (driven : List DriveView) (draws : Draws) (ticks : ℕ) where
   pub stimuli_of_drives-bad_horizon : (fault : OptionFault) → horizon_of ticks ≡ Err fault → stimuli_of_drives bench driven draws ticks ≡ Err (Setting fault)
@@ -22,22 +18,16 @@ module _ (bench : List ℕ) (driven : List DriveView) (draws : Draws) (ticks : �
   stimuli_of_drives-bad_horizon fault bad = rw bad refl
 
   module _ (horizon : ℕ) (end : horizon_of ticks ≡ Ok horizon) where
-    pub stimuli_of_drives-bad_bench : (fault : BenchFault) → netlist_of bench ≡ Err fault → stimuli_of_drives bench driven draws ticks ≡ Err (sim_of_bench fault)
+    pub stimuli_of_drives-bad_bench : (fault : BenchFault) → netlist_of bench ≡ Err fault → stimuli_of_drives bench driven draws ticks ≡ Err (driven_of_bench fault)
     unfolding stimuli_of_drives
     stimuli_of_drives-bad_bench fault bad = rw (end, bad) refl
 
     module _ (netlist : NetlistView) (read : netlist_of bench ≡ Ok netlist) where
       pub stimuli_of_drives-bad : (fault : DriveFault) → stimuli_text netlist driven draws horizon ≡ Err fault →
-          stimuli_of_drives bench driven draws ticks ≡ Err (sim_of_drives fault)
+          stimuli_of_drives bench driven draws ticks ≡ Err (driven_of_drives fault)
       unfolding stimuli_of_drives
       stimuli_of_drives-bad fault bad = rw (end, read, bad) refl
 
       pub stimuli_of_drives-good : (text : List ℕ) → stimuli_text netlist driven draws horizon ≡ Ok text → stimuli_of_drives bench driven draws ticks ≡ Ok text
       unfolding stimuli_of_drives
       stimuli_of_drives-good text good = rw (end, read, good) refl
-
--- a fault of drives refuses the text, unless it is want of memory
-pub IsRefusal-drives : {A : Type 0} (answer : Result A SimFault) (fault : DriveFault) →
-    (¬ ◌≡◌ {A = DriveFault} fault drives.Memory → answer ≡ Err (sim_of_drives fault)) → IsRefusal answer (sim_of_drives fault)
-IsRefusal-drives answer drives.Memory refused = tt
-IsRefusal-drives answer _ refused = refused (λ e. (cc))

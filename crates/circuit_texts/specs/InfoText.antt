@@ -5,8 +5,6 @@ use Rattle.bench_text.specs.NetlistOf.{netlist_of}
 use Rattle.netlist.specs.Netlist.{NetlistView, name_at}
 use Rattle.fanin_cone.specs.Cone.{IsOutsideOf}
 use Rattle.circuit_info.specs.Text.{IsInfoText}
-use Rattle.prepared_runs.specs.declared.fault.SimFault.{SimFault}
-use Rattle.prepared_runs.specs.Faults.{sim_of_bench}
 
 -- the text that tells what a netlist is, where unobserved are the nets outside the cones of its outputs
 pub record IsInfoOf (netlist : NetlistView) (text : List ℕ) : Type 0 where
@@ -15,9 +13,9 @@ pub record IsInfoOf (netlist : NetlistView) (text : List ℕ) : Type 0 where
   pub told : IsInfoText netlist unobserved text
 
 -- the answer to a netlist's text: its faults come first
-abbrev pub IsInfoAnswer : List ℕ → Result (List ℕ) SimFault → Type 0
+abbrev pub IsInfoAnswer : List ℕ → Result (List ℕ) BenchFault → Type 0
 IsInfoAnswer bench answer = of_netlist (netlist_of bench)
   where
     of_netlist : Result NetlistView BenchFault → Type 0
     of_netlist (Ok netlist) = (text : List ℕ) × IsInfoOf netlist text × (answer ≡ Ok text)
-    of_netlist (Err fault) = answer ≡ Err (sim_of_bench fault)
+    of_netlist (Err fault) = answer ≡ Err fault

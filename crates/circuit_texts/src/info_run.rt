@@ -3,24 +3,22 @@ ghost use Rattle.std.specs.Prelude.{◌≡◌, ◌≢◌, ◌<◌, length, Err, 
 ghost use Rattle.std.specs.Result.{result_map_both};
 ghost use Rattle.text_lines.specs.Text.{longest_text};
 ghost use Rattle.bench_text.specs.declared.fault.BenchFault.TheVariants.{TooLong};
-ghost use Rattle.prepared_runs.specs.declared.fault.SimFault.TheVariants.{Bench};
 ghost use Rattle.circuit_texts.specs.InfoText.{IsInfoAnswer, IsInfoOf};
 
-use bench_text::read;
+use bench_text::{BenchFault, read};
 use circuit_info::info_text;
 use fanin_cone::outside;
 use netlist::Netlist;
-use prepared_runs::SimFault;
 use std::alloc::{AllocError, Global};
 
 /// What a circuit is, as [`circuit_info::info_text`] tells it; unobserved are the nets that no output
 /// hangs on.
 ///
 /// # Errors
-/// [`SimFault::Bench`] where the netlist is refused.
-pub fn info(alloc: Global, bench: &[u8]) -> Result<Vec<u8>, SimFault>
-    ensures at_once { longest_text < length bench.now → result ≡ Err (Bench TooLong) }
-    ensures info { result ≢ Err SimFault.Memory → IsInfoAnswer bench.now
+/// That of [`read`], where the netlist is refused.
+pub fn info(alloc: Global, bench: &[u8]) -> Result<Vec<u8>, BenchFault>
+    ensures at_once { longest_text < length bench.now → result ≡ Err TooLong }
+    ensures info { result ≢ Err BenchFault.Memory → IsInfoAnswer bench.now
         (result_map_both (λ text. text.items) (λ fault. fault) result) }
 {
     let netlist = read(alloc, bench)?;

@@ -8,10 +8,9 @@ use Rattle.std.proofs.lemmas.Option.{slice_get_read, slice_get_within, get_or_fr
 use Rattle.std.specs.List.{range_with_len}
 use Rattle.std.specs.Option.{option_map_or}
 use Rattle.cmb_channels.specs.declared.message.Message.{Message}
-use Rattle.cmb_channels.specs.declared.logs.log.Entry.{Entry}
 use Rattle.design.specs.Pins.{pins_fed}
 use Rattle.cmb_channels.specs.Lists.{sent, taken, most_waiting}
-use Rattle.cmb_channels.specs.Logs.{two_to_64, next_count, past, LogView, empty_log, logs_read_by, written, read_at, unread, IsLog, unread_of, unread_lists, counts_of, AreLogs}
+use Rattle.cmb_channels.specs.Logs.{EntryView, two_to_64, next_count, past, LogView, empty_log, logs_read_by, written, read_at, unread, IsLog, unread_of, unread_lists, counts_of, AreLogs}
 use Rattle.cmb_channels.proofs.Counts.{IsReplaced, replaced-held, replaced-here, replaced-later, count_cons}
 use Rattle.cmb_channels.proofs.OneLog.{log_empty, log_written, unread_written, unread_next, log_read, unread_read, unread_first, left_to_take}
 use Rattle.cmb_channels.proofs.Places.{IsUpdated, update-set, get_of_update, get_update_same, get_update_other, sent-none, taken_at}
@@ -250,7 +249,7 @@ module _ (logs : List LogView) (sources counts : List ℕ) (all : AreLogs logs s
     one_replaced = counts_replaced net sources counts pin count (next_count count) fed has
 
     pub front_read : (message : Message) →
-        Some message ≡ option_map (λ (entry : Entry). entry.message) (slice_get log.entries (past log.cut count)) →
+        Some message ≡ option_map (λ (entry : EntryView). entry.message) (slice_get log.entries (past log.cut count)) →
         slice_index_or (unread_lists logs sources counts) pin []
         ≡ message ∷ slice_index_or (taken pin (unread_lists logs sources counts)) pin []
     front_read message e =
@@ -294,7 +293,7 @@ module _ (logs : List LogView) (sources counts : List ℕ) (all : AreLogs logs s
   pub unread_long : (count : ℕ) → length (unread_of logs net count) ≡ length log.entries - past log.cut count
   unread_long count =
       ap length (unread_is logs net log count at)
-      ∙ length-map (drop (past log.cut count) log.entries) (λ (entry : Entry). entry.message)
+      ∙ length-map (drop (past log.cut count) log.entries) (λ (entry : EntryView). entry.message)
       ∙ length-drop (past log.cut count) log.entries
 
   most_within : (sources counts : List ℕ) → most_waiting net sources (unread_lists logs sources counts) ≤ length log.entries
@@ -343,7 +342,7 @@ module _ (logs : List LogView) (sources counts : List ℕ) (all : AreLogs logs s
   pub kept_is : length log.entries ≡ most_waiting net sources (unread_lists logs sources counts)
   kept_is = go log.entries refl
     where
-      go : (entries : List Entry) → log.entries ≡ entries → length log.entries ≡ most_waiting net sources (unread_lists logs sources counts)
+      go : (entries : List EntryView) → log.entries ≡ entries → length log.entries ≡ most_waiting net sources (unread_lists logs sources counts)
       go [] e = omega (arith, ap length e, most_within sources counts)
       go (entry ∷ entries) e =
           let is = all.logs_are net log at in
@@ -355,7 +354,7 @@ pub some_left : (logs : List LogView) (sources counts : List ℕ) → AreLogs lo
     Reading logs sources counts pin net count log → IfSome (slice_get log.entries (past log.cut count)) (λ entry. 0 < entry.left)
 some_left logs sources counts all pin net count log at = go (slice_get log.entries (past log.cut count)) refl
   where
-    go : (found : Option Entry) → slice_get log.entries (past log.cut count) ≡ found → IfSome found (λ entry. 0 < entry.left)
+    go : (found : Option EntryView) → slice_get log.entries (past log.cut count) ≡ found → IfSome found (λ entry. 0 < entry.left)
     go None e = tt
     go (Some entry) e =
         left_to_take log count count (counts_of net sources counts) _ (all.logs_are net log at.at)

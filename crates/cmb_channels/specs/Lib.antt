@@ -1,6 +1,5 @@
 pub mod Kinds
 pub mod Lists
-pub mod Packing
 pub mod Channels
 pub mod Waiting
 pub mod Logs

@@ -1,9 +1,10 @@
 -- The logs of nets, and what pins have taken of them.
-use Rattle.std.specs.Prelude.{◌≡◌, ℕ, ◌+◌, ◌-◌, ◌%◌, ◌<◌, ◌≤◌, ◌==◌, nat_le, if◌then◌else◌, List, [], ◌∷◌, ◌++◌, length, map, drop, count_by, All, Some, slice_get}
+use Rattle.std.specs.Prelude.{◌≡◌, ℕ, ◌+◌, ◌-◌, ◌%◌, ◌<◌, ◌≤◌, ◌==◌, nat_le, if◌then◌else◌, List, [], ◌∷◌, ◌++◌, length, map, drop, count_by, All, Option, None, Some, slice_get}
 use Rattle.std.specs.List.{range_with_len}
 use Rattle.std.specs.Option.{option_map_or}
+use Rattle.logic3.specs.declared.value.Value.{Value}
 use Rattle.cmb_channels.specs.declared.message.Message.{Message}
-use Rattle.cmb_channels.specs.declared.logs.log.Entry.{Entry}
+use Rattle.cmb_channels.specs.declared.message.Message.TheVariants.{Change as Changes, Null}
 use Rattle.cmb_channels.specs.Lists.{update}
 
 -- ---- counts
@@ -21,11 +22,21 @@ past from count = (count + (two_to_64 - from)) % two_to_64
 
 -- ---- the log of a net
 
+-- a message, and how many pins haven't taken it
+pub record EntryView : Type 0 where
+  pub message : Message
+  pub left : ℕ
+
+-- a message by its tick: a change to a value, or a null message
+abbrev pub said_of : ℕ → Option Value → Message
+said_of tick (Some value) = Changes (record { tick = tick; value = value })
+said_of tick None = Null tick
+
 -- how many pins the net feeds, how many messages were cut away, and those that some pin hasn't taken, the oldest first
 pub record LogView : Type 0 where
   pub readers : ℕ
   pub cut : ℕ
-  pub entries : List Entry
+  pub entries : List EntryView
 
 abbrev pub empty_log : ℕ → LogView
 empty_log readers = record { readers = readers; cut = 0; entries = [] }
@@ -37,11 +48,11 @@ written message log =
     else record log { entries = log.entries ++ record { message = message; left = log.readers } ∷ [] }
 
 -- a pin more has taken the message
-abbrev pub seen : Entry → Entry
+abbrev pub seen : EntryView → EntryView
 seen entry = record entry { left = entry.left - 1 }
 
 -- the log with these entries, less the first where every pin has taken it
-abbrev pub trimmed : LogView → List Entry → LogView
+abbrev pub trimmed : LogView → List EntryView → LogView
 trimmed log [] = record log { entries = [] }
 trimmed log (entry ∷ entries) =
     if entry.left == 0 then record log { cut = next_count log.cut; entries = entries }
@@ -53,7 +64,7 @@ read_at place log = trimmed log (update seen place log.entries)
 
 -- what a pin hasn't taken that has taken so many
 abbrev pub unread : LogView → ℕ → List Message
-unread log count = map (λ (entry : Entry). entry.message) (drop (past log.cut count) log.entries)
+unread log count = map (λ (entry : EntryView). entry.message) (drop (past log.cut count) log.entries)
 
 -- pins that have taken so many messages read this log
 pub record IsLog (log : LogView) (counts : List ℕ) : Type 0 where
@@ -61,10 +72,10 @@ pub record IsLog (log : LogView) (counts : List ℕ) : Type 0 where
   pub readers : log.readers ≡ length counts
   pub within : All (λ count. past log.cut count ≤ length log.entries) counts
   -- each message counts the pins that haven't taken it
-  pub left : (place : ℕ) (entry : Entry) → slice_get log.entries place ≡ Some entry →
+  pub left : (place : ℕ) (entry : EntryView) → slice_get log.entries place ≡ Some entry →
       entry.left ≡ count_by (λ count. nat_le (past log.cut count) place) counts
   -- some pin hasn't taken the first
-  pub first : (entry : Entry) → slice_get log.entries 0 ≡ Some entry → 0 < entry.left
+  pub first : (entry : EntryView) → slice_get log.entries 0 ≡ Some entry → 0 < entry.left
 
 -- ---- the logs of all nets
 

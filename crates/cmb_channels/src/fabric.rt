@@ -3,7 +3,6 @@ ghost use Rattle.design.specs.Circuit.{pin_count};
 ghost use Rattle.design.specs.Pins.{sources_of};
 ghost use Rattle.cmb_channels.specs.declared.message.Message.{Message};
 ghost use Rattle.cmb_channels.specs.Lists.{sent, taken};
-ghost use Rattle.cmb_channels.specs.Packing.{Fits};
 
 use crate::message::Message;
 use design::Design;
@@ -37,12 +36,11 @@ pub trait Fabric: Drop {
         ensures nets { IfOk result (λ fabric. nets fabric ≡ length design.now.circuit) };
 
     /// Puts a message at the end of the list of each pin that the net feeds, and of no other; a net at two
-    /// pins of a gate sends to both. The tick of a message is below 2^30; a run has none above 10,000,001.
+    /// pins of a gate sends to both.
     ///
     /// An `AllocError` leaves all lists as they were: the message went to no pin.
     fn send(&mut self, net: u32, message: Message) -> Result<(), AllocError>
-        requires net { net < nets self.old }
-        requires fits { Fits message }
+        requires { net < nets self.old }
         ensures ok { OnOk result (lists self.new ≡ sent net (message ∷ []) (sources self.old) (lists self.old)) }
         ensures err { OnErr result (lists self.new ≡ lists self.old) }
         ensures pins { length (lists self.new) ≡ length (lists self.old) }

@@ -21,7 +21,6 @@
 mod fabric;
 mod logs;
 mod message;
-mod packed;
 mod queues;
 
 pub use fabric::Fabric;

@@ -1,9 +1,9 @@
 ghost use Rattle.std.specs.Prelude.{◌≡◌, ◌<◌, [], ◌∷◌, length, OnOk, OnErr};
 ghost use Rattle.design.specs.Pins.{pins_fed};
 ghost use Rattle.cmb_channels.specs.Lists.{sent, most_waiting};
-ghost use Rattle.cmb_channels.specs.Packing.{Fits};
 
 mod building;
+mod entry;
 mod log;
 
 use crate::fabric::Fabric;
@@ -18,7 +18,7 @@ use std::marker::Model;
 /// that it has taken. What every pin of the net has taken is cut away.
 ///
 /// Sending, taking and counting take constant time on the whole, however many pins the net feeds. A
-/// message takes eight bytes, for all pins together.
+/// message takes sixteen bytes, for all pins together.
 #[derive(Debug, Drop)]
 pub struct Logs {
     // The net that feeds each pin.
@@ -78,8 +78,7 @@ impl Fabric for Logs {
     }
 
     fn send(&mut self, net: u32, message: Message) -> Result<(), AllocError>
-        requires net { net < self.old.nets }
-        requires fits { Fits message }
+        requires { net < self.old.nets }
         ensures ok { OnOk result (self.new.lists ≡ sent net (message ∷ []) self.old.sources self.old.lists) }
         ensures err { OnErr result (self.new.lists ≡ self.old.lists) }
         ensures pins { length self.new.lists ≡ length self.old.lists }

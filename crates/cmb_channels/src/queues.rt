@@ -3,7 +3,6 @@ mod filling;
 
 use crate::fabric::Fabric;
 use crate::message::Message;
-use crate::packed::Packed;
 use building::{empty_queues, fed_pins};
 use design::Design;
 use filling::{push_at_all, reserve_places};
@@ -14,13 +13,13 @@ use std::marker::Model;
 /// Channels as a queue of waiting messages for each pin.
 ///
 /// Sending takes time in proportion to the pins that the net feeds, taking and counting constant
-/// time. A message takes four bytes at each pin where it waits.
+/// time. A message takes memory at each pin where it waits.
 #[derive(Debug, Drop)]
 pub struct Queues {
     // The pins that each net feeds, in order.
     fed: Vec<Vec<u32>>,
     // What waits at each pin.
-    queues: Vec<VecDeque<Packed>>,
+    queues: Vec<VecDeque<Message>>,
 }
 
 impl Model for Queues {
@@ -63,8 +62,7 @@ impl Fabric for Queues {
     }
 
     fn take(&mut self, pin: u32) -> Option<Message> {
-        let message = self.queues[pin as usize].pop_front()?;
-        Some(message.message())
+        self.queues[pin as usize].pop_front()
     }
 
     fn waiting(&self, pin: u32) -> u64 {

@@ -158,8 +158,10 @@ fn delivery_at(design: &Design, line: u64, net: u32, place: u64) -> Result<Event
     ensures event { result ≡ delivery_at design.now.circuit line net place }
     ensures exists { IfOk result (Exists design.now.circuit) }
 {
+    prove!(net < design.nets());
     if place < design.pins_of(net).len() as u64 {
-        Ok(Event::Deliver(design.pin(net, place as usize)))
+        let place = place as u32;
+        Ok(Event::Deliver(design.pin(net, place)))
     } else {
         Err(ScheduleFault::BadPin { line })
     }

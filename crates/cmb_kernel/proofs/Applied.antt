@@ -1,9 +1,8 @@
 -- What an event makes of the parts of a running kernel.
-use Rattle.std.proofs.Common.{◌≡◌, ℕ, zero, suc, ◌+◌, ◌*◌, ◌<◌, ◌≤◌, ◌==◌, not, Bool, true, false, cond, List, [], ◌∷◌, map, length, drop, sum_by, count_by, All, Some, slice_get, slice_index_or, slice_set, refl, ap, sym, subst, ◌∙◌, arith}
+use Rattle.std.proofs.Common.{◌≡◌, ℕ, zero, suc, ◌+◌, ◌*◌, ◌<◌, ◌≤◌, ◌==◌, not, Bool, true, false, cond, List, [], ◌∷◌, map, length, drop, sum_by, count_by, Some, slice_get, slice_index_or, slice_set, refl, ap, sym, subst, ◌∙◌, arith}
 use Rattle.std.specs.Option.{option_map_or}
 use Rattle.std.proofs.lemmas.Bool.{eqb-true, eqb-false}
 use Rattle.std.proofs.lemmas.List.{map-set, set-get_or}
-use Rattle.std.proofs.lemmas.List.Elements.{All-nil, All-cons}
 use Rattle.std.proofs.lemmas.List.Sums.{sum_by-cons, sum_by-le}
 use Rattle.std.proofs.lemmas.Option.{slice_get-get_or}
 use Rattle.std.proofs.Math.Dec.{eqb-suc-zero}
@@ -20,12 +19,11 @@ use Rattle.cmb_channels.specs.declared.message.Message.{Message}
 use Rattle.cmb_channels.specs.declared.message.Message.TheVariants.{Change as Changes, Null}
 use Rattle.cmb_channels.specs.Kinds.{is_change, is_null}
 use Rattle.cmb_channels.specs.Lists.{update, sent, taken}
-use Rattle.cmb_channels.specs.Packing.{tick_of, Fits}
 use Rattle.cmb_channels.proofs.CallerLemmas.{update-set, taken_at}
 use Rattle.gate_process.specs.Knowledge.{news_of, Tells}
 use Rattle.gate_process.specs.Step.{ProcessState, ProcessView, running, next_frontier, reckoned, advanced, news, heard}
 use Rattle.gate_process.specs.Truth.{CanHear}
-use Rattle.gate_process.proofs.CallerLemmas.{next-end, news_true, no_news, Tells-le}
+use Rattle.gate_process.proofs.CallerLemmas.{next-end, news_true, no_news}
 use Rattle.cmb_kernel.specs.declared.counts.Counts.{Counts}
 use Rattle.cmb_events.specs.declared.event.Event.{Event}
 use Rattle.cmb_events.specs.declared.event.Event.TheVariants.{Deliver, Advance}
@@ -54,18 +52,6 @@ length-Tells signal from to (Null bound ∷ messages) tells =
     let first = tells.0 in
     let rest = length-Tells signal bound to messages tells.2 in
     omega arith
-
--- no message tells of a tick past the last that is told
-Tells-within : (signal : ℕ → Value) (from to : ℕ) (messages : List Message) → Tells signal from to messages →
-    All (λ message. tick_of message ≤ to) messages
-Tells-within signal from to [] tells = All-nil (λ message. tick_of message ≤ to)
-Tells-within signal from to (Changes change ∷ messages) tells =
-    All-cons (λ message. tick_of message ≤ to) (Changes change) messages
-    (let later = Tells-le signal (change.tick + 1) to messages tells.2 in omega arith)
-    (Tells-within signal (change.tick + 1) to messages tells.2)
-Tells-within signal from to (Null bound ∷ messages) tells =
-    All-cons (λ message. tick_of message ≤ to) (Null bound) messages (Tells-le signal bound to messages tells.2)
-    (Tells-within signal bound to messages tells.2)
 
 -- a message is a change or a null
 all_counted : (messages : List Message) → count_by is_change messages + count_by is_null messages ≡ length messages
@@ -126,13 +112,6 @@ module _ {design : DesignView} {end : ℕ} {processes : List ProcessView} {sourc
   next_within net process is =
       let at = (runs_at all net process is).at in
       omega (arith, next-end process.state, all.sound.ends net process.state at)
-
-  -- so channels carry what a net tells
-  pub news_fit : (net : ℕ) (process : ProcessView) → slice_get processes net ≡ Some process →
-      All Fits (news process.state)
-  news_fit net process is = λ k d h.
-      let told = Tells-within _ _ _ (news process.state) (news_tell net process is) k d h in
-      omega (arith, told, next_within net process is, all.within)
 
   -- all messages are no more than the ticks of all nets
   message_bound : counts.changes + counts.nulls ≤ 100_000 * end

@@ -27,6 +27,7 @@ mod fault;
 mod kernel;
 pub mod laws;
 
+pub use cmb_events::{Event, Schedule, ScheduleFault};
 pub use counts::Counts;
 pub use fault::KernelFault;
 pub use kernel::Kernel;

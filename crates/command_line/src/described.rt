@@ -26,6 +26,8 @@ pub(super) enum Takes {
     Nets,
     /// The names of nets, with commas between; it may be given again.
     NetList,
+    /// Such names, in place of the option of this name, which can't be given beside them.
+    NetListFor(&'static str),
     /// What drives an input, in such a form; it may be given again.
     Drives(&'static str),
     Nothing,
@@ -61,12 +63,12 @@ fn with_table<'a>(
 ) -> Result<Command<'a>, AllocError> {
     let mut command = command;
     for option in table {
-        command = command.arg(arg(alloc, option))?;
+        command = command.arg(arg(alloc, option)?)?;
     }
     Ok(command)
 }
 
-fn arg<'a>(alloc: Global, option: &'static Described) -> Arg<'a> {
+fn arg<'a>(alloc: Global, option: &'static Described) -> Result<Arg<'a>, AllocError> {
     let Described(name, takes, absent, help) = *option;
     let arg = Arg::new(alloc, name).help(help);
     let arg = match takes {
@@ -74,16 +76,16 @@ fn arg<'a>(alloc: Global, option: &'static Described) -> Arg<'a> {
         Takes::Fault => arg,
         _ => arg.long(name),
     };
-    let arg = taking(arg, takes);
-    match absent {
+    let arg = taking(arg, takes)?;
+    Ok(match absent {
         Absent::Refused => arg.required(true),
         Absent::Nothing => arg,
         Absent::Default(value) => arg.default_value(value),
-    }
+    })
 }
 
-fn taking<'a>(arg: Arg<'a>, takes: Takes) -> Arg<'a> {
-    match takes {
+fn taking<'a>(arg: Arg<'a>, takes: Takes) -> Result<Arg<'a>, AllocError> {
+    Ok(match takes {
         Takes::File => arg.value_name("FILE"),
         Takes::Number => arg.value_name("N").value_parser(clap::value_parser!(u64)),
         Takes::Word(name, words) => arg
@@ -91,11 +93,15 @@ fn taking<'a>(arg: Arg<'a>, takes: Takes) -> Arg<'a> {
             .value_parser(words)
             .hide_possible_values(true),
         Takes::Net | Takes::Nets | Takes::Fault => arg.value_name("NAME"),
-        Takes::NetList => arg
-            .value_name("NAMES")
-            .value_delimiter(',')
-            .action(ArgAction::Append),
+        Takes::NetList => net_list(arg),
+        Takes::NetListFor(other) => net_list(arg).conflicts_with(other)?,
         Takes::Drives(form) => arg.value_name(form).action(ArgAction::Append),
         Takes::Nothing => arg.action(ArgAction::SetTrue),
-    }
+    })
+}
+
+fn net_list<'a>(arg: Arg<'a>) -> Arg<'a> {
+    arg.value_name("NAMES")
+        .value_delimiter(',')
+        .action(ArgAction::Append)
 }

@@ -1,7 +1,7 @@
 //! The subcommand `draw`: what it takes, and the order that it is.
 use crate::described::{Absent, Described, Takes};
 use crate::help::subcommand_named;
-use crate::options::{ALONE, LENGTH, SHOWN, SOURCE, number_given, show_given, source_given};
+use crate::options::{ALONE, LENGTH, SHOWN, SOURCE, number_given, selection_given, source_given};
 use clap::{ArgMatches, Command};
 use orders::{Order, PickOptions};
 use plain_runs::DiagramView;
@@ -59,7 +59,7 @@ pub(super) fn order_given<'a>(
 fn view_given<'a>(alloc: Global, options: &ArgMatches<'a>) -> Result<DiagramView<'a>, AllocError> {
     let horizon = number_given(options, "horizon");
     Ok(DiagramView {
-        show: show_given(alloc, options)?,
+        show: selection_given(alloc, options)?,
         horizon,
         from: number_given(options, "from"),
         to: options.get_one("to").unwrap_or(horizon),

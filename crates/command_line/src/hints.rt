@@ -12,6 +12,8 @@ enum Tip<'w> {
     Redirect,
     /// The name of an option stands behind one dash.
     TwoDashes(&'w str),
+    /// Nets are named where a word says which are shown.
+    Nets(&'w str),
     /// A number has more than digits.
     Digits,
     /// A number of an option is past 64 bits: the numbers that the option takes.
@@ -49,6 +51,7 @@ fn add_tip(text: &mut String, tip: Tip<'_>) -> Result<(), AllocError> {
         Tip::Deck(file) => write!(text, "a deck is read from standard input: nullsim < {file}"),
         Tip::Redirect => text.push_str("what goes to standard output is put into a file by > FILE"),
         Tip::TwoDashes(name) => write!(text, "options have two dashes: --{name}"),
+        Tip::Nets(names) => write!(text, "nets are shown by their names with --nets {names}"),
         Tip::Digits => text.push_str(
             "a number is a whole one, in digits alone, such as 1000000; ticks have no unit",
         ),
@@ -112,6 +115,9 @@ fn tip_for_name<'w>(name: &'w str, value: Option<&'w str>) -> Option<Tip<'w>> {
     if matches!(name, "out" | "output") {
         return Some(Tip::Redirect);
     }
+    if name == "show" {
+        return tip_for_shown(value?);
+    }
     let range = range_of(name)?;
     let value = value?;
     if value.starts_with("--") || value.parse::<u64>().is_ok() {
@@ -122,6 +128,14 @@ fn tip_for_name<'w>(name: &'w str, value: Option<&'w str>) -> Option<Tip<'w>> {
     } else {
         Some(Tip::Digits)
     }
+}
+
+/// The tip for which nets are to be shown.
+fn tip_for_shown<'w>(value: &'w str) -> Option<Tip<'w>> {
+    if value.is_empty() || value.starts_with('-') || matches!(value, "all" | "outputs") {
+        return None;
+    }
+    Some(Tip::Nets(value))
 }
 
 /// The numbers that an option takes, of a run or of one of two.

@@ -2,7 +2,7 @@
 use crate::described::{Absent, Described, Takes};
 use clap::ArgMatches;
 use orders::{PickOptions, SourceOptions};
-use prepared_runs::{Show, View};
+use prepared_runs::{DumpView, Selection};
 use std::alloc::{AllocError, Global};
 use vcd_dump::TimeUnit;
 
@@ -69,8 +69,10 @@ pub(super) const SCHEDULE: &str =
 
 const HORIZON: &str = "The last tick of the run: 0 to 10000000";
 
-const SHOW: &str = "The nets that are shown: all, outputs, or nets by their names, in this order,\n\
-     such as y,q; a net named all is all, with a comma behind it";
+const SHOW: &str = "The nets that are shown: all or outputs";
+
+const NETS: &str = "The nets that are shown, by their names, in this order, such as y,q; not\n\
+     beside --show";
 
 const UNIT: &str = "What a tick of the dump stands for: s, ms, us, ns, ps or fs";
 
@@ -120,12 +122,15 @@ pub(super) static LENGTH: [Described; 1] = [Described(
 )];
 
 /// What is shown of a run.
-pub(super) static SHOWN: [Described; 1] = [Described(
-    "show",
-    Takes::NetList,
-    Absent::Default("all"),
-    SHOW,
-)];
+pub(super) static SHOWN: [Described; 2] = [
+    Described(
+        "show",
+        Takes::Word("WHICH", &["all", "outputs"]),
+        Absent::Default("all"),
+        SHOW,
+    ),
+    Described("nets", Takes::NetListFor("show"), Absent::Nothing, NETS),
+];
 
 /// What a dump has besides.
 pub(super) static UNITS: [Described; 1] = [Described(
@@ -158,16 +163,17 @@ pub(super) fn source_given<'a>(
     }
 }
 
-/// The nets that are shown. All or the outputs are meant by the one word alone; beside a comma or another
-/// word it is a net's name, and a piece without a byte is none.
-pub(super) fn show_given<'a>(
+/// The nets that are shown: those of some names, where they are given; a piece without a byte is no name.
+pub(super) fn selection_given<'a>(
     alloc: Global,
     options: &ArgMatches<'a>,
-) -> Result<Show<'a>, AllocError> {
-    match options.get_strs("show").unwrap_or(&[]) {
-        ["all"] => Ok(Show::All),
-        ["outputs"] => Ok(Show::Outputs),
-        pieces => Ok(Show::Named(names_in(alloc, pieces)?)),
+) -> Result<Selection<'a>, AllocError> {
+    if let Some(pieces) = options.get_strs("nets") {
+        return Ok(Selection::Named(names_in(alloc, pieces)?));
+    }
+    match options.get_str("show") {
+        Some("outputs") => Ok(Selection::Outputs),
+        _ => Ok(Selection::All),
     }
 }
 
@@ -182,7 +188,7 @@ fn names_in<'a>(alloc: Global, pieces: &[&'a str]) -> Result<Vec<&'a [u8]>, Allo
 pub(super) fn view_given<'a>(
     alloc: Global,
     options: &ArgMatches<'a>,
-) -> Result<View<'a>, AllocError> {
+) -> Result<DumpView<'a>, AllocError> {
     let unit = match options.get_str("unit") {
         Some("s") => TimeUnit::S,
         Some("ms") => TimeUnit::Ms,
@@ -191,9 +197,9 @@ pub(super) fn view_given<'a>(
         Some("fs") => TimeUnit::Fs,
         _ => TimeUnit::Ns,
     };
-    Ok(View {
+    Ok(DumpView {
         horizon: number_given(options, "horizon"),
-        show: show_given(alloc, options)?,
+        show: selection_given(alloc, options)?,
         unit,
     })
 }

@@ -18,6 +18,7 @@ use Rattle.decks.specs.DeckRun.{DeckEndsBy, DeckMayWantMemory, deck_of_text, dum
 use Rattle.prepared_runs.specs.Ends.{WritesPart, RunEndsBy}
 use Rattle.prepared_runs.specs.declared.view.View.{View}
 use Rattle.prepared_runs.specs.Source.{SourceView, MayWantMemory, design_of_source, or_fault, dump_of_design}
+use Rattle.prepared_runs.specs.Views.{dump_view}
 use Rattle.deck_text.specs.Seen.{held, on_sections}
 use Rattle.runs.specs.Simulated.{dump_in, simulated}
 use Rattle.prepared_runs.specs.Prepared.{run_of_source}
@@ -32,30 +33,30 @@ horizon_of-held horizon = go (cases_lt most_ticks horizon)
     go (inr within) = let same : min (2 ^ 64 - 1) horizon ≡ horizon = omega arith in ap horizon_of same
 
 -- so the sections as the code holds them have the same answer
-simulated-held : (s : Sections) → simulated (source_of_deck (held s)) (view_of_deck (held s)) ≡ simulated (source_of_deck s) (view_of_deck s)
+simulated-held : (s : Sections) → simulated (source_of_deck (held s)) (dump_view (view_of_deck (held s))) ≡ simulated (source_of_deck s) (dump_view (view_of_deck s))
 unfolding simulated run_of_source design_of_source dump_of_design
 simulated-held s = rw (horizon_of-held s.horizon) refl
 
 -- the answer to a deck whose sections the code found
 pub simulated_deck-sections : (bytes : List ℕ) (found : Sections) → on_sections held (sections_of bytes) ≡ Ok found →
-    simulated_deck bytes ≡ or_fault Sim (simulated (source_of_deck found) (view_of_deck found))
+    simulated_deck bytes ≡ or_fault Sim (simulated (source_of_deck found) (dump_view (view_of_deck found)))
 unfolding simulated_deck
 simulated_deck-sections bytes found is = go (sections_of bytes) is
   where
     go : (sections : Result Sections DeckTextFault) → on_sections held sections ≡ Ok found →
-        (or_fault deck_of_text sections >>= λ s. or_fault Sim (simulated (source_of_deck s) (view_of_deck s)))
-        ≡ or_fault Sim (simulated (source_of_deck found) (view_of_deck found))
+        (or_fault deck_of_text sections >>= λ s. or_fault Sim (simulated (source_of_deck s) (dump_view (view_of_deck s))))
+        ≡ or_fault Sim (simulated (source_of_deck found) (dump_view (view_of_deck found)))
     go (Ok s) e =
         let same : held s ≡ found = cc in
-        ap (or_fault Sim) (sym (simulated-held s) ∙ ap (λ (d : Sections). simulated (source_of_deck d) (view_of_deck d)) same)
+        ap (or_fault Sim) (sym (simulated-held s) ∙ ap (λ (d : Sections). simulated (source_of_deck d) (dump_view (view_of_deck d))) same)
     go (Err fault) e = cc
 
 -- by a run that says the same
 pub simulated_deck-run : (bytes : List ℕ) (found : Sections) (source : SourceView) (view : View) → on_sections held (sections_of bytes) ≡ Ok found →
-    source ≡ source_of_deck found → view ≡ view_of_deck found → simulated_deck bytes ≡ or_fault Sim (simulated source view)
+    source ≡ source_of_deck found → view ≡ view_of_deck found → simulated_deck bytes ≡ or_fault Sim (simulated source (dump_view view))
 simulated_deck-run bytes found source view is same_source same_view =
-    simulated_deck-sections bytes found is ∙ ap (λ s. or_fault Sim (simulated s (view_of_deck found))) (sym same_source)
-    ∙ ap (λ v. or_fault Sim (simulated source v)) (sym same_view)
+    simulated_deck-sections bytes found is ∙ ap (λ s. or_fault Sim (simulated s (dump_view (view_of_deck found)))) (sym same_source)
+    ∙ ap (λ (v : View). or_fault Sim (simulated source (dump_view v))) (sym same_view)
 
 -- the answer to a text in which it found none
 dump_of_deck-bad_text : (bytes : List ℕ) (fault : DeckTextFault) → on_sections held (sections_of bytes) ≡ Err fault →
@@ -64,7 +65,7 @@ unfolding simulated_deck
 dump_of_deck-bad_text bytes fault is = go (sections_of bytes) is
   where
     go : (sections : Result Sections DeckTextFault) → on_sections held sections ≡ Err fault →
-        dump_in (or_fault deck_of_text sections >>= λ s. or_fault Sim (simulated (source_of_deck s) (view_of_deck s))) ≡ Err (deck_of_text fault)
+        dump_in (or_fault deck_of_text sections >>= λ s. or_fault Sim (simulated (source_of_deck s) (dump_view (view_of_deck s)))) ≡ Err (deck_of_text fault)
     go (Ok s) e = cc
     go (Err other) e = let same : other ≡ fault = cc in ap (λ f. Err (deck_of_text f)) same
 

@@ -17,6 +17,7 @@ use Rattle.prepared_runs.specs.Ends.{WritesPart}
 use Rattle.prepared_runs.specs.Events.{text}
 use Rattle.runs.specs.Simulated.{dump_in, simulated}
 use Rattle.prepared_runs.specs.Source.{SourceView, or_fault, MayWantMemory}
+use Rattle.prepared_runs.specs.Views.{dump_view}
 use Rattle.program_io.specs.declared.program_fault.ProgramFault.{ProgramFault}
 use Rattle.program_io.specs.declared.program_fault.ProgramFault.TheVariants.{Deck}
 use Rattle.program_io.specs.ProgramFaults.{fault_of_run}
@@ -47,7 +48,7 @@ deck_of_text (no_deck.BadDeck line) = BadDeck line
 unfoldable pub simulated_deck : List ℕ → Result (List ℕ × Report) DeckFault
 simulated_deck bytes = do
   sections ← or_fault deck_of_text (sections_of bytes)
-  or_fault Sim (simulated (source_of_deck sections) (view_of_deck sections))
+  or_fault Sim (simulated (source_of_deck sections) (dump_view (view_of_deck sections)))
 
 -- the dump alone
 abbrev pub dump_of_deck : List ℕ → Result (List ℕ) DeckFault

@@ -100,7 +100,7 @@ pub(crate) fn deck_in_sweeps<W: Write>(
 }
 
 /// What the sections of a deck run, and what its dump shows.
-fn run_of(sections: Sections<'_>) -> (Source<'_>, View<'static>)
+fn run_of(sections: Sections<'_>) -> (Source<'_>, View)
     ensures source { seen_source result.0 ≡ source_of_deck (seen_sections sections.entry) }
     ensures view { result.1 ≡ view_of_deck (seen_sections sections.entry) }
 {

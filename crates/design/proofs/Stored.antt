@@ -1,6 +1,7 @@
 -- What a design's stored parts say of it.
 use Rattle.std.proofs.Common.{◌≡◌, ℕ, ◌+◌, ◌<◌, ◌≤◌, List, [], ◌∷◌, ◌++◌, length, map, get_or, option_map, Some, slice_get, refl, ap, sym, ◌∙◌, subst, arith}
 use Rattle.std.specs.List.{sum_by}
+use Rattle.std.specs.Option.{ForSome}
 use Rattle.std.proofs.lemmas.List.{length-map}
 use Rattle.std.proofs.lemmas.List.Sums.{sum_by-cons}
 use Rattle.std.proofs.lemmas.Simd.{map-map}
@@ -13,6 +14,7 @@ use Rattle.design.specs.Joined.{design_view, starts_from, IsJoined}
 use Rattle.design.specs.Pins.{sources_of, all_fed, first_pin}
 use Rattle.design.proofs.FedPins.{length-all_fed}
 use Rattle.design.proofs.Joined.{get_part, first_part, second_part, timings-timed_nets, stimuli-timed_nets}
+use Rattle.design.proofs.Numbers.{pin_within}
 use Rattle.design.proofs.Starts.{length-starts_from, get_or-starts_from}
 
 -- ---- of any design
@@ -34,6 +36,14 @@ pub pin_limit : (design : DesignView) → IsDesign design → pin_count design.c
 pin_limit design ok =
     let same = sym (pin_count-untimed design.circuit) ∙ ap (sum_by (λ (net : NetView). length net.pins)) ok.same_nets in
     let limit = ok.netlist.pin_limit in
+    omega arith
+
+-- the places of a net's pins are few
+pub place_limit : (design : DesignView) → IsDesign design → (net place : ℕ) → net < length design.circuit →
+    ForSome (slice_get design.circuit net) (λ (n : Net). place < length n.pins) → place < 1_000_000
+place_limit design ok net place within inside =
+    let below = pin_within design.circuit net place within inside in
+    let limit = pin_limit design ok in
     omega arith
 
 pins_by_net : (design : DesignView) → IsDesign design →

@@ -112,13 +112,13 @@ impl Design {
     }
 
     /// The number of a net's pin, by its place among the pins of the net.
-    pub fn pin(&self, net: u32, place: usize) -> u32
+    pub fn pin(&self, net: u32, place: u32) -> u32
         requires net { net < length self.now.circuit }
         requires place { ForSome (slice_get self.now.circuit net) (λ (n : Net). place < length n.pins) }
         ensures pin { result ≡ first_pin self.now.circuit net + place }
         ensures within { result < pin_count self.now.circuit }
     {
-        self.first_pins[net as usize] + place as u32
+        self.first_pins[net as usize] + place
     }
 
     /// The number of the net that a pin belongs to. Takes logarithmic time.

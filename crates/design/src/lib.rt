@@ -15,3 +15,4 @@ pub use order::flow_order;
 pub use plain::plain_waves;
 pub use samples::{asked_tick, first_asker};
 pub use segments::{Segment, segments_of};
+pub use timing_text::{DelayFault, Horizon, OptionFault, StimulusFault, options};

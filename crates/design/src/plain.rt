@@ -82,10 +82,7 @@ fn extend(wave: &mut Waveform, tick: u64, value: Value) -> Result<(), AllocError
         (if is_same value (last_value wave.old) then [] else record { tick = tick; value = value } ∷ [])) }
 {
     if value != wave.last_value() {
-        wave.push(Change {
-            tick: tick as u32,
-            value,
-        })?;
+        wave.push(Change { tick, value })?;
     }
     Ok(())
 }

@@ -1,6 +1,6 @@
 //! Dumps and streams of them: a first part of the text is out, and a stream has failed.
-ghost use Rattle.std.specs.Prelude.{◌≡◌, ◌+◌, ◌<◌, ◌≤◌, [], ◌∷◌, false, true, OnOk, OnErr};
-ghost use Rattle.vcd_dump.specs.Spans.{with_parts, spanned, IsPart};
+ghost use Rattle.std.specs.Prelude.{◌≡◌, ◌+◌, ◌<◌, ◌≤◌, [], ◌∷◌, false, true, length, All, IfOk, IfSome, OnOk, OnErr};
+ghost use Rattle.vcd_dump.specs.Spans.{begun, with_parts, spanned, changes_in, IsPart};
 
 use crate::following::Follower;
 use crate::telling::Teller;
@@ -8,7 +8,7 @@ use crate::texts::oscillator;
 use Value::{One, Zero};
 use design::Design;
 use logic3::{Change, Value, Waveform};
-use std::alloc::Global;
+use std::alloc::{AllocError, Global};
 use std::io::Write;
 use timing_text::Horizon;
 use vcd_dump::{DumpFault, Stream, TimeUnit, dump};
@@ -55,7 +55,8 @@ pub(crate) fn probe<W: Write>(alloc: Global, teller: &mut Teller<W>) -> Option<(
     let design = oscillator(alloc, teller)?;
     let horizon = Horizon::new(12).ok()?;
     still(alloc, teller, &design, horizon)?;
-    stream(alloc, teller, &design, horizon)
+    at_once(alloc, teller, &design, horizon)?;
+    net_by_net(alloc, teller, &design, horizon)
 }
 
 fn still<W: Write>(
@@ -81,34 +82,86 @@ fn still<W: Write>(
     }
 }
 
-/// A stream of both nets in one span.
-fn stream<W: Write>(
+/// A stream of both nets in one span, which is given at once.
+fn at_once<W: Write>(
     alloc: Global,
     teller: &mut Teller<W>,
     design: &Design,
     horizon: Horizon,
 ) -> Option<()> {
-    let nets = design.nets();
-    if nets < 2 || horizon.ticks() != 12 {
-        return None;
-    }
+    let parts = teller.told("parts of a span", parts(alloc))?;
     let mut out = Follower::of(OSCILLATOR_DUMP);
-    let mut stream = match Stream::begin(alloc, &mut out, design, &[0, 1], horizon, TimeUnit::Ns) {
-        Ok(stream) => stream,
-        Err(fault) => {
-            teller.refused("Stream::begin", fault == DumpFault::Memory && out.follows());
-            return None;
-        }
-    };
-    match write_both(&mut stream, &mut out, 13, &ENABLE, &TURNING) {
+    let mut stream = begin(alloc, teller, design, horizon, &mut out)?;
+    match stream.span(&mut out, 13, &parts) {
         Ok(()) => teller.fine("Stream::span", out.follows())?,
         Err(fault) => {
             let holds = fault == DumpFault::Memory && out.follows() && has_failed(stream, &mut out);
-            teller.refused("Stream::part and span", holds);
+            teller.refused("Stream::span", holds);
             return None;
         }
     }
-    match stream.finish(&mut out) {
+    finish(teller, stream, &mut out)
+}
+
+/// A stream of both nets in one span, which is given net by net.
+fn net_by_net<W: Write>(
+    alloc: Global,
+    teller: &mut Teller<W>,
+    design: &Design,
+    horizon: Horizon,
+) -> Option<()> {
+    let mut out = Follower::of(OSCILLATOR_DUMP);
+    let mut stream = begin(alloc, teller, design, horizon, &mut out)?;
+    match write_both(&mut stream, &mut out, 13, &ENABLE, &TURNING) {
+        Ok(()) => teller.fine("Stream::write_parts", out.follows())?,
+        Err(fault) => {
+            let holds = fault == DumpFault::Memory && out.follows() && has_failed(stream, &mut out);
+            teller.refused("Stream::part and write_parts", holds);
+            return None;
+        }
+    }
+    finish(teller, stream, &mut out)
+}
+
+/// What both nets show.
+fn parts(alloc: Global) -> Result<[Vec<Change>; 2], AllocError>
+    ensures each { IfOk result (λ parts. All (IsPart 0 13) (changes_in parts)) }
+    ensures both { IfOk result (λ parts. length (changes_in parts) ≡ 2) }
+{
+    let mut enable = Vec::new(alloc);
+    let mut turning = Vec::new(alloc);
+    enable.extend_from_slice(&ENABLE)?;
+    turning.extend_from_slice(&TURNING)?;
+    Ok([enable, turning])
+}
+
+/// A stream of both nets.
+fn begin<W: Write>(
+    alloc: Global,
+    teller: &mut Teller<W>,
+    design: &Design,
+    horizon: Horizon,
+    out: &mut Follower,
+) -> Option<Stream>
+    ensures { IfSome result (λ stream. stream ≡ begun 2 12) }
+{
+    if design.nets() < 2 || horizon.ticks() != 12 {
+        return None;
+    }
+    match Stream::begin(alloc, out, design, &[0, 1], horizon, TimeUnit::Ns) {
+        Ok(stream) => Some(stream),
+        Err(fault) => {
+            teller.refused("Stream::begin", fault == DumpFault::Memory && out.follows());
+            None
+        }
+    }
+}
+
+/// The end of a stream that wrote all spans.
+fn finish<W: Write>(teller: &mut Teller<W>, stream: Stream, out: &mut Follower) -> Option<()>
+    requires { stream.failed ≡ false → stream.written ≡ stream.horizon + 1 }
+{
+    match stream.finish(out) {
         Ok(()) => teller.fine("Stream::finish", out.is_whole()),
         Err(fault) => {
             teller.refused(
@@ -141,7 +194,7 @@ fn write_both<W: Write>(
 {
     stream.part(first)?;
     stream.part(second)?;
-    stream.span(out, upto)
+    stream.write_parts(out, upto)
 }
 
 /// Whether a stream answers that it has failed, and writes nothing more.
@@ -150,7 +203,8 @@ fn has_failed(mut stream: Stream, out: &mut Follower) -> bool
 {
     let left = out.left();
     stream.part(&ENABLE) == Err(DumpFault::Failed)
-        && stream.span(out, 13) == Err(DumpFault::Failed)
+        && stream.write_parts(out, 13) == Err(DumpFault::Failed)
+        && stream.span(out, 13, &[]) == Err(DumpFault::Failed)
         && stream.finish(out) == Err(DumpFault::Failed)
         && out.left() == left
 }

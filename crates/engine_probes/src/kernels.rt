@@ -24,7 +24,8 @@ fn over<F: Fabric, W: Write>(alloc: Global, teller: &mut Teller<W>, design: &Des
     by_lists::<F, W>(alloc, teller, design)?;
     by_rounds::<F, W>(alloc, teller, design)?;
     by_sweeps::<F, W>(alloc, teller, design)?;
-    drained::<F, W>(alloc, teller, design)
+    drained::<F, W>(alloc, teller, design)?;
+    drained_into::<F, W>(alloc, teller, design)
 }
 
 /// A kernel to which nothing happened.
@@ -164,7 +165,7 @@ fn by_sweeps<F: Fabric, W: Write>(
     teller.fine("Kernel::sweep", !kernel.is_failed())
 }
 
-/// The changes of every net of a complete run, taken out onto one list.
+/// The changes of every net of a complete run, taken out net by net.
 fn drained<F: Fabric, W: Write>(
     alloc: Global,
     teller: &mut Teller<W>,
@@ -173,9 +174,8 @@ fn drained<F: Fabric, W: Write>(
     let mut kernel: Kernel<F> = fresh(alloc, teller, design)?;
     let answer = kernel.complete();
     ended(alloc, teller, "Kernel::complete", &mut kernel, answer)?;
-    let mut changes = Vec::new(alloc);
     for net in 0..design.nets() {
-        drain(teller, &mut kernel, net, &mut changes)?;
+        drain(teller, &mut kernel, net)?;
     }
     teller.fine("Kernel::drain_below", !kernel.is_failed())
 }
@@ -186,7 +186,6 @@ fn drain<F: Fabric, W: Write>(
     teller: &mut Teller<W>,
     kernel: &mut Kernel<F>,
     net: u32,
-    changes: &mut Vec<Change>,
 ) -> Option<()>
     requires { net < length kernel.old.circuit }
     ensures { kernel.new.circuit ≡ kernel.old.circuit }
@@ -200,18 +199,68 @@ fn drain<F: Fabric, W: Write>(
         return teller.fine("Kernel::drain_below", false);
     }
     let wave = teller.told("Waveform::copy", kernel.waveform(net).copy())?;
+    if let Ok(changes) = kernel.drain_below(net, bound) {
+        return teller.fine("Kernel::drain_below", changes.as_slice() == wave.changes());
+    }
+    let same = !kernel.is_failed() && kernel.floor(net) == floor && *kernel.waveform(net) == wave;
+    let again = same
+        && kernel
+            .drain_below(net, bound)
+            .is_ok_and(|changes| changes.as_slice() == wave.changes());
+    teller.refused("Kernel::drain_below", again);
+    None
+}
+
+/// The changes of every net of a complete run, taken out onto one list.
+fn drained_into<F: Fabric, W: Write>(
+    alloc: Global,
+    teller: &mut Teller<W>,
+    design: &Design,
+) -> Option<()> {
+    let mut kernel: Kernel<F> = fresh(alloc, teller, design)?;
+    let answer = kernel.complete();
+    ended(alloc, teller, "Kernel::complete", &mut kernel, answer)?;
+    let mut changes = Vec::new(alloc);
+    for net in 0..design.nets() {
+        drain_into(teller, &mut kernel, net, &mut changes)?;
+    }
+    teller.fine("Kernel::drain_below_into", !kernel.is_failed())
+}
+
+/// As `drain`, onto a list.
+fn drain_into<F: Fabric, W: Write>(
+    teller: &mut Teller<W>,
+    kernel: &mut Kernel<F>,
+    net: u32,
+    changes: &mut Vec<Change>,
+) -> Option<()>
+    requires { net < length kernel.old.circuit }
+    ensures { kernel.new.circuit ≡ kernel.old.circuit }
+{
+    if kernel.is_failed() {
+        return teller.fine("Kernel::drain_below_into", false);
+    }
+    let bound = kernel.least_frontier();
+    let floor = kernel.floor(net);
+    if bound < floor {
+        return teller.fine("Kernel::drain_below_into", false);
+    }
+    let wave = teller.told("Waveform::copy", kernel.waveform(net).copy())?;
     let before = changes.len();
-    if kernel.drain_below(net, bound, changes).is_ok() {
-        return teller.fine("Kernel::drain_below", changes.ends_with(wave.changes()));
+    if kernel.drain_below_into(net, bound, changes).is_ok() {
+        return teller.fine(
+            "Kernel::drain_below_into",
+            changes.ends_with(wave.changes()),
+        );
     }
     let same = !kernel.is_failed()
         && kernel.floor(net) == floor
         && changes.len() == before
         && *kernel.waveform(net) == wave;
     let again = same
-        && kernel.drain_below(net, bound, changes).is_ok()
+        && kernel.drain_below_into(net, bound, changes).is_ok()
         && changes.ends_with(wave.changes())
         && changes.len() == before + wave.changes().len();
-    teller.refused("Kernel::drain_below", again);
+    teller.refused("Kernel::drain_below_into", again);
     None
 }

@@ -33,7 +33,7 @@ impl<'d> Listener<'d> {
         }
         let known = self.process.received(0);
         let last = self.process.last(0);
-        let tick = u64::from(change.tick);
+        let tick = change.tick;
         if tick < known || self.end <= tick || change.value == last {
             return None;
         }
@@ -49,19 +49,39 @@ impl<'d> Listener<'d> {
     }
 
     /// What the process answers that advances; None where it has failed.
-    fn advance(&mut self, news: &mut Vec<Message>) -> Option<Result<(), AllocError>> {
+    fn advance(&mut self) -> Option<Result<Vec<Message>, AllocError>> {
         if self.process.is_failed() {
             return None;
         }
-        Some(self.process.advance(news))
+        Some(self.process.advance())
+    }
+
+    /// What the process answers that advances, and puts what it tells in a list; None where it has failed.
+    fn advance_into(&mut self, news: &mut Vec<Message>) -> Option<Result<(), AllocError>> {
+        if self.process.is_failed() {
+            return None;
+        }
+        Some(self.process.advance_into(news))
     }
 
     /// What the process answers that takes out its changes before a tick; None where it can't.
-    fn drain(&mut self, bound: u64, changes: &mut Vec<Change>) -> Option<Result<(), AllocError>> {
+    fn drain(&mut self, bound: u64) -> Option<Result<Vec<Change>, AllocError>> {
         if self.process.is_failed() || self.process.frontier() < bound {
             return None;
         }
-        Some(self.process.drain_below(bound, changes))
+        Some(self.process.drain_below(bound))
+    }
+
+    /// What the process answers that takes out its changes before a tick onto a list; None where it can't.
+    fn drain_into(
+        &mut self,
+        bound: u64,
+        changes: &mut Vec<Change>,
+    ) -> Option<Result<(), AllocError>> {
+        if self.process.is_failed() || self.process.frontier() < bound {
+            return None;
+        }
+        Some(self.process.drain_below_into(bound, changes))
     }
 
     /// The tick before which its changes were taken out.
@@ -113,7 +133,7 @@ impl<'d> Hearers<'d> {
         }
         let known = process.received(0);
         let last = process.last(0);
-        let tick = u64::from(change.tick);
+        let tick = change.tick;
         if tick < known || self.end <= tick || change.value == last {
             return None;
         }
@@ -131,36 +151,61 @@ impl<'d> Hearers<'d> {
 }
 
 /// The ticks at which the pin changes, from 0 to 1 and back.
-const TICKS: [u32; 10] = [0, 3, 4, 7, 9, 12, 15, 20, 28, 36];
+const TICKS: [u64; 10] = [0, 3, 4, 7, 9, 12, 15, 20, 28, 36];
 
 /// Probes the process of an inverter, and the processes of a design.
 pub(crate) fn probe<W: Write>(alloc: Global, teller: &mut Teller<W>) -> Option<()> {
     let design = inverter(alloc, teller)?;
     let horizon = Horizon::new(40).ok()?;
-    one(alloc, teller, &design, horizon)?;
+    answers(alloc, teller, &design, horizon)?;
+    fills(alloc, teller, &design, horizon)?;
     all_hear(alloc, teller, &design, horizon)?;
     all(alloc, teller, &design, horizon)
 }
 
-fn one<W: Write>(
+/// A process that answers lists.
+fn answers<W: Write>(
     alloc: Global,
     teller: &mut Teller<W>,
     design: &Design,
     horizon: Horizon,
 ) -> Option<()> {
+    let mut listener = listener(alloc, teller, design, horizon)?;
+    hears(teller, &mut listener)?;
+    advances(teller, &mut listener)?;
+    drains(teller, &mut listener)
+}
+
+/// A process that fills the lists which it is handed.
+fn fills<W: Write>(
+    alloc: Global,
+    teller: &mut Teller<W>,
+    design: &Design,
+    horizon: Horizon,
+) -> Option<()> {
+    let mut listener = listener(alloc, teller, design, horizon)?;
+    hears(teller, &mut listener)?;
+    advances_into(alloc, teller, &mut listener)?;
+    drains_into(alloc, teller, &mut listener)
+}
+
+/// The process of the inverter's output.
+fn listener<'d, W: Write>(
+    alloc: Global,
+    teller: &mut Teller<W>,
+    design: &'d Design,
+    horizon: Horizon,
+) -> Option<Listener<'d>> {
     let net = design.find(b"y")?;
     if net >= design.nets() {
         return None;
     }
     let process = Process::new(alloc, design, net, horizon);
-    let mut listener = Listener {
+    Some(Listener {
         process: teller.told("Process::new", process)?,
         pins: design.pins_of(net).len(),
         end: horizon.ticks() + 1,
-    };
-    hears(teller, &mut listener)?;
-    advances(alloc, teller, &mut listener)?;
-    drains(alloc, teller, &mut listener)
+    })
 }
 
 /// Hears of so many changes that what is known of the pin grows, and grows again.
@@ -181,24 +226,51 @@ fn hears<W: Write>(teller: &mut Teller<W>, listener: &mut Listener<'_>) -> Optio
     teller.fine("Process::receive", (known, last) == (37, One))
 }
 
-fn advances<W: Write>(
-    alloc: Global,
-    teller: &mut Teller<W>,
-    listener: &mut Listener<'_>,
-) -> Option<()> {
-    let mut news = Vec::new(alloc);
-    if listener.advance(&mut news)?.is_err() {
+fn advances<W: Write>(teller: &mut Teller<W>, listener: &mut Listener<'_>) -> Option<()> {
+    let Ok(news) = listener.advance()? else {
         teller.refused("Process::advance", listener.process.is_failed());
         return None;
-    }
+    };
     teller.fine(
         "Process::advance",
         !listener.process.is_failed() && news.len() == 10,
     )
 }
 
+fn advances_into<W: Write>(
+    alloc: Global,
+    teller: &mut Teller<W>,
+    listener: &mut Listener<'_>,
+) -> Option<()> {
+    let mut news = Vec::new(alloc);
+    if listener.advance_into(&mut news)?.is_err() {
+        teller.refused("Process::advance_into", listener.process.is_failed());
+        return None;
+    }
+    teller.fine(
+        "Process::advance_into",
+        !listener.process.is_failed() && news.len() == 10,
+    )
+}
+
+/// Takes out some changes, and then the others.
+fn drains<W: Write>(teller: &mut Teller<W>, listener: &mut Listener<'_>) -> Option<()> {
+    for (bound, count) in [(6, 3), (38, 7)] {
+        let floor = listener.floor()?;
+        let Ok(changes) = listener.drain(bound)? else {
+            let same = listener.floor()? == floor;
+            let again = listener.drain(bound)?;
+            let whole = again.is_ok_and(|changes| changes.len() == count);
+            teller.refused("Process::drain_below", same && whole);
+            return None;
+        };
+        teller.fine("Process::drain_below", changes.len() == count)?;
+    }
+    Some(())
+}
+
 /// Takes out some changes, and then the others, onto a list that must grow for each.
-fn drains<W: Write>(
+fn drains_into<W: Write>(
     alloc: Global,
     teller: &mut Teller<W>,
     listener: &mut Listener<'_>,
@@ -206,16 +278,16 @@ fn drains<W: Write>(
     let mut changes = Vec::new(alloc);
     for (bound, taken) in [(6, 3), (38, 10)] {
         let before = (changes.len(), listener.floor()?);
-        if listener.drain(bound, &mut changes)?.is_err() {
+        if listener.drain_into(bound, &mut changes)?.is_err() {
             let same = (changes.len(), listener.floor()?) == before;
-            let again = matches!(listener.drain(bound, &mut changes), Some(Ok(())));
+            let again = matches!(listener.drain_into(bound, &mut changes), Some(Ok(())));
             teller.refused(
-                "Process::drain_below",
+                "Process::drain_below_into",
                 same && again && changes.len() == taken,
             );
             return None;
         }
-        teller.fine("Process::drain_below", changes.len() == taken)?;
+        teller.fine("Process::drain_below_into", changes.len() == taken)?;
     }
     Some(())
 }
@@ -276,21 +348,21 @@ fn hand_out<W: Write>(
         return None;
     }
     let mut news = Vec::new(alloc);
-    if processes.advance(0, &mut news).is_err() {
-        teller.refused("Processes::advance", processes.of_net(0).is_failed());
+    if processes.advance_into(0, &mut news).is_err() {
+        teller.refused("Processes::advance_into", processes.of_net(0).is_failed());
         return None;
     }
-    teller.fine("Processes::advance", news.len() == 3)?;
+    teller.fine("Processes::advance_into", news.len() == 3)?;
     let mut changes = Vec::new(alloc);
     let bound = processes.of_net(0).frontier();
-    if processes.drain_below(0, bound, &mut changes).is_err() {
+    if processes.drain_below_into(0, bound, &mut changes).is_err() {
         let same = changes.is_empty() && processes.of_net(0).floor() == 0;
-        let again = processes.drain_below(0, bound, &mut changes).is_ok();
+        let again = processes.drain_below_into(0, bound, &mut changes).is_ok();
         teller.refused(
-            "Processes::drain_below",
+            "Processes::drain_below_into",
             same && again && changes.len() == 2,
         );
         return None;
     }
-    teller.fine("Processes::drain_below", changes.len() == 2)
+    teller.fine("Processes::drain_below_into", changes.len() == 2)
 }

@@ -34,8 +34,9 @@ pub(crate) fn probe<W: Write>(alloc: Global, teller: &mut Teller<W>) -> Option<(
     let queue = queue(alloc, teller)?;
     teller.told("ChangeQueue::copy", queue.copy())?;
     let mut wave = wave(alloc, teller)?;
-    teller.told("Waveform::copy", wave.copy())?;
-    split(alloc, teller, &mut wave)
+    let mut copy = teller.told("Waveform::copy", wave.copy())?;
+    split(teller, &mut copy)?;
+    split_into(alloc, teller, &mut wave)
 }
 
 fn queue<W: Write>(alloc: Global, teller: &mut Teller<W>) -> Option<ChangeQueue> {
@@ -75,21 +76,38 @@ fn wave<W: Write>(alloc: Global, teller: &mut Teller<W>) -> Option<Waveform> {
     Some(wave)
 }
 
+/// Splits off one change, and then the others.
+fn split<W: Write>(teller: &mut Teller<W>, wave: &mut Waveform) -> Option<()> {
+    for (tick, first, end) in [(2, 0, 1), (10, 1, 5)] {
+        let Ok(below) = wave.split_below(tick) else {
+            let same = wave.changes() == &CHANGES[first..];
+            let again = wave.split_below(tick);
+            let whole = again.is_ok_and(|below| below.as_slice() == &CHANGES[first..end]);
+            teller.refused("Waveform::split_below", same && whole);
+            return None;
+        };
+        let is_split = below.as_slice() == &CHANGES[first..end]
+            && wave.changes() == &CHANGES[end..];
+        teller.fine("Waveform::split_below", is_split)?;
+    }
+    Some(())
+}
+
 /// Splits off one change, and then the others, onto a list that must grow for each.
-fn split<W: Write>(alloc: Global, teller: &mut Teller<W>, wave: &mut Waveform) -> Option<()> {
+fn split_into<W: Write>(alloc: Global, teller: &mut Teller<W>, wave: &mut Waveform) -> Option<()> {
     let mut below = Vec::new(alloc);
     for (tick, split) in [(2, 1), (10, 5)] {
         let before = below.len();
-        if wave.split_below(tick, &mut below).is_err() {
+        if wave.split_below_into(tick, &mut below).is_err() {
             let same = are_split(&below, wave, before);
-            let again = wave.split_below(tick, &mut below).is_ok();
+            let again = wave.split_below_into(tick, &mut below).is_ok();
             teller.refused(
-                "Waveform::split_below",
+                "Waveform::split_below_into",
                 same && again && are_split(&below, wave, split),
             );
             return None;
         }
-        teller.fine("Waveform::split_below", are_split(&below, wave, split))?;
+        teller.fine("Waveform::split_below_into", are_split(&below, wave, split))?;
     }
     Some(())
 }

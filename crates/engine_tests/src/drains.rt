@@ -62,8 +62,15 @@ impl<'d, F: Fabric> Run<'d, F> {
         Ok(())
     }
 
+    // Takes out the net's changes before the tick.
+    fn drain(&mut self, rt: &impl Abort, net: u32, bound: u64) -> Result<Vec<Change>, Fail> {
+        assert!(rt; self.kernel(rt, net).floor(net) <= bound);
+        assert!(rt; bound <= self.kernel(rt, net).least_frontier());
+        Ok(self.kernel.drain_below(net, bound)?)
+    }
+
     // Adds the net's changes before the tick to the end of the list.
-    fn drain(
+    fn drain_into(
         &mut self,
         rt: &impl Abort,
         net: u32,
@@ -72,7 +79,7 @@ impl<'d, F: Fabric> Run<'d, F> {
     ) -> Result<(), Fail> {
         assert!(rt; self.kernel(rt, net).floor(net) <= bound);
         assert!(rt; bound <= self.kernel(rt, net).least_frontier());
-        self.kernel.drain_below(net, bound, changes)?;
+        self.kernel.drain_below_into(net, bound, changes)?;
         Ok(())
     }
 
@@ -83,15 +90,14 @@ impl<'d, F: Fabric> Run<'d, F> {
         assert!(rt; kernel.waveform(net).changes() == changes);
     }
 
-    fn step(&mut self, rt: &impl Abort, alloc: Global, step: Step) -> Result<(), Fail> {
+    fn step(&mut self, rt: &impl Abort, step: Step) -> Result<(), Fail> {
         match step {
             Goes(least) => {
                 self.round()?;
                 assert!(rt; self.kernel(rt, 0).least_frontier() == least);
             }
             Drains(net, bound, changes) => {
-                let mut taken = Vec::new(alloc);
-                self.drain(rt, net, bound, &mut taken)?;
+                let taken = self.drain(rt, net, bound)?;
                 assert!(rt; taken.as_slice() == changes);
                 assert!(rt; self.kernel(rt, net).floor(net) == bound);
             }
@@ -163,7 +169,7 @@ fn follows<F: Fabric>(
 ) -> Result<(), Fail> {
     let mut run: Run<F> = Run::new(alloc, design, Horizon::new(horizon)?)?;
     for step in steps {
-        run.step(rt, alloc, *step)?;
+        run.step(rt, *step)?;
     }
     Ok(())
 }
@@ -198,7 +204,7 @@ fn taken<F: Fabric>(
     for _round in 0..rounds {
         run.round()?;
         let least = run.kernel(rt, net).least_frontier();
-        run.drain(rt, net, least, &mut taken)?;
+        run.drain_into(rt, net, least, &mut taken)?;
     }
     Ok(taken)
 }
@@ -290,9 +296,22 @@ fn low_and_high(alloc: Global) -> Result<Waveform, Fail> {
     Ok(wave)
 }
 
+// These are split off below the tick, and these are left.
+fn splits(
+    rt: &impl Abort,
+    wave: &mut Waveform,
+    tick: u64,
+    split: &[Change],
+    left: &[Change],
+) -> Result<(), AllocError> {
+    assert!(rt; wave.split_below(tick)?.as_slice() == split);
+    assert!(rt; wave.changes() == left);
+    Ok(())
+}
+
 // What is split off below the tick is added to the list, and then these were split off, and these
 // are left.
-fn splits(
+fn splits_into(
     rt: &impl Abort,
     wave: &mut Waveform,
     below: &mut Vec<Change>,
@@ -300,7 +319,7 @@ fn splits(
     split: &[Change],
     left: &[Change],
 ) -> Result<(), AllocError> {
-    wave.split_below(tick, below)?;
+    wave.split_below_into(tick, below)?;
     assert!(rt; below.as_slice() == split);
     assert!(rt; wave.changes() == left);
     Ok(())
@@ -311,17 +330,22 @@ fn splits_in_three(
     wave: &mut Waveform,
     below: &mut Vec<Change>,
 ) -> Result<(), AllocError> {
-    splits(rt, wave, below, 3, &[LOW], &[HIGH])?;
+    splits_into(rt, wave, below, 3, &[LOW], &[HIGH])?;
     assert!(rt; wave.before() == Zero);
-    splits(rt, wave, below, 3, &[LOW], &[HIGH])?;
-    splits(rt, wave, below, 4, &[LOW, HIGH], &[])
+    splits_into(rt, wave, below, 3, &[LOW], &[HIGH])?;
+    splits_into(rt, wave, below, 4, &[LOW, HIGH], &[])
 }
 
 #[test]
 fn split_of_a_waveform(rt: HostRuntime) -> Result<(), Fail> {
     let mut wave = low_and_high(rt.alloc())?;
-    assert!(rt; wave.copy()? == wave);
+    let mut other = wave.copy()?;
+    assert!(rt; other == wave);
     let mut below = Vec::new(rt.alloc());
     splits_in_three(&rt, &mut wave, &mut below)?;
+    splits(&rt, &mut other, 3, &[LOW], &[HIGH])?;
+    splits(&rt, &mut other, 3, &[], &[HIGH])?;
+    assert!(rt; other.before() == Zero);
+    splits(&rt, &mut other, 4, &[HIGH], &[])?;
     Ok(())
 }

@@ -18,7 +18,6 @@ use timing_text::Horizon;
 // A process at work, how many pins its net has, and the first tick past its horizon.
 #[derive(Drop)]
 pub(crate) struct Probe<'d> {
-    alloc: Global,
     process: Process<'d>,
     pins: usize,
     end: u64,
@@ -60,7 +59,6 @@ impl<'d> Probe<'d> {
         assert!(rt; net < nets);
         let horizon = Horizon::new(horizon)?;
         Ok(Probe {
-            alloc,
             process: Process::new(alloc, design, net, horizon)?,
             pins: design.pins_of(net).len(),
             end: horizon.ticks() + 1,
@@ -107,7 +105,7 @@ impl<'d> Probe<'d> {
         let known = self.received(rt, place);
         let last = self.last(rt, place);
         assert!(rt; !self.process.is_failed());
-        let tick = u64::from(change.tick);
+        let tick = change.tick;
         assert!(rt; known <= tick);
         assert!(rt; tick < self.end);
         assert!(rt; change.value != last);
@@ -126,20 +124,12 @@ impl<'d> Probe<'d> {
 
     fn advance(&mut self, rt: &impl Abort) -> Result<Vec<Message>, Fail> {
         assert!(rt; !self.process.is_failed());
-        let mut messages = Vec::new(self.alloc);
-        self.process.advance(&mut messages)?;
-        Ok(messages)
+        Ok(self.process.advance()?)
     }
 
-    fn drain_below(
-        &mut self,
-        rt: &impl Abort,
-        bound: u64,
-        changes: &mut Vec<Change>,
-    ) -> Result<(), Fail> {
+    fn drain_below(&mut self, rt: &impl Abort, bound: u64) -> Result<Vec<Change>, Fail> {
         assert!(rt; bound <= self.process(rt).frontier());
-        self.process.drain_below(bound, changes)?;
-        Ok(())
+        Ok(self.process.drain_below(bound)?)
     }
 
     // It tells just these messages.
@@ -151,11 +141,9 @@ impl<'d> Probe<'d> {
 
     // What it shows before the tick is taken out, and nothing is left to take there.
     fn drains(&mut self, rt: &impl Abort, bound: u64, wanted: &[Change]) -> Result<(), Fail> {
-        let mut changes = Vec::new(self.alloc);
-        self.drain_below(rt, bound, &mut changes)?;
+        let changes = self.drain_below(rt, bound)?;
         assert!(rt; changes.as_slice() == wanted);
-        self.drain_below(rt, bound, &mut changes)?;
-        assert!(rt; changes.as_slice() == wanted);
+        assert!(rt; self.drain_below(rt, bound)?.is_empty());
         Ok(())
     }
 
@@ -228,7 +216,7 @@ impl<'d> Probe<'d> {
     }
 }
 
-fn change(tick: u32, value: Value) -> Message {
+fn change(tick: u64, value: Value) -> Message {
     Message::Change(Change { tick, value })
 }
 

@@ -136,7 +136,7 @@ fn refuses_drains<F: Fabric>(
 ) {
     assert!(rt; kernel.is_failed());
     assert!(rt; 0 < kernel.nets());
-    assert!(rt; kernel.drain_below(0, bound, taken) == Err(KernelFault::Failed));
+    assert!(rt; kernel.drain_below_into(0, bound, taken) == Err(KernelFault::Failed));
     assert!(rt; taken.is_empty());
 }
 

@@ -29,7 +29,7 @@ fn part(
     let mut part = Vec::new(alloc);
     let mut next = from;
     for change in changes {
-        let tick = u64::from(change.tick);
+        let tick = change.tick;
         assert!(rt; next <= tick);
         assert!(rt; tick < upto);
         part.push(*change)?;
@@ -64,13 +64,14 @@ fn write_both<W: Write>(
 {
     stream.part(first)?;
     stream.part(second)?;
-    stream.span(out, upto)
+    stream.write_parts(out, upto)
 }
 
-// A stream of two nets up to tick 5, between two spans.
+// A stream of two nets up to tick 5, between two spans, and whether it is given a span net by net.
 #[derive(Drop)]
 struct Pair {
     stream: Stream,
+    net_by_net: bool,
     ghost shows: { stream.failed ≡ false → stream.nets ≡ 2 },
     ghost ends: { stream.failed ≡ false → stream.horizon ≡ 5 },
     ghost none_given: { stream.failed ≡ false → stream.given ≡ 0 },
@@ -83,6 +84,7 @@ impl Pair {
         alloc: Global,
         out: &mut W,
         design: &Design,
+        net_by_net: bool,
     ) -> Result<Pair, Fail> {
         let nets = design.nets();
         assert!(rt; 1 < nets);
@@ -90,7 +92,7 @@ impl Pair {
         assert!(rt; horizon.ticks() == 5);
         let stream = Stream::begin(alloc, out, design, &[0, 1], horizon, TimeUnit::Ns)?;
         assert!(rt; stream.written() == 0);
-        Ok(Pair { stream })
+        Ok(Pair { stream, net_by_net })
     }
 
     // What a span up to a tick answers.
@@ -110,13 +112,17 @@ impl Pair {
         assert!(rt; upto <= 6);
         let first = part(rt, alloc, from, upto, first)?;
         let second = part(rt, alloc, from, upto, second)?;
-        Ok(write_both(
-            &mut self.stream,
-            out,
-            upto,
-            first.as_slice(),
-            second.as_slice(),
-        ))
+        if self.net_by_net {
+            Ok(write_both(
+                &mut self.stream,
+                out,
+                upto,
+                first.as_slice(),
+                second.as_slice(),
+            ))
+        } else {
+            Ok(self.stream.span(out, upto, &[first, second]))
+        }
     }
 
     // What the end answers, of a stream that wrote all spans.
@@ -160,9 +166,15 @@ const EACH_TICK: [Span; 6] = [
 ];
 
 // The stream of the design by these spans is the inverter's dump.
-fn writes(rt: &impl Abort, alloc: Global, design: &Design, spans: &[Span]) -> Result<(), Fail> {
+fn writes(
+    rt: &impl Abort,
+    alloc: Global,
+    design: &Design,
+    spans: &[Span],
+    net_by_net: bool,
+) -> Result<(), Fail> {
     let mut out = Vec::new(alloc);
-    let mut pair = Pair::begin(rt, alloc, &mut out, design)?;
+    let mut pair = Pair::begin(rt, alloc, &mut out, design, net_by_net)?;
     assert!(rt; out.len() == 145);
     for (upto, changes, bytes) in spans {
         let answer = pair.span(rt, alloc, &mut out, *upto, *changes)?;
@@ -179,7 +191,8 @@ fn writes(rt: &impl Abort, alloc: Global, design: &Design, spans: &[Span]) -> Re
 fn streamed_inverter(rt: HostRuntime) -> Result<(), Fail> {
     let design = INVERTER.build(rt.alloc())?;
     for spans in [AT_ONCE.as_slice(), IN_TWO.as_slice(), EACH_TICK.as_slice()] {
-        writes(&rt, rt.alloc(), &design, spans)?;
+        writes(&rt, rt.alloc(), &design, spans, false)?;
+        writes(&rt, rt.alloc(), &design, spans, true)?;
     }
     Ok(())
 }
@@ -207,8 +220,9 @@ fn fails<W: Write>(
     out: &mut W,
     design: &Design,
     fault: DumpFault,
+    net_by_net: bool,
 ) -> Result<(), Fail> {
-    let mut pair = Pair::begin(rt, alloc, out, design)?;
+    let mut pair = Pair::begin(rt, alloc, out, design, net_by_net)?;
     let answer = pair.span(rt, alloc, out, 1, [&[LOW], &[]])?;
     assert!(rt; answer == Ok(()));
     stops(rt, alloc, out, &mut pair, fault)?;
@@ -222,14 +236,16 @@ fn fails<W: Write>(
 fn failed_streams(rt: HostRuntime) -> Result<(), Fail> {
     let design = INVERTER.build(rt.alloc())?;
     for slip in &SLIPS {
-        let mut out = Stumbling::new(rt.alloc(), 2, *slip);
         let fault = match slip {
             Slip::Fails(_) => DumpFault::Write,
             Slip::TakesNothing => DumpFault::WroteNothing,
         };
-        fails(&rt, rt.alloc(), &mut out, &design, fault)?;
-        assert!(rt; out.calls == 3);
-        assert!(rt; out.taken.as_slice() == &INVERTER_DUMP[..169]);
+        for net_by_net in [false, true] {
+            let mut out = Stumbling::new(rt.alloc(), 2, *slip);
+            fails(&rt, rt.alloc(), &mut out, &design, fault, net_by_net)?;
+            assert!(rt; out.calls == 3);
+            assert!(rt; out.taken.as_slice() == &INVERTER_DUMP[..169]);
+        }
     }
     Ok(())
 }
@@ -241,7 +257,7 @@ fn cut_streams(rt: HostRuntime) -> Result<(), Fail> {
     for (fails_full, fault) in [(true, DumpFault::Write), (false, DumpFault::WroteNothing)] {
         let mut out = Narrow::new(rt.alloc(), 179, 7);
         out.fails = fails_full;
-        fails(&rt, rt.alloc(), &mut out, &design, fault)?;
+        fails(&rt, rt.alloc(), &mut out, &design, fault, false)?;
         assert!(rt; out.taken.as_slice() == &INVERTER_DUMP[..179]);
     }
     Ok(())

@@ -1,5 +1,5 @@
 //! The lines of a trace, as text.
-ghost use Rattle.std.specs.Prelude.{◌≡◌, ◌+◌, ◌++◌, flat_map, OnOk};
+ghost use Rattle.std.specs.Prelude.{◌≡◌, ◌↔◌, ◌++◌, flat_map, IsTrue, OnOk};
 ghost use Rattle.cmb_channels.specs.declared.message.Message.TheVariants.{Change as Changes};
 ghost use Rattle.event_trace.specs.Lines.{spaced_text, messages_text, advance_text, deliver_text, round_text, counts_line};
 ghost use Rattle.event_trace.specs.Told.{told_by, told_to};
@@ -14,7 +14,7 @@ fn push_change(text: &mut Vec<u8>, change: Change) -> Result<(), AllocError>
 {
     text.push(b' ')?;
     text.extend_from_slice(change.value.text().as_bytes())?;
-    push_numbered(text, b"@", u64::from(change.tick))
+    push_numbered(text, b"@", change.tick)
 }
 
 fn push_changes(text: &mut Vec<u8>, changes: &[Change]) -> Result<(), AllocError>
@@ -27,20 +27,13 @@ fn push_changes(text: &mut Vec<u8>, changes: &[Change]) -> Result<(), AllocError
     Ok(())
 }
 
-// The tick behind that of a change.
-fn tick_behind(change: Change) -> u64
-    ensures { result ≡ change.tick + 1 }
-{
-    u64::from(change.tick) + 1
-}
-
-// Up to which tick some changes tell of a net, of which nothing is told before one.
-fn told_to(from: u64, changes: &[Change]) -> u64
-    ensures { result ≡ told_to from changes.now }
+// Whether some changes tell of a net up to a tick, of which nothing is told before another.
+fn tell_up_to(changes: &[Change], from: u64, to: u64) -> bool
+    ensures { IsTrue result ↔ (told_to from changes.now ≡ to) }
 {
     match changes.last() {
-        Some(change) => tick_behind(*change),
-        None => from,
+        Some(change) => change.tick < to && to - change.tick == 1,
+        None => from == to,
     }
 }
 
@@ -59,7 +52,7 @@ fn push_messages(
         return Ok(());
     }
     push_changes(text, changes)?;
-    if told_to(from, changes) == to {
+    if tell_up_to(changes, from, to) {
         return Ok(());
     }
     push_numbered(text, b" null ", to)

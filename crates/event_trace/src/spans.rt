@@ -11,8 +11,8 @@ pub fn changes_between(wave: &Waveform, from: u64, to: u64) -> &[Change]
         result.now ≡ changes_between signal from to }
 {
     let changes = wave.changes();
-    let early = changes.partition_point(|change| u64::from(change.tick) < from);
+    let early = changes.partition_point(|change| change.tick < from);
     let rest = &changes[early..];
-    let within = rest.partition_point(|change| u64::from(change.tick) < to);
+    let within = rest.partition_point(|change| change.tick < to);
     &rest[..within]
 }

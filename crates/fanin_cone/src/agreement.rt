@@ -115,6 +115,6 @@ fn up_to(stimuli: &[Change], horizon: Horizon) -> &[Change]
     requires { TicksRise stimuli.now }
     ensures { result.now ≡ stimuli_to horizon stimuli.now }
 {
-    let end = stimuli.partition_point(|change| u64::from(change.tick) <= horizon.ticks());
+    let end = stimuli.partition_point(|change| change.tick <= horizon.ticks());
     &stimuli[..end]
 }

@@ -1,9 +1,9 @@
 -- A waveform that is seen later, by the delay of a wire.
-use Rattle.std.proofs.Common.{◌≡◌, ℕ, zero, suc, ◌+◌, ◌-◌, ◌<◌, ◌≤◌, nat_le, nat_lt, Bool, true, false, cond, List, [], ◌∷◌, ◌++◌, length, map, take, Option, None, Some, slice_get, refl, ap, sym, ◌∙◌, arith, leb-true, ltb-true, ltb-false, ◌⊎◌, inl, inr}
+use Rattle.std.proofs.Common.{◌≡◌, ℕ, zero, suc, ◌+◌, ◌-◌, ◌<◌, ◌≤◌, nat_le, nat_lt, Bool, true, false, cond, List, [], ◌∷◌, ◌++◌, length, take, drop, Option, None, Some, slice_get, refl, ap, sym, ◌∙◌, arith, leb-true, ltb-true, ltb-false, ◌⊎◌, inl, inr}
 use Rattle.std.specs.List.{prefix_len}
 use Rattle.std.specs.Option.{option_map, option_map_or}
 use Rattle.std.proofs.lemmas.Bool.{cases_lt, le-leb, lt-leb}
-use Rattle.std.proofs.lemmas.List.{get_or-map, length-map, map-append}
+use Rattle.std.proofs.lemmas.List.{drop-map, get_or-map, length-map, map-append}
 use Rattle.std.proofs.lemmas.Option.{same_Some}
 use Rattle.logic3.specs.declared.value.Value.{Value}
 use Rattle.logic3.specs.declared.value.Value.TheVariants.{Unknown}
@@ -11,15 +11,12 @@ use Rattle.logic3.specs.declared.change.Change.{Change}
 use Rattle.logic3.specs.Rising.{TicksRise}
 use Rattle.logic3.specs.Wave.{Wave, value_after, value_at, value_in_the_end}
 use Rattle.design.specs.Equations.{later}
-use Rattle.gate_process.specs.Knowledge.{Knowledge, delayed, seen, unknown_from, as_known}
+use Rattle.gate_process.specs.Knowledge.{Knowledge, delayed, delayed_changes, seen, unknown_from, as_known}
 use Rattle.gate_process.proofs.Passed.{due_by}
 
--- changes, so many ticks later
+-- a change, so many ticks later
 abbrev pub delayed_change : ℕ → Change → Change
 delayed_change wire change = record { tick = change.tick + wire; value = change.value }
-
-abbrev pub delayed_changes : ℕ → List Change → List Change
-delayed_changes wire changes = map (λ (change : Change). delayed_change wire change) changes
 
 -- ---- what it shows
 
@@ -74,27 +71,52 @@ shows_unknown known tick past =
     ∙ ap (λ past. cond past Unknown (value_at known.wave tick)) (le-leb known.frontier tick past)
 
 -- where that is seen by a tick, X is seen from the tick on
-pub unknown_there : (unknown : Option ℕ) (wire : ℕ) (before : Value) (changes : List Change) (tick late : ℕ) →
-    option_map_or (λ from. nat_le (from + wire) tick) unknown false ≡ true → tick ≤ late →
-    value_after before (delayed_changes wire (changes ++ unknown_from unknown)) late ≡ Unknown
-unknown_there None wire before changes tick late is after = cc
-unknown_there (Some from) wire before changes tick late is after =
-    let due : nat_le (from + wire) late ≡ true = le-leb (from + wire) late (let l = leb-true (from + wire) tick is in omega (arith, l, after)) in
-    ap (λ cs. value_after before cs late) (map-append (delayed_change wire) changes (record { tick = from; value = Unknown } ∷ []))
-    ∙ value_with before (delayed_changes wire changes) (record { tick = from + wire; value = Unknown }) late
-    ∙ ap (λ past. cond past Unknown (value_after before (delayed_changes wire changes) late)) due
+pub unknown_there : (unknown : Option ℕ) (before : Value) (changes : List Change) (tick late : ℕ) →
+    option_map_or (λ from. nat_le from tick) unknown false ≡ true → tick ≤ late →
+    value_after before (changes ++ unknown_from unknown) late ≡ Unknown
+unknown_there None before changes tick late is after = cc
+unknown_there (Some from) before changes tick late is after =
+    let due : nat_le from late ≡ true = le-leb from late (let l = leb-true from tick is in omega (arith, l, after)) in
+    value_with before changes (record { tick = from; value = Unknown }) late
+    ∙ ap (λ past. cond past Unknown (value_after before changes late)) due
 
 -- else it isn't due
-pub not_due : (unknown : Option ℕ) (wire tick : ℕ) → option_map_or (λ from. nat_le (from + wire) tick) unknown false ≡ false →
-    due_by tick (delayed_changes wire (unknown_from unknown)) ≡ 0
-not_due None wire tick is = refl
-not_due (Some from) wire tick is = rw is refl
+pub not_due : (unknown : Option ℕ) (tick : ℕ) → option_map_or (λ from. nat_le from tick) unknown false ≡ false →
+    due_by tick (unknown_from unknown) ≡ 0
+not_due None tick is = refl
+not_due (Some from) tick is = rw is refl
+
+-- the first change is the first of the changes, else that to X
+pub first_with : (changes ending : List Change) (first : ℕ) → option_map (λ (change : Change). change.tick) (slice_get changes 0) ≡ Some first →
+    Some first ≡ option_map (λ (change : Change). change.tick) (slice_get (changes ++ ending) 0)
+first_with [] ending first is = cc
+first_with (change ∷ changes) ending first is = sym is
+
+pub first_unknown : (changes : List Change) (unknown : Option ℕ) → option_map (λ (change : Change). change.tick) (slice_get changes 0) ≡ None →
+    unknown ≡ option_map (λ (change : Change). change.tick) (slice_get (changes ++ unknown_from unknown) 0)
+first_unknown [] None none = refl
+first_unknown [] (Some from) none = refl
+first_unknown (change ∷ changes) unknown none = cc
 
 -- the first change is seen later too
-pub first_delayed : (wire : ℕ) (changes ending : List Change) (first : Change) → slice_get changes 0 ≡ Some first →
-    Some (first.tick + wire) ≡ option_map (λ (change : Change). change.tick) (slice_get (delayed_changes wire (changes ++ ending)) 0)
-first_delayed wire [] ending first is = cc
-first_delayed wire (change ∷ changes) ending first is = ap (λ (c : Change). Some (c.tick + wire)) (sym (same_Some change first is))
+pub first_delayed : (wire : ℕ) (changes : List Change) (first : Change) → slice_get changes 0 ≡ Some first →
+    Some (first.tick + wire) ≡ option_map (λ (change : Change). change.tick) (slice_get (delayed_changes wire changes) 0)
+first_delayed wire [] first is = cc
+first_delayed wire (change ∷ changes) first is = ap (λ (c : Change). Some (c.tick + wire)) (sym (same_Some change first is))
+
+pub none_delayed : (wire : ℕ) (changes : List Change) → slice_get changes 0 ≡ None →
+    None ≡ option_map (λ (change : Change). change.tick) (slice_get (delayed_changes wire changes) 0)
+none_delayed wire [] is = refl
+none_delayed wire (change ∷ changes) is = cc
+
+-- what is left of them is what is left of the delayed ones
+pub rest_delayed : (wire count : ℕ) (changes : List Change) → delayed_changes wire (drop count changes) ≡ drop count (delayed_changes wire changes)
+rest_delayed wire count changes = sym (drop-map (delayed_change wire) count changes)
+
+-- X at the end is seen later, too
+pub delayed_with : (wire frontier : ℕ) (changes : List Change) →
+    delayed_changes wire (changes ++ unknown_from (Some frontier)) ≡ delayed_changes wire changes ++ unknown_from (Some (frontier + wire))
+delayed_with wire frontier changes = map-append (delayed_change wire) changes (record { tick = frontier; value = Unknown } ∷ [])
 
 -- ---- its changes
 

@@ -1,7 +1,20 @@
 -- A net, by what a design tells of it.
-use Rattle.std.proofs.Common.{◌≡◌, Option, None, Some, option_map}
+use Rattle.std.proofs.Common.{◌≡◌, ℕ, ◌≤◌, true, leb, Option, None, Some, option_map, arith}
+use Rattle.std.proofs.lemmas.Bool.{eqb-true, leb-true, and_parts}
 use Rattle.std.proofs.lemmas.Option.{none-some, same_Some}
+use Rattle.logic3.specs.declared.gates.GateKind.TheVariants.{Not, Buf}
+use Rattle.netlist.specs.declared.part.Part.{Part}
+use Rattle.netlist.specs.declared.part.Part.TheVariants.{Input, Gate, Flop}
+use Rattle.netlist.specs.Part.{takes_pins}
 use Rattle.design.specs.Circuit.{Net}
+
+-- no part takes more pins than a gate may have
+pub takes_few : (part : Part) (pins : ℕ) → takes_pins part pins ≡ true → pins ≤ 1024
+takes_few Input pins takes = let none = eqb-true pins 0 takes in omega arith
+takes_few Flop pins takes = let one = eqb-true pins 1 takes in omega arith
+takes_few (Gate Not) pins takes = let one = eqb-true pins 1 takes in omega arith
+takes_few (Gate Buf) pins takes = let one = eqb-true pins 1 takes in omega arith
+takes_few (Gate _) pins takes = leb-true pins 1024 (and_parts (leb 1 pins) (leb pins 1024) takes).1
 
 -- a net of which all fields are known
 pub net_of_fields : (place : Option Net) (net : Net) →

@@ -1,5 +1,5 @@
 -- The changes that are left of a list whose ticks rise, once those up to a tick are passed.
-use Rattle.std.proofs.Common.{◌≡◌, ℕ, zero, suc, ◌+◌, ◌<◌, ◌≤◌, nat_le, Bool, true, false, cond, List, [], ◌∷◌, ◌++◌, All, take, drop, refl, ap, sym, ◌∙◌, arith, leb-true, leb-false, one-add, None, Some, slice_get}
+use Rattle.std.proofs.Common.{◌≡◌, ℕ, zero, suc, ◌+◌, ◌<◌, ◌≤◌, nat_le, Bool, true, false, cond, List, [], ◌∷◌, ◌++◌, length, All, take, drop, refl, ap, sym, ◌∙◌, arith, leb-true, leb-false, one-add, None, Some, slice_get}
 use Rattle.std.specs.Option.{option_map}
 use Rattle.std.specs.List.{prefix_len}
 use Rattle.std.proofs.lemmas.Bool.{le-leb, lt-leb}
@@ -68,6 +68,14 @@ pub left_rises : (changes : List Change) (count : ℕ) → TicksRise changes →
 left_rises changes zero rise = rise
 left_rises [] (suc count) rise = rise
 left_rises (first ∷ changes) (suc count) rise = left_rises changes count (rise_tail first changes rise)
+
+pub due_within : (changes : List Change) (tick : ℕ) → due_by tick changes ≤ length changes
+due_within [] tick = omega arith
+due_within (first ∷ changes) tick = go (nat_le first.tick tick) (due_within changes tick)
+  where
+    go : (due : Bool) → due_by tick changes ≤ length changes → cond due (1 + due_by tick changes) 0 ≤ suc (length changes)
+    go true rest = omega arith
+    go false rest = omega arith
 
 -- so the value at the tick is that of the last change that is passed
 pub value_now : (before : Value) (changes : List Change) (tick : ℕ) → TicksRise changes →

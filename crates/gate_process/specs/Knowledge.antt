@@ -23,12 +23,13 @@ pub record IsReceived (received : Knowledge) : Type 0 where
   pub known : IsKnowledge received
   pub within : received.frontier ≤ most_ticks + 1
 
+-- changes, so many ticks later
+abbrev pub delayed_changes : ℕ → List Change → List Change
+delayed_changes ticks changes = map (λ (change : Change). record { tick = change.tick + ticks; value = change.value }) changes
+
 -- a waveform, so many ticks later
 abbrev pub delayed : ℕ → Wave → Wave
-delayed ticks wave = record {
-  before = wave.before;
-  changes = map (λ (change : Change). record { tick = change.tick + ticks; value = change.value }) wave.changes;
-}
+delayed ticks wave = record { before = wave.before; changes = delayed_changes ticks wave.changes }
 
 -- what is known of a pin, as its net sees it: what it was told of its source, later by the delay of its wire
 abbrev pub seen : ℕ → Knowledge → Knowledge

@@ -167,7 +167,7 @@ fn walk(
         }
         if look.value != wave.last_value() {
             let change = Change {
-                tick: tick as u32,
+                tick,
                 value: look.value,
             };
             wave.push(change)?;

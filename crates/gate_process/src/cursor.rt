@@ -1,5 +1,7 @@
 //! Walks along changes.
-ghost use Rattle.std.specs.Prelude.{◌≡◌, ℕ, ◌<◌, ◌≤◌, ◌++◌, All, length, map, option_map, slice_get};
+ghost use Rattle.std.specs.Prelude.{◌≡◌, ℕ, ◌+◌, ◌<◌, ◌≤◌, ◌++◌, All, length, map, option_map, slice_get, Some};
+ghost use Rattle.logic3.specs.declared.value.Value.TheVariants.{Unknown};
+ghost use Rattle.timing_text.specs.Ranges.{most_ticks};
 ghost use Rattle.logic3.specs.declared.change.Change.{Change};
 ghost use Rattle.logic3.specs.Rising.{TicksRise};
 ghost use Rattle.logic3.specs.Summary.{summary_of};
@@ -7,39 +9,40 @@ ghost use Rattle.logic3.specs.Wave.{value_at};
 ghost use Rattle.design.specs.Equations.{values_at};
 ghost use Rattle.gate_process.specs.Knowledge.{delayed, unknown_from};
 
-use crate::changes::{due_changes, is_unknown_at, last_value, seen_tick};
+use crate::changes::is_unknown_at;
+use crate::kept_changes::KeptChange;
+use crate::later::Later;
 use logic3::{Change, Summary, Value};
 use std::marker::Model;
 
 /// Of so many pins, the most that gates have as a rule, what is read is kept without a list in memory.
 pub const FEW: usize = 4;
 
-/// Where a walk over the ticks has come in some changes, each of which is seen later by the delay of a
-/// wire: it is seen as the waveform that is left, at the ticks at which its changes are seen.
+/// Where a walk over the ticks has come in some changes: it is seen as the waveform that is left, at the
+/// ticks at which its changes are seen.
 ///
 /// A whole walk costs as much as it passes changes.
 #[derive(Debug, Drop)]
 pub struct Cursor<'c> {
     // What is shown before the changes that are left.
     value: Value,
-    // The changes that are left, at their source's ticks.
-    later: &'c [Change],
-    // Behind them, the source's tick from which on X is shown, since nothing is known from there on.
-    unknown: Option<u32>,
-    wire: u32,
+    // The changes that are left.
+    later: Later<'c>,
+    // After them, the tick from which on X is shown, since nothing is known from there on.
+    unknown: Option<u64>,
 }
 
 impl<'c> Model for Cursor<'c> {
     ghost use Rattle.logic3.specs.Rising.{TicksRise};
     ghost use Rattle.logic3.specs.Wave.{Wave};
     ghost use Rattle.std.specs.Prelude.{◌++◌};
-    ghost use Rattle.gate_process.specs.Knowledge.{delayed, unknown_from};
+    ghost use Rattle.gate_process.specs.Knowledge.{unknown_from};
 
     ghost Value = { Wave };
 
-    ghost view = { λ c. delayed c.wire (record { before = c.value; changes = c.later.now ++ unknown_from c.unknown }) };
+    ghost view = { λ c. record { before = c.value; changes = c.later ++ unknown_from c.unknown } };
 
-    ghost invariant = { λ c. TicksRise (c.later.now ++ unknown_from c.unknown) };
+    ghost invariant = { λ c. TicksRise (c.later ++ unknown_from c.unknown) };
 }
 
 impl<'c> Default for Cursor<'c> {
@@ -49,22 +52,39 @@ impl<'c> Default for Cursor<'c> {
     ghost is_default = { λ c. c ≡ record { before = Unknown; changes = [] } };
 
     fn default() -> Cursor<'c> {
-        Cursor::new(Value::Unknown, Default::default(), None, 0)
+        Cursor::stimuli(Default::default())
     }
 }
 
 impl<'c> Cursor<'c> {
-    /// Before all of the changes, which are seen later by the delay of the wire, and before the tick from
-    /// which on nothing is known, where there is one.
-    pub fn new(before: Value, changes: &'c [Change], unknown: Option<u32>, wire: u32) -> Cursor<'c>
-        requires { TicksRise (changes.now ++ unknown_from unknown) }
-        ensures { result ≡ delayed wire (record { before = before; changes = changes.now ++ unknown_from unknown }) }
+    /// Before all stimuli of an input.
+    pub fn stimuli(changes: &'c [Change]) -> Cursor<'c>
+        requires { TicksRise changes.now }
+        ensures { result ≡ record { before = Unknown; changes = changes.now } }
+    {
+        Cursor {
+            value: Value::Unknown,
+            later: Later::stimuli(changes),
+            unknown: None,
+        }
+    }
+
+    /// Before all changes that a pin keeps, which are seen later by the delay of the wire, and before the
+    /// tick from which on nothing is known.
+    pub fn received(
+        before: Value,
+        changes: &'c [KeptChange],
+        frontier: u64,
+        wire: u32,
+    ) -> Cursor<'c>
+        requires rise { TicksRise (changes.now ++ unknown_from (Some frontier)) }
+        requires within { frontier ≤ most_ticks + 1 }
+        ensures { result ≡ delayed wire (record { before = before; changes = changes.now ++ unknown_from (Some frontier) }) }
     {
         Cursor {
             value: before,
-            later: changes,
-            unknown,
-            wire,
+            later: Later::received(changes, wire),
+            unknown: Some(frontier + u64::from(wire)),
         }
     }
 
@@ -74,14 +94,12 @@ impl<'c> Cursor<'c> {
         ensures left { (t : ℕ) → tick ≤ t → value_at self.new t ≡ value_at self.old t }
         ensures passed { All (λ (change : Change). tick < change.tick) self.new.changes }
     {
-        if is_unknown_at(self.unknown, self.wire, tick) {
+        if is_unknown_at(self.unknown, tick) {
             // Nothing is left but X.
             *self = Cursor::default();
             return Value::Unknown;
         }
-        let due = due_changes(self.later, self.wire, tick);
-        self.value = last_value(self.value, &self.later[..due]);
-        self.later = &self.later[due..];
+        self.value = self.later.pass(self.value, tick);
         self.value
     }
 
@@ -103,9 +121,9 @@ impl<'c> Cursor<'c> {
         ensures tick { result ≡ option_map (λ (change : Change). change.tick) (slice_get self.now.changes 0) }
         ensures rise { TicksRise self.now.changes }
     {
-        match self.later.first() {
-            Some(change) => Some(seen_tick(*change, self.wire)),
-            None => Some(u64::from(self.unknown?) + u64::from(self.wire)),
+        match self.later.first_tick() {
+            Some(first) => Some(first),
+            None => self.unknown,
         }
     }
 }

@@ -15,6 +15,8 @@
 mod advance;
 mod changes;
 mod cursor;
+mod kept_changes;
+mod later;
 pub mod laws;
 mod own_net;
 mod process;

@@ -135,7 +135,7 @@ impl<'d> OwnNet<'d> {
     pub fn stimuli(&self) -> Cursor<'_>
         ensures { result ≡ record { before = Unknown; changes = self.now.stimuli } }
     {
-        Cursor::new(Value::Unknown, self.stimuli, None, 0)
+        Cursor::stimuli(self.stimuli)
     }
 
     /// What the net shows at a tick of what it reads, and up to where it stays, at most up to the limit.

@@ -1,4 +1,5 @@
 ghost use Rattle.std.specs.Prelude.{◌≡◌, ◌+◌, ◌++◌, ◌<◌, ◌≤◌, nat_lt, true, false, length, slice_get, Some, IfOk, IfSome, OnOk, OnErr};
+ghost use Rattle.timing_text.specs.Ranges.{most_ticks};
 ghost use Rattle.cmb_channels.specs.Kinds.{is_change};
 ghost use Rattle.gate_process.specs.Step.{running, started_process, pin_frontier, pin_last, heard, safe_of, next_frontier, advanced, news, drained, drained_changes};
 ghost use Rattle.gate_process.specs.Quiet.{IsQuiet};
@@ -111,17 +112,31 @@ impl<'d> Process<'d> {
         Ok(())
     }
 
-    /// Reckons the net as far as what is known of its pins leads, and puts the messages that tell of it in
-    /// the place of what the list held: each change, in order, and at the end a null message where no
-    /// change comes at the last tick. Each raises what is known of the net, so there is none where the
-    /// frontier stays.
+    /// Reckons the net as far as what is known of its pins leads, and returns the messages that tell of it:
+    /// each change, in order, and at the end a null message where no change comes at the last tick. Each
+    /// raises what is known of the net, so there is none where the frontier stays.
     ///
     /// A gate doesn't wait for all of its pins: where those that are known settle its value, as a 0 does at
     /// an AND, it looks ahead to the first tick at which they don't.
     ///
     /// The cost grows with the changes and the pins, not with the ticks. Where the frontier stays, it
     /// takes no memory. After an `AllocError` the process has failed.
-    pub fn advance(&mut self, messages: &mut Vec<Message>) -> Result<(), AllocError>
+    pub fn advance(&mut self) -> Result<Vec<Message>, AllocError>
+        requires running { self.old.failed ≡ false }
+        ensures news { IfOk result (λ messages. messages.items ≡ news self.old.state) }
+        ensures state { OnOk result (self.new ≡ running (advanced self.old.state)) }
+        ensures err { OnErr result (self.new.failed ≡ true) }
+        ensures memory { OnErr result (self.old.state.known.frontier < next_frontier self.old.state) }
+        ensures quiet { OnOk result (IsQuiet self.new.state) }
+    {
+        let mut messages = Vec::new(*self.received.allocator());
+        self.advance_into(&mut messages)?;
+        Ok(messages)
+    }
+
+    /// Advances as [`advance`](Self::advance) does, and puts the messages in the place of what a list held.
+    /// So a list serves many advances.
+    pub fn advance_into(&mut self, messages: &mut Vec<Message>) -> Result<(), AllocError>
         requires running { self.old.failed ≡ false }
         ensures news { OnOk result (messages.new.items ≡ news self.old.state) }
         ensures state { OnOk result (self.new ≡ running (advanced self.old.state)) }
@@ -165,11 +180,32 @@ impl<'d> Process<'d> {
         goes_on(&self.net, received, Span { from, sure, end })
     }
 
-    /// Takes out the net's changes before a tick up to which it is known, adds them in order to the end
-    /// of a list, and forgets what the net showed before that tick.
+    /// Takes out the net's changes before a tick up to which it is known, returns them in order, and forgets
+    /// what the net showed before that tick.
+    ///
+    /// An `AllocError` leaves the process as it was.
+    pub fn drain_below(&mut self, bound: u64) -> Result<Vec<Change>, AllocError>
+        requires running { self.old.failed ≡ false }
+        requires known { bound ≤ self.old.state.known.frontier }
+        ensures changes { IfOk result (λ changes. changes.items ≡ drained_changes bound self.old.state) }
+        ensures ok { OnOk result (self.new ≡ running (drained bound self.old.state)) }
+        ensures err { OnErr result (self.new ≡ self.old) }
+        ensures memory { OnErr result (0 < length (drained_changes bound self.old.state)) }
+        ensures quiet { OnOk result (IsQuiet self.old.state → IsQuiet self.new.state) }
+    {
+        let mut changes = Vec::new(*self.received.allocator());
+        self.drain_below_into(bound, &mut changes)?;
+        Ok(changes)
+    }
+
+    /// Drains as [`drain_below`](Self::drain_below) does, and adds the changes in order to the end of a list.
     ///
     /// An `AllocError` leaves the process and the list as they were.
-    pub fn drain_below(&mut self, bound: u64, changes: &mut Vec<Change>) -> Result<(), AllocError>
+    pub fn drain_below_into(
+        &mut self,
+        bound: u64,
+        changes: &mut Vec<Change>,
+    ) -> Result<(), AllocError>
         requires running { self.old.failed ≡ false }
         requires known { bound ≤ self.old.state.known.frontier }
         ensures changes { OnOk result (changes.new.items ≡ changes.old.items ++ drained_changes bound self.old.state) }
@@ -179,7 +215,7 @@ impl<'d> Process<'d> {
         ensures memory { OnErr result (0 < length (drained_changes bound self.old.state)) }
         ensures quiet { OnOk result (IsQuiet self.old.state → IsQuiet self.new.state) }
     {
-        self.wave.split_below(bound, changes)?;
+        self.wave.split_below_into(bound, changes)?;
         self.floor = self.floor.max(bound);
         Ok(())
     }
@@ -209,6 +245,24 @@ impl<'d> Process<'d> {
         ensures { result ≡ self.now.state.known.frontier }
     {
         self.frontier
+    }
+
+    /// The first tick past the horizon, where each frontier ends: at most 10,000,001.
+    pub fn end(&self) -> u64
+        requires running { self.now.failed ≡ false }
+        ensures end { result ≡ self.now.state.end }
+        ensures most { result ≤ most_ticks + 1 }
+    {
+        self.end
+    }
+
+    /// How many pins the net has, which are numbered by their places from 0: at most 1,024.
+    pub fn pins(&self) -> u32
+        requires running { self.now.failed ≡ false }
+        ensures count { result ≡ length self.now.state.received }
+        ensures most { result ≤ 1024 }
+    {
+        self.received.len() as u32
     }
 
     /// How many ticks are known of the source of the pin at this place among the pins of the net: the

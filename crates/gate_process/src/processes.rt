@@ -54,6 +54,13 @@ impl<'d> Processes<'d> {
         Ok(Processes { processes, quiet })
     }
 
+    /// How many processes there are: one for each net.
+    pub fn len(&self) -> usize
+        ensures { result ≡ length self.now }
+    {
+        self.processes.len()
+    }
+
     /// The process of a net.
     pub fn of_net(&self, net: u32) -> &Process<'d>
         requires { net < length self.now }
@@ -81,10 +88,10 @@ impl<'d> Processes<'d> {
         Ok(())
     }
 
-    /// Advances the process of a net, as [`Process::advance`] does. A quiet one isn't touched, has nothing
+    /// Advances the process of a net, as [`Process::advance_into`] does. A quiet one isn't touched, has nothing
     /// to tell, and takes no memory. After an `AllocError` the process has failed, and the others are as they
     /// were.
-    pub fn advance(&mut self, net: u32, messages: &mut Vec<Message>) -> Result<(), AllocError>
+    pub fn advance_into(&mut self, net: u32, messages: &mut Vec<Message>) -> Result<(), AllocError>
         requires net { net < length self.old }
         requires running { ForSome (slice_get self.old net) (λ (process : ProcessView). process.failed ≡ false) }
         ensures news { OnOk result (ForSome (slice_get self.old net) (λ (process : ProcessView).
@@ -100,13 +107,13 @@ impl<'d> Processes<'d> {
             messages.clear();
             return Ok(());
         }
-        self.processes[net as usize].advance(messages)?;
+        self.processes[net as usize].advance_into(messages)?;
         self.quiet[net as usize] = true;
         Ok(())
     }
 
-    /// Takes out changes of a net, as [`Process::drain_below`] does. An `AllocError` changes nothing.
-    pub fn drain_below(
+    /// Takes out changes of a net, as [`Process::drain_below_into`] does. An `AllocError` changes nothing.
+    pub fn drain_below_into(
         &mut self,
         net: u32,
         bound: u64,
@@ -126,7 +133,7 @@ impl<'d> Processes<'d> {
             0 < length (drained_changes bound process.state))) }
     {
         // A quiet process stays quiet: what is taken out plays no part in what it reckons.
-        self.processes[net as usize].drain_below(bound, changes)?;
+        self.processes[net as usize].drain_below_into(bound, changes)?;
         Ok(())
     }
 }

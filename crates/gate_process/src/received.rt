@@ -8,10 +8,10 @@ ghost use Rattle.cmb_channels.specs.Kinds.{is_change};
 ghost use Rattle.gate_process.specs.Knowledge.{Knowledge, seen, seen_pins, as_known, nothing_known, told, kept_since, forgetting, keeping};
 ghost use Rattle.gate_process.specs.Step.{least_or, signals_of};
 
-use crate::changes::last_value;
 use crate::cursor::{Cursor, FEW};
+use crate::kept_changes::{KeptChanges, kept_below, last_kept};
 use cmb_channels::Message;
-use logic3::{ChangeQueue, Summary, Value, due_below};
+use logic3::{Summary, Value};
 use smallvec::SmallVec;
 use std::alloc::{AllocError, Global};
 use std::marker::Model;
@@ -21,7 +21,7 @@ use std::marker::Model;
 pub struct Received {
     // The value before the first change that is kept.
     before: Value,
-    changes: ChangeQueue,
+    changes: KeptChanges,
     frontier: u64,
 }
 
@@ -43,7 +43,7 @@ impl Received {
     {
         Received {
             before: Value::Unknown,
-            changes: ChangeQueue::new(alloc),
+            changes: KeptChanges::new(alloc),
             frontier: 0,
         }
     }
@@ -68,7 +68,7 @@ impl Received {
         match message {
             Message::Change(change) => {
                 self.changes.push(change)?;
-                self.frontier = u64::from(change.tick) + 1;
+                self.frontier = change.tick + 1;
             }
             Message::Null(bound) => self.frontier = bound,
         }
@@ -89,11 +89,11 @@ impl Received {
         ensures { self.new ≡ forgetting tick self.old }
     {
         let changes = self.changes.as_slice();
-        let early = due_below(changes, tick);
+        let early = kept_below(changes, tick);
         if early == 0 {
             return;
         }
-        self.before = last_value(self.before, &changes[..early]);
+        self.before = last_kept(self.before, &changes[..early]);
         self.changes.drop_front(early);
     }
 
@@ -102,15 +102,14 @@ impl Received {
     pub fn cursor(&self, wire: u32) -> Cursor<'_>
         ensures { result ≡ as_known (seen wire self.now) }
     {
-        let unknown = Some(self.frontier as u32);
-        Cursor::new(self.before, self.changes.as_slice(), unknown, wire)
+        Cursor::received(self.before, self.changes.as_slice(), self.frontier, wire)
     }
 
     /// The value of the last change, X where there was none.
     pub fn last(&self) -> Value
         ensures { result ≡ last_value self.now.wave }
     {
-        last_value(self.before, self.changes.as_slice())
+        last_kept(self.before, self.changes.as_slice())
     }
 }
 

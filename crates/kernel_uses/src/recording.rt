@@ -3,7 +3,6 @@ ghost use Rattle.std.specs.Prelude.{◌≡◌, ℕ, ◌<◌, ◌++◌, ◌∷◌
 ghost use Rattle.design.specs.Circuit.{pin_count};
 ghost use Rattle.design.specs.Pins.{sources_of};
 ghost use Rattle.cmb_channels.specs.Lists.{sent, taken, update};
-ghost use Rattle.cmb_channels.specs.Packing.{Fits};
 ghost use Rattle.kernel_uses.specs.Records.{IsEndOf, messages_in};
 
 use cmb_channels::{Fabric, Message};
@@ -75,8 +74,7 @@ impl<F: Fabric> Fabric for Recorder<F> {
     }
 
     fn send(&mut self, net: u32, message: Message) -> Result<(), AllocError>
-        requires net { net < self.old.nets }
-        requires fits { Fits message }
+        requires { net < self.old.nets }
         ensures ok { OnOk result (self.new.lists ≡ sent net (message ∷ []) self.old.sources self.old.lists) }
         ensures err { OnErr result (self.new.lists ≡ self.old.lists) }
         ensures pins { length self.new.lists ≡ length self.old.lists }

@@ -84,7 +84,9 @@ fn hear_all<F: Fabric>(kernel: &mut Kernel<'_, F>, net: u32) -> Result<(), Kerne
 {
     prove!(!kernel.is_failed());
     let design = kernel.design();
+    prove!(net < design.nets());
     for place in 0..design.pins_of(net).len() {
+        let place = place as u32;
         take_all(kernel, design.pin(net, place))?;
     }
     Ok(())

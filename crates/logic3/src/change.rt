@@ -6,10 +6,10 @@ ghost use Rattle.logic3.specs.Wave.{value_after};
 
 use crate::value::Value;
 
-/// From `tick` on, the value, until the next change. In eight bytes, since four hold the tick of every run.
+/// From `tick` on, the value, until the next change.
 #[derive(Clone, Copy, Debug, PartialEq, Eq)]
 pub struct Change {
-    pub tick: u32,
+    pub tick: u64,
     pub value: Value,
 }
 
@@ -20,7 +20,7 @@ pub fn value_after(before: Value, changes: &[Change], tick: u64) -> Value
     requires { TicksRise changes.now }
     ensures { result ≡ value_after before changes.now tick }
 {
-    let due = changes.partition_point(|change| u64::from(change.tick) <= tick);
+    let due = changes.partition_point(|change| change.tick <= tick);
     changes[..due].last().map_or(before, |change| change.value)
 }
 
@@ -31,6 +31,6 @@ pub fn due_below(changes: &[Change], tick: u64) -> usize
 {
     changes
         .iter()
-        .take_while(|change| u64::from(change.tick) < tick)
+        .take_while(|change| change.tick < tick)
         .count()
 }

@@ -46,6 +46,13 @@ impl ChangeQueue {
         &self.changes.as_slice()[self.start..]
     }
 
+    /// An empty list on the allocator of the queue.
+    pub fn no_changes(&self) -> Vec<Change>
+        ensures { result.items ≡ [] }
+    {
+        Vec::new(*self.changes.allocator())
+    }
+
     /// Adds a change at the end. An `AllocError` changes nothing.
     pub fn push(&mut self, change: Change) -> Result<(), AllocError>
         ensures ok { OnOk result (self.new ≡ self.old ++ change ∷ []) }
@@ -87,7 +94,7 @@ impl ChangeQueue {
     pub fn copy(&self) -> Result<ChangeQueue, AllocError>
         ensures { IfOk result (λ copy. copy ≡ self.now) }
     {
-        let mut changes = Vec::new(*self.changes.allocator());
+        let mut changes = self.no_changes();
         changes.extend_from_slice(self.as_slice())?;
         Ok(ChangeQueue { changes, start: 0 })
     }

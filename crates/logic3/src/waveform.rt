@@ -85,12 +85,27 @@ impl Waveform {
         Ok(())
     }
 
-    /// Takes out the changes before a tick, and adds them in order to the end of a list. The value
-    /// before the others becomes that of the last of them, where there is one.
+    /// Takes out the changes before a tick, and returns them in order. The value before the others
+    /// becomes that of the last of them, if any.
+    ///
+    /// If there are none it takes no memory. An `AllocError` leaves the waveform as it was.
+    pub fn split_below(&mut self, tick: u64) -> Result<Vec<Change>, AllocError>
+        ensures below { IfOk result (λ below. below.items ≡ changes_below tick self.old.changes) }
+        ensures rest { OnOk result (self.new ≡ without_below tick self.old) }
+        ensures err { OnErr result (self.new ≡ self.old) }
+        ensures memory { OnErr result (0 < length (changes_below tick self.old.changes)) }
+    {
+        let mut below = self.changes.no_changes();
+        self.split_below_into(tick, &mut below)?;
+        Ok(below)
+    }
+
+    /// Takes out the changes before a tick as [`split_below`](Self::split_below) does, and adds them in
+    /// order to the end of a list.
     ///
     /// Takes a step for each of them, on the whole: one comparison, where there is none. Where there is
     /// none it takes no memory. An `AllocError` leaves the waveform and the list as they were.
-    pub fn split_below(&mut self, tick: u64, below: &mut Vec<Change>) -> Result<(), AllocError>
+    pub fn split_below_into(&mut self, tick: u64, below: &mut Vec<Change>) -> Result<(), AllocError>
         ensures below { OnOk result (below.new.items ≡ below.old.items ++ changes_below tick self.old.changes) }
         ensures rest { OnOk result (self.new ≡ without_below tick self.old) }
         ensures same { OnErr result (below.new.items ≡ below.old.items) }

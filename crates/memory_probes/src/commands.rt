@@ -5,13 +5,10 @@ use crate::whole_runs::{
 };
 use command_line::parse_words;
 use engine_probes::{Follower, Teller};
-use nullsim::{
-    Asked, Keeping, Order, ReadFault, Reasoned, Texts, WithReason, answer_order, asked_by_words,
-    command, read_text,
-};
+use nullsim::{Asked, Order, ReadFault, Texts, answer_order, asked_by_words, command, read_text};
 use run_progress::Silent;
 use std::alloc::{AllocError, Global};
-use std::io::Write;
+use std::io::{self, Error, ErrorKind, Write};
 use worked_examples::dumps::OSCILLATOR_DUMP;
 
 /// The texts of the oscillator, each read anew whenever it is asked for.
@@ -30,12 +27,6 @@ impl Texts for Shelf {
             _ => return Err(ReadFault::Read),
         };
         read_text(self.alloc, &mut text)
-    }
-}
-
-impl Reasoned for Shelf {
-    fn reason(&self) -> Option<&[u8]> {
-        None
     }
 }
 
@@ -69,14 +60,34 @@ static LINES: [Line; 7] = [
     ),
 ];
 
-/// Probes each command line.
+/// A writer that takes nothing, for a reason.
+#[derive(Drop)]
+struct Full {}
+
+impl Write for Full {
+    fn write(&mut self, _buf: &[u8]) -> io::Result<usize> {
+        Err(Error::from(ErrorKind::StorageFull))
+    }
+
+    fn flush(&mut self) -> io::Result<()> {
+        Err(Error::from(ErrorKind::StorageFull))
+    }
+}
+
+/// What goes to standard error where such a writer is to take an answer, with `--verbose`.
+const UNWRITTEN: &[u8] = b"stdout:0: Write\n\
+    the system says: no storage space\n\
+    Write of reading and writing: standard output couldn't be written or flushed: the disk is full, or who read it has ended.\n\
+    want room on the disk, or a reader that reads to the end\n";
+
+/// Probes each command line, and one whose answer can't be written.
 pub(crate) fn probe<W: Write>(alloc: Global, teller: &mut Teller<W>) -> Option<()> {
     for (line, text) in &LINES {
         let words = told(teller, "words", words_of(alloc, line))?;
         orders(alloc, teller, words.as_slice(), text)?;
         commands(alloc, teller, words.as_slice(), text)?;
     }
-    Some(())
+    unwritten(alloc, teller)
 }
 
 fn words_of(alloc: Global, line: &str) -> Result<Vec<String>, AllocError> {
@@ -111,7 +122,8 @@ fn carried_out<W: Write>(
 ) -> Option<()> {
     let mut shelf = Shelf { alloc };
     let mut out = Follower::of(text);
-    let answer = order.carry_out(alloc, &mut shelf, &mut out, &mut Silent);
+    let texts = told(teller, "Order::read", order.read(alloc, &mut shelf))?;
+    let answer = order.carry_out(alloc, &texts, &mut out, &mut Silent);
     ended(teller, "Order::carry_out", answer, &out)
 }
 
@@ -133,9 +145,21 @@ fn commands<W: Write>(
     words: &[String],
     text: &'static [u8],
 ) -> Option<()> {
-    let mut shelf = Keeping::new(alloc, Shelf { alloc });
-    let mut out = WithReason::new(alloc, Follower::of(text));
-    let mut err = Follower::of(TOLD);
+    let mut shelf = Shelf { alloc };
+    let (mut out, mut err) = (Follower::of(text), Follower::of(TOLD));
     let status = command(alloc, words, &mut shelf, &mut out, &mut err);
-    answered(teller, "command", status, out.beneath(), &err)
+    answered(teller, "command", status, &out, &err)
+}
+
+/// Tells that a writer is full, and what the system said, unless memory for that was refused.
+fn unwritten<W: Write>(alloc: Global, teller: &mut Teller<W>) -> Option<()> {
+    let words = told(teller, "words", words_of(alloc, "info --bench e.bench -v"))?;
+    let mut err = Follower::of(UNWRITTEN);
+    let mut shelf = Shelf { alloc };
+    let status = command(alloc, words.as_slice(), &mut shelf, &mut Full {}, &mut err);
+    if err.is_whole() {
+        return teller.fine("command, unwritten", status == 3);
+    }
+    teller.refused("command, unwritten", status == 3 || status == 4);
+    None
 }

@@ -1,12 +1,13 @@
 //! Which fault of each layer says that a growth was refused.
 ghost use Rattle.std.specs.Prelude.{◌≡◌, IfSome, Ok};
 
+use bench_text::BenchFault;
 use decks::DeckFault;
 use engine_probes::Teller;
 use nullsim::NoOrder;
 use prepared_runs::SimFault;
 use program_io::{ProgramFault, ReadFault};
-use run_pairs::TwinFault;
+use run_pairs::{DiffFault, TwinFault};
 use std::alloc::AllocError;
 use std::io::Write;
 
@@ -42,6 +43,12 @@ impl Fault for AllocError {
     }
 }
 
+impl Fault for BenchFault {
+    fn is_memory(&self) -> bool {
+        matches!(self, BenchFault::Memory)
+    }
+}
+
 impl Fault for SimFault {
     fn is_memory(&self) -> bool {
         matches!(self, SimFault::Memory)
@@ -51,6 +58,18 @@ impl Fault for SimFault {
 impl Fault for TwinFault {
     fn is_memory(&self) -> bool {
         self.fault.is_memory()
+    }
+}
+
+impl Fault for DiffFault {
+    fn is_memory(&self) -> bool {
+        matches!(
+            self,
+            DiffFault::Run(TwinFault {
+                fault: SimFault::Memory,
+                ..
+            })
+        )
     }
 }
 

@@ -4,14 +4,14 @@ use circuit_texts::{cone_text, info};
 use decks::{answer_deck, deck, tell};
 use engine_probes::{Follower, Teller};
 use plain_runs::{plain, plain_with_progress};
-use prepared_runs::{Picks, Show, Source, View};
+use prepared_runs::{DumpView, Picks, Selection, Show, Source, View};
 use program_io::{
     read_text, write_check, write_cone, write_diff, write_info, write_plain, write_run, write_twin,
 };
 use run_notes::notes_text;
 use run_pairs::{DiffTicks, diff, twin};
 use run_progress::{Percents, Silent};
-use runs::{check, simulate, sweep};
+use runs::{check, simulate, simulate_with_progress, sweep, sweep_with_progress};
 use std::alloc::{AllocError, Global};
 use std::io::Write;
 use vcd_dump::TimeUnit;
@@ -41,14 +41,23 @@ const RING: Source<'static> = Source {
 const INPUT_DUMP: &[u8] =
     b"$version nullsim 1 $end\n$timescale 1 ns $end\n$scope module top $end\n$var wire 1 ! e $end\n$upscope $end\n$enddefinitions $end\n#0\n$dumpvars\n0!\n$end\n#5\n1!\n#12\n";
 
-/// A run, its horizon, the only net that it shows, where it doesn't show all, and what goes out of it.
-type Run = (Source<'static>, u64, Option<&'static [u8]>, &'static [u8]);
+/// The oscillator without events to begin with.
+const UNPICKED: Source<'static> = Source {
+    picks: Picks::Nothing,
+    ..OSCILLATOR
+};
 
-static RUNS: [Run; 3] = [
-    (OSCILLATOR, 12, None, OSCILLATOR_DUMP),
-    (RING, 10, None, PRESET_RING_DUMP),
-    (OSCILLATOR, 12, Some(b"e"), INPUT_DUMP),
+/// A run, its horizon, and what goes out of it.
+type Run = (Source<'static>, u64, &'static [u8]);
+
+/// Runs that show all nets.
+static RUNS: [Run; 2] = [
+    (OSCILLATOR, 12, OSCILLATOR_DUMP),
+    (RING, 10, PRESET_RING_DUMP),
 ];
+
+/// Runs that show the input alone.
+static INPUT_RUNS: [Run; 2] = [(OSCILLATOR, 12, INPUT_DUMP), (UNPICKED, 12, INPUT_DUMP)];
 
 /// The oscillator as a deck.
 const DECK: &[u8] =
@@ -87,13 +96,22 @@ const COUNTING: DiffTicks = DiffTicks {
 
 /// Probes the calls for runs, then those for decks.
 pub(crate) fn probe<W: Write>(alloc: Global, teller: &mut Teller<W>) -> Option<()> {
-    for (source, horizon, net, dump) in &RUNS {
+    for (source, horizon, dump) in &RUNS {
         let view = View {
             horizon: *horizon,
-            show: told(teller, "Show::Named", shown(alloc, *net))?,
+            show: Show::All,
             unit: TimeUnit::Ns,
         };
         dumps(alloc, teller, source, &view, dump)?;
+        written_dumps(alloc, teller, source, &DumpView::of(&view), dump)?;
+    }
+    for (source, horizon, dump) in &INPUT_RUNS {
+        let view = DumpView {
+            horizon: *horizon,
+            show: told(teller, "Selection::Named", input_twice(alloc))?,
+            unit: TimeUnit::Ns,
+        };
+        named_dumps(alloc, teller, source, &view, dump)?;
         written_dumps(alloc, teller, source, &view, dump)?;
     }
     progress(alloc, teller)?;
@@ -103,12 +121,10 @@ pub(crate) fn probe<W: Write>(alloc: Global, teller: &mut Teller<W>) -> Option<(
     readings(alloc, teller)
 }
 
-/// This net alone, named twice, or all of them.
-fn shown(alloc: Global, net: Option<&'static [u8]>) -> Result<Show<'static>, AllocError> {
-    match net {
-        Some(name) => Ok(Show::Named(Vec::from_slice(alloc, &[name, name])?)),
-        None => Ok(Show::All),
-    }
+/// The input alone, named twice.
+fn input_twice(alloc: Global) -> Result<Selection<'static>, AllocError> {
+    let name: &'static [u8] = b"e";
+    Ok(Selection::Named(Vec::from_slice(alloc, &[name, name])?))
 }
 
 /// Tells of a call that writes a text. It is out where the call was carried out, and else a first part.
@@ -131,7 +147,7 @@ fn dumps<W: Write>(
     alloc: Global,
     teller: &mut Teller<W>,
     source: &Source<'_>,
-    view: &View<'_>,
+    view: &View,
     dump: &'static [u8],
 ) -> Option<()> {
     let mut out = Follower::of(dump);
@@ -145,11 +161,29 @@ fn dumps<W: Write>(
     ended(teller, "runs::plain", answer, &out)
 }
 
+fn named_dumps<W: Write>(
+    alloc: Global,
+    teller: &mut Teller<W>,
+    source: &Source<'_>,
+    view: &DumpView<'_>,
+    dump: &'static [u8],
+) -> Option<()> {
+    let mut out = Follower::of(dump);
+    let answer = simulate_with_progress(alloc, source, view, &mut out, &mut Silent);
+    ended(teller, "runs::simulate_with_progress", answer, &out)?;
+    let mut out = Follower::of(dump);
+    let answer = sweep_with_progress(alloc, source, view, &mut out, &mut Silent);
+    ended(teller, "runs::sweep_with_progress", answer, &out)?;
+    let mut out = Follower::of(dump);
+    let answer = plain_with_progress(alloc, source, view, &mut out, &mut Silent);
+    ended(teller, "runs::plain_with_progress", answer, &out)
+}
+
 /// The oscillator by the plain engine. Where a growth is refused the line of percents ends early.
 fn progress<W: Write>(alloc: Global, teller: &mut Teller<W>) -> Option<()> {
-    let view = View {
+    let view = DumpView {
         horizon: 12,
-        show: Show::All,
+        show: Selection::All,
         unit: TimeUnit::Ns,
     };
     let (mut out, mut err) = (Follower::of(OSCILLATOR_DUMP), Follower::of(PERCENTS));
@@ -173,7 +207,7 @@ fn written_dumps<W: Write>(
     alloc: Global,
     teller: &mut Teller<W>,
     source: &Source<'_>,
-    view: &View<'_>,
+    view: &DumpView<'_>,
     dump: &'static [u8],
 ) -> Option<()> {
     for counts in [false, true] {

@@ -1,14 +1,15 @@
 -- The line of counts, and what an order tells beside its answer.
-use Rattle.std.proofs.Common.{◌≡◌, ℕ, List, [], ◌∷◌, ◌++◌, ap, sym, subst, ◌∙◌, append_assoc}
+use Rattle.std.proofs.Common.{◌≡◌, ℕ, Bool, List, [], ◌∷◌, ◌++◌, Result, Ok, inl, inr, ap, sym, subst, ◌∙◌, append_assoc}
 use Rattle.std.proofs.lemmas.List.{append-nil}
 use Rattle.std.specs.List.{concat}
 use Rattle.program_io.specs.declared.outcome.Outcome.{Outcome}
+use Rattle.program_io.specs.declared.program_fault.ProgramFault.{ProgramFault}
+use Rattle.program_io.specs.Answers.{Answer, GoesOut}
+use Rattle.program_io.proofs.CallerLemmas.{AnswerEndsBy-weaker}
 use Rattle.vcd_dump.specs.Bytes.{AppendsPrefix}
 use Rattle.orders.specs.declared.order.Order.{Order}
-use Rattle.orders.specs.Options.{KnownTexts}
-use Rattle.orders.specs.OrderAnswer.{Answered}
-use Rattle.orders.specs.Readings.{ReadsAll, files_of}
-use Rattle.nullsim.specs.Command.{OrderDone, Streams, outcome_text, status_of_outcome}
+use Rattle.nullsim.specs.Command.{AnswerDone, Streams, outcome_text, status_of_outcome}
+use Rattle.nullsim.specs.Progress.{Answered}
 
 -- texts joined from the left
 abbrev pub joined : List ℕ → List (List ℕ) → List ℕ
@@ -19,9 +20,18 @@ pub concat-joined : (text : List ℕ) (texts : List (List ℕ)) → concat (text
 concat-joined text [] = append-nil text
 concat-joined text (next ∷ texts) = sym (append_assoc text next (concat texts)) ∙ concat-joined (text ++ next) texts
 
--- an order is done, and what is told beside its answer was told
-pub OrderDone-outcome : (known : KnownTexts) (order : Order) (old new : Streams) (outcome : Outcome) (status : ℕ) →
-    Answered known order old.out new.out outcome → ReadsAll (files_of order) old.readings new.readings →
-    AppendsPrefix old.err new.err (outcome_text outcome) → status ≡ status_of_outcome outcome → OrderDone known order old new status
-OrderDone-outcome known order old new outcome status (answer, is, (appends, same)) read part told =
-    (read, (answer, is, (appends, subst (λ (o : Outcome). AppendsPrefix old.err new.err (outcome_text o)) same part, told ∙ ap status_of_outcome same)))
+-- such an answer went out, and what is told beside it was told
+pub AnswerDone-outcome : (IsSuch : Result Answer ProgramFault → Type 0) (old new : Streams) (outcome : Outcome) (status : ℕ) →
+    GoesOut IsSuch old.out new.out outcome → AppendsPrefix old.err new.err (outcome_text outcome) → status ≡ status_of_outcome outcome →
+    AnswerDone IsSuch old new status
+AnswerDone-outcome IsSuch old new outcome status (answer, is, (appends, same)) part told =
+    (answer, is, (appends, subst (λ (o : Outcome). AppendsPrefix old.err new.err (outcome_text o)) same part, told ∙ ap status_of_outcome same))
+
+-- an answer of the one kind is one of the other
+module _ (P Q : Result Answer ProgramFault → Type 0) (turns : (answer : Result Answer ProgramFault) → P answer → Q answer) where
+  pub Answered-weaker : (progress : Bool) (order : Order) (old new : Streams) (status : ℕ) → Answered P progress order old new status →
+      Answered Q progress order old new status
+  Answered-weaker progress order old new status (inl (told, progressed, (answer, is, done))) =
+      inl (told, progressed, (answer, turns (Ok answer) is, done))
+  Answered-weaker progress order old new status (inr (told, progressed, (fault, no_read, ends, reports))) =
+      inr (told, progressed, (fault, no_read, AnswerEndsBy-weaker P Q turns old.out new.out fault ends, reports))

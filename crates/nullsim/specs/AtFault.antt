@@ -18,8 +18,8 @@ use Rattle.wave_diff.specs.declared.fault.ComparedFault.{ComparedFault}
 use Rattle.wave_diff.specs.declared.fault.ComparedFault.TheVariants as compared
 use Rattle.prepared_runs.specs.declared.fault.SimFault.{SimFault}
 use Rattle.prepared_runs.specs.declared.fault.SimFault.TheVariants as sim
-use Rattle.prepared_runs.specs.declared.view.Show.{Show}
-use Rattle.prepared_runs.specs.declared.view.Show.TheVariants.{Named}
+use Rattle.prepared_runs.specs.declared.view.Selection.{Selection}
+use Rattle.prepared_runs.specs.declared.view.Selection.TheVariants.{Named}
 use Rattle.plain_runs.specs.declared.diagram_run.DiagramView.{DiagramView}
 use Rattle.run_pairs.specs.declared.diff_run.DiffTicks.{DiffTicks}
 use Rattle.run_pairs.specs.declared.twin_run.Side.{Side}
@@ -29,8 +29,8 @@ use Rattle.program_io.specs.declared.program_fault.ProgramFault.TheVariants as p
 use Rattle.orders.specs.declared.order.Order.{Order}
 use Rattle.orders.specs.declared.order.Order.TheVariants.{Run, Plain, Draw, Trace, Why, Stimuli, Info, Cone, Diff, Twin, Check}
 use Rattle.orders.specs.declared.order.SourceOptions.{SourceOptions}
-use Rattle.orders.specs.FileNames.{names_of}
-use Rattle.orders.specs.Options.{KnownTexts}
+use Rattle.orders.specs.declared.order_texts.OrderTexts.{OrderTexts}
+use Rattle.orders.specs.Options.{texts_on}
 
 -- ---- what an order was given
 
@@ -83,7 +83,7 @@ input_driven (Stimuli bench drives draws horizon) place = option_map (λ (driven
 input_driven other place = None
 
 -- the nets that it asks for by name
-abbrev pub names_shown : Show → List (List ℕ)
+abbrev pub names_shown : Selection → List (List ℕ)
 names_shown (Named names) = seen_names names.items
 names_shown other = []
 
@@ -121,13 +121,13 @@ number_of_draws other draws = None
 
 abbrev pub number_in_run : Order → Side → SimFault → Option ℕ
 number_in_run order side (sim.Setting fault) = number_of_setting order side fault
-number_in_run order side (sim.Columns fault) = option_and_then (number_of_columns fault) (diagram_in order)
-number_in_run order side (sim.Compared fault) = option_and_then (number_of_ticks fault) (ticks_in order)
-number_in_run order side (sim.Drives fault) = option_and_then (number_of_draws fault) (draws_in order)
 number_in_run order side other = None
 
 abbrev pub number_at_fault : Order → ProgramFault → Option ℕ
 number_at_fault order (program.Run side fault) = number_in_run order side fault
+number_at_fault order (program.Columns fault) = option_and_then (number_of_columns fault) (diagram_in order)
+number_at_fault order (program.Compared fault) = option_and_then (number_of_ticks fault) (ticks_in order)
+number_at_fault order (program.Drives fault) = option_and_then (number_of_draws fault) (draws_in order)
 number_at_fault order other = None
 
 -- ---- the name at fault
@@ -140,35 +140,35 @@ place_of_drive (drive.BadHalf place) = Some place
 place_of_drive (drive.BadPulse place) = Some place
 place_of_drive other = None
 
--- the netlist of a text, if the text is known and is one
+-- the netlist of a text, if it is one
 abbrev pub if_read : Result NetlistView BenchFault → Option NetlistView
 if_read (Ok netlist) = Some netlist
 if_read (Err fault) = None
 
-abbrev pub netlist_in : Option (List ℕ) → Option NetlistView
-netlist_in text = option_and_then (λ text. if_read (netlist_of text)) text
+abbrev pub netlist_in : List ℕ → Option NetlistView
+netlist_in text = if_read (netlist_of text)
 
 -- no net of either netlist has the name
 abbrev pub in_neither : NetlistView → NetlistView → List ℕ → Bool
 in_neither one other name = is_none (net_named one name) && is_none (net_named other name)
 
--- the first such name, if both netlists are known
+-- the first such name, if there are both netlists
 abbrev pub first_in_neither : List (List ℕ) → Option NetlistView → Option NetlistView → Option (List ℕ)
 first_in_neither names one other = option_and_then (λ one. option_and_then (λ other. find (in_neither one other) names) other) one
 
 -- the first name that an order asks for and no net of its netlist has, for `diff` of neither of the two
-abbrev pub unknown_asked : KnownTexts → Order → Side → Option (List ℕ)
-unknown_asked held (Diff first second names ticks) side =
-    first_in_neither (seen_names names.items) (netlist_in (held first.bench.now)) (netlist_in (held second.bench.now))
-unknown_asked held order side =
-    let netlist = netlist_in (held (names_of order side).bench) in
+abbrev pub unknown_asked : Order → Side → OrderTexts → Option (List ℕ)
+unknown_asked (Diff first second names ticks) side texts =
+    first_in_neither (seen_names names.items) (netlist_in texts.first.bench.items) (netlist_in texts.second.bench.items)
+unknown_asked order side texts =
+    let netlist = netlist_in (texts_on texts side).bench.items in
     first_in_neither (names_asked order) netlist netlist
 
-abbrev pub name_in_run : KnownTexts → Order → Side → SimFault → Option (List ℕ)
-name_in_run held order side sim.UnknownNet = unknown_asked held order side
-name_in_run held order side (sim.Drives fault) = option_and_then (input_driven order) (place_of_drive fault)
-name_in_run held order side other = None
+abbrev pub name_in_run : Order → Side → SimFault → OrderTexts → Option (List ℕ)
+name_in_run order side sim.UnknownNet texts = unknown_asked order side texts
+name_in_run order side other texts = None
 
-abbrev pub name_at_fault : KnownTexts → Order → ProgramFault → Option (List ℕ)
-name_at_fault held order (program.Run side fault) = name_in_run held order side fault
-name_at_fault held order other = None
+abbrev pub name_at_fault : Order → ProgramFault → OrderTexts → Option (List ℕ)
+name_at_fault order (program.Run side fault) texts = name_in_run order side fault texts
+name_at_fault order (program.Drives fault) texts = option_and_then (input_driven order) (place_of_drive fault)
+name_at_fault order other texts = None

@@ -1,5 +1,5 @@
 -- How the program with words ends.
-use Rattle.std.specs.Prelude.{◌≡◌, ◌⊎◌, ℕ, Bool, List, [], ◌∷◌, ◌++◌, Option, String, codes, bytes_eq, string_bytes, IsTrue}
+use Rattle.std.specs.Prelude.{◌≡◌, ◌⊎◌, ℕ, Bool, List, [], ◌∷◌, ◌++◌, Option, Result, String, codes, bytes_eq, string_bytes, IsTrue}
 use Rattle.std.specs.List.{list_any}
 use Rattle.std.specs.Io.KnownBytes.{Appends, Keeps}
 use Rattle.std.specs.declared.alloc.Global.{Global}
@@ -11,13 +11,12 @@ use Rattle.program_io.specs.declared.outcome.Outcome.{Outcome}
 use Rattle.program_io.specs.declared.outcome.Outcome.TheVariants.{Done, Counted, Differing}
 use Rattle.program_io.specs.declared.program_fault.ProgramFault.{ProgramFault}
 use Rattle.program_io.specs.declared.program_fault.ProgramFault.TheVariants as program
+use Rattle.program_io.specs.Answers.{Answer, AnswerEndsBy, IsNoRead}
 use Rattle.program_io.specs.Ends.{ForAnswer, WriteEndsBy}
-use Rattle.orders.specs.Options.{KnownTexts}
-use Rattle.orders.specs.OrderAnswer.{IsAnswer, OrderEndsBy}
 use Rattle.orders.specs.FileNames.{names_of}
 use Rattle.program_io.specs.Place.{section_names}
 use Rattle.program_io.specs.ProgramFaults.{side_of}
-use Rattle.orders.specs.Readings.{KnownReadings, ReadsAll, ReadsUntil, files_of}
+use Rattle.orders.specs.Readings.{KnownReadings, StopsBy, files_of}
 use Rattle.program_io.specs.Report.{Reports}
 use Rattle.command_line.specs.declared.words.NoOrder.{NoOrder}
 use Rattle.command_line.specs.declared.words.NoOrder.TheVariants.{Help, Usage, Memory}
@@ -48,17 +47,22 @@ status_of_outcome Done = 0
 status_of_outcome (Counted counts) = 0
 status_of_outcome Differing = 5
 
--- its files were read and its answer went out; what is told beside it was told, or a first part of that
-abbrev pub OrderDone : KnownTexts → Order → Streams → Streams → ℕ → Type 0
-OrderDone known order old new status =
-    ReadsAll (files_of order) old.readings new.readings
-    × ForAnswer (IsAnswer known order) (λ answer. Appends old.out new.out answer.text
+-- a file could not be read: nothing went out, and that was told
+abbrev pub OrderUnread : Order → Streams → Streams → ℕ → Type 0
+OrderUnread order old new status =
+    (fault : ProgramFault) × StopsBy (files_of order) old.readings new.readings fault × (new.out ≡ old.out)
+    × Reports (names_of order (side_of fault)) fault old.err new.err status
+
+-- such an answer went out; what is told beside it was told, or a first part of that
+abbrev pub AnswerDone : (Result Answer ProgramFault → Type 0) → Streams → Streams → ℕ → Type 0
+AnswerDone IsSuch old new status =
+    ForAnswer IsSuch (λ answer. Appends old.out new.out answer.text
     × AppendsPrefix old.err new.err (outcome_text answer.outcome) × (status ≡ status_of_outcome answer.outcome))
 
--- it ended by a fault, which was told
-abbrev pub OrderBroken : KnownTexts → Order → Streams → Streams → ℕ → Type 0
-OrderBroken known order old new status =
-    (fault : ProgramFault) × ReadsUntil (files_of order) old.readings new.readings fault × OrderEndsBy known order old.out new.out fault
+-- the order whose answer is such ended by a fault behind the reading of its files, which was told
+abbrev pub AnswerBroken : (Result Answer ProgramFault → Type 0) → Order → Streams → Streams → ℕ → Type 0
+AnswerBroken IsSuch order old new status =
+    (fault : ProgramFault) × IsNoRead fault × AnswerEndsBy IsSuch old.out new.out fault
     × Reports (names_of order (side_of fault)) fault old.err new.err status
 
 -- ---- words that are no order

@@ -1,7 +1,6 @@
 pub mod Asked
 pub mod AtFault
 pub mod Command
-pub mod Kept
 pub mod Noted
 pub mod Progress
 pub mod Verbose

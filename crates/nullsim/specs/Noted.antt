@@ -12,9 +12,10 @@ use Rattle.orders.specs.declared.order.Order.TheVariants.{Run, Plain, Draw, Trac
 use Rattle.orders.specs.declared.order.PickOptions.{PickOptions}
 use Rattle.orders.specs.declared.order.PickOptions.TheVariants as picked
 use Rattle.orders.specs.declared.order.SourceOptions.{SourceOptions}
-use Rattle.orders.specs.Options.{KnownTexts, text_named}
-use Rattle.orders.specs.OrderAnswer.{IsAnswer}
-use Rattle.orders.specs.Readings.{ReadsAll, files_of}
+use Rattle.orders.specs.declared.order_texts.OrderTexts.{OrderTexts}
+use Rattle.orders.specs.declared.source_texts.SourceTexts.{SourceTexts}
+use Rattle.orders.specs.Options.{source_from}
+use Rattle.orders.specs.OrderAnswer.{IsAnswerTo}
 use Rattle.nullsim.specs.Command.{Streams, outcome_text, status_of_outcome}
 
 -- the run of an order that asks for one run to a horizon
@@ -26,21 +27,9 @@ run_of (Trace options horizon) = Some (options, horizon)
 run_of (Check options horizon) = Some (options, horizon)
 run_of other = None
 
--- these numbers and these texts, where each text is there; nothing is picked
-abbrev pub source_of : SourceOptions → Option (List ℕ) → Option (List ℕ) → Option (List ℕ) → Option SourceView
-source_of options (Some bench) (Some delays) (Some stimuli) = Some (record {
-  bench = bench;
-  delays = delays;
-  stimuli = stimuli;
-  default_delay = options.delay;
-  period = options.period;
-  picks = nothing;
-})
-source_of options bench delays stimuli = None
-
--- the texts that are kept of its files
-abbrev pub kept_source : KnownTexts → SourceOptions → Option SourceView
-kept_source held options = source_of options (held options.bench.now) (text_named held options.delays) (text_named held options.stimuli)
+-- the run of these options and texts; nothing is picked
+abbrev pub noted_source : SourceOptions → SourceTexts → SourceView
+noted_source options texts = record (source_from options texts) { picks = nothing }
 
 -- a text, and none in place of a fault
 abbrev pub text_or_none : Result (List ℕ) SimFault → List ℕ
@@ -56,25 +45,20 @@ picks_note picked.Nothing = []
 picks_note (picked.File name) = []
 picks_note (picked.Seeded seed picks) = drawn_note picks
 
-abbrev pub source_notes : PickOptions → Option SourceView → ℕ → List ℕ
-source_notes picks None horizon = []
-source_notes picks (Some source) horizon = text_or_none (notes_of_source source horizon) ++ picks_note picks
+abbrev pub run_notes : OrderTexts → Option (SourceOptions × ℕ) → List ℕ
+run_notes texts None = []
+run_notes texts (Some run) = text_or_none (notes_of_source (noted_source run.0 texts.first) run.1) ++ picks_note (run.0).picks
 
-abbrev pub run_notes : KnownTexts → Option (SourceOptions × ℕ) → List ℕ
-run_notes held None = []
-run_notes held (Some run) = source_notes (run.0).picks (kept_source held run.0) run.1
-
--- what is noted of an order's run, where its texts are kept
-abbrev pub order_notes : KnownTexts → Order → List ℕ
-order_notes held order = run_notes held (run_of order)
+-- what is noted of an order's run, by its texts
+abbrev pub order_notes : OrderTexts → Order → List ℕ
+order_notes texts order = run_notes texts (run_of order)
 
 -- a text went out and another behind it, or a first part of each
 abbrev pub AppendsParts : Option (List ℕ) → Option (List ℕ) → List ℕ → List ℕ → Type 0
 AppendsParts old new text more = (mid : Option (List ℕ)) × AppendsPrefix old mid text × AppendsPrefix mid new more
 
--- its files were read and its answer went out; what is told beside it was told, and these notes behind that
-abbrev pub OrderDoneWith : List ℕ → KnownTexts → Order → Streams → Streams → ℕ → Type 0
-OrderDoneWith notes known order old new status =
-    ReadsAll (files_of order) old.readings new.readings
-    × ForAnswer (IsAnswer known order) (λ answer. Appends old.out new.out answer.text
-    × AppendsParts old.err new.err (outcome_text answer.outcome) notes × (status ≡ status_of_outcome answer.outcome))
+-- the answer over these texts went out; what is told beside it was told, and what is noted of its run behind that
+abbrev pub AnswerNoted : OrderTexts → Order → Streams → Streams → ℕ → Type 0
+AnswerNoted texts order old new status =
+    ForAnswer (IsAnswerTo order texts) (λ answer. Appends old.out new.out answer.text
+    × AppendsParts old.err new.err (outcome_text answer.outcome) (order_notes texts order) × (status ≡ status_of_outcome answer.outcome))

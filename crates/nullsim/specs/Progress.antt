@@ -1,14 +1,19 @@
 -- What an order tells of how far it is, before all else that it tells.
-use Rattle.std.specs.Prelude.{◌≡◌, ◌⊎◌, ℕ, Bool, true, false, List, Option}
+use Rattle.std.specs.Prelude.{◌≡◌, ◌⊎◌, ℕ, Bool, true, false, List, Option, Result}
 use Rattle.explanations.specs.declared.table.Table.{Table}
 use Rattle.vcd_dump.specs.Bytes.{AppendsPrefix}
 use Rattle.run_progress.specs.Percents.{progress_text}
+use Rattle.program_io.specs.declared.program_fault.ProgramFault.{ProgramFault}
+use Rattle.program_io.specs.Answers.{Answer}
 use Rattle.orders.specs.declared.order.Order.{Order}
-use Rattle.orders.specs.Options.{KnownTexts}
+use Rattle.orders.specs.declared.order_texts.OrderTexts.{OrderTexts}
+use Rattle.orders.specs.Options.{KnownTexts, ReadsOrder}
+use Rattle.orders.specs.OrderAnswer.{IsAnswer}
 use Rattle.orders.specs.Progress.{BrokenTicks, DoneTicks, horizon_told}
-use Rattle.nullsim.specs.Command.{OrderBroken, OrderDone, Streams}
-use Rattle.nullsim.specs.Noted.{OrderDoneWith, order_notes}
-use Rattle.nullsim.specs.Verbose.{OrderBrokenVerbosely, Remembered}
+use Rattle.orders.specs.Readings.{ReadsAll, files_of}
+use Rattle.nullsim.specs.Command.{AnswerBroken, AnswerDone, OrderUnread, Streams}
+use Rattle.nullsim.specs.Noted.{AnswerNoted}
+use Rattle.nullsim.specs.Verbose.{AnswerBrokenVerbosely, OrderUnreadVerbosely}
 
 -- the percents of such numbers of ticks went out, or a first part of them; nothing where they aren't asked for
 abbrev pub TellsProgress : Bool → Order → (List ℕ → Type 0) → Option (List ℕ) → Option (List ℕ) → Type 0
@@ -24,14 +29,28 @@ module _ (progress : Bool) (order : Order) (old : Streams) where
   abbrev pub Ended : (Streams → Type 0) → (Streams → Type 0) → Type 0
   Ended Done Broken = Behind (DoneTicks order) Done ⊎ Behind (BrokenTicks order) Broken
 
--- its answer, or its fault, is told
+-- ---- an order
+
+-- such an answer, or the fault behind the reading of all files, is told
+abbrev pub Answered : (Result Answer ProgramFault → Type 0) → Bool → Order → Streams → Streams → ℕ → Type 0
+Answered IsSuch progress order old new status =
+    Ended progress order old (λ told. AnswerDone IsSuch told new status) (λ told. AnswerBroken IsSuch order told new status)
+
+-- its files were read, and its answer, or its fault, is told; or one could not be read, and nothing else is told
 abbrev pub OrderTold : Bool → KnownTexts → Order → Streams → Streams → ℕ → Type 0
 OrderTold progress known order old new status =
-    Ended progress order old (λ told. OrderDone known order told new status) (λ told. OrderBroken known order told new status)
+    OrderUnread order old new status
+    ⊎ (ReadsAll (files_of order) old.readings new.readings × Answered (IsAnswer known order) progress order old new status)
 
--- and its fault explained, or what is noted of its run told, by what is remembered
-abbrev pub OrderToldVerbosely : Bool → List Table → Remembered → KnownTexts → Order → Streams → Streams → ℕ → Type 0
-OrderToldVerbosely progress tables remembered known order old new status =
-    Ended progress order old
-    (λ told. OrderDoneWith (order_notes remembered.held order) known order told new status)
-    (λ told. OrderBrokenVerbosely tables remembered known order told new status)
+-- ---- and its fault explained, or what is noted of its run told
+
+abbrev pub AnsweredVerbosely : List Table → OrderTexts → Bool → Order → Streams → Streams → ℕ → Type 0
+AnsweredVerbosely tables texts progress order old new status =
+    Ended progress order old (λ told. AnswerNoted texts order told new status) (λ told. AnswerBrokenVerbosely tables order told new status texts)
+
+-- by the texts that were read, or by what the texts know that the system said of a failed read
+abbrev pub OrderToldVerbosely : Bool → List Table → Option (List ℕ) → KnownTexts → Order → Streams → Streams → ℕ → Type 0
+OrderToldVerbosely progress tables said known order old new status =
+    OrderUnreadVerbosely tables order old new status said
+    ⊎ ((texts : OrderTexts) × ReadsOrder known order texts × ReadsAll (files_of order) old.readings new.readings
+    × AnsweredVerbosely tables texts progress order old new status)

@@ -1,17 +1,16 @@
 //! The program with words.
-ghost use Rattle.std.specs.Prelude.{◌≡◌, ◌≢◌, IfErr, OnErr, OnOk, IsTrue};
+ghost use Rattle.std.specs.Prelude.{◌≡◌, ◌≢◌, None, IfErr, OnErr, OnOk, IsTrue};
 ghost use Rattle.std.specs.Io.KnownBytes.{Appends, Keeps};
 ghost use Rattle.vcd_dump.specs.Bytes.{AppendsPrefix};
 ghost use Rattle.vcd_dump.specs.Faults.{IsFailedWrite};
 ghost use Rattle.event_trace.specs.Lines.{counts_line};
 ghost use Rattle.explanations.specs.Explained.{all_names, explained};
+ghost use Rattle.orders.specs.OrderAnswer.{IsAnswerTo};
 ghost use Rattle.nullsim.specs.Asked.{CommandEnds, OrderEnds};
 ghost use Rattle.nullsim.specs.Command.{Explains, TextGiven, TextMade, VersionGiven, line_of_numbers, outcome_text, status_of_outcome};
-ghost use Rattle.nullsim.specs.Progress.{OrderTold};
+ghost use Rattle.nullsim.specs.Progress.{Answered, OrderTold};
 ghost use Rattle.nullsim.specs.Version.{asks_for_version};
 
-use crate::kept::KeptTexts;
-use crate::reasons::Reasoned;
 use crate::telling::carry_out;
 use crate::verbose::answer_verbosely;
 use crate::version::{asks_for_version, give_version};
@@ -20,7 +19,7 @@ use cmb_kernel::Counts;
 use command_line::{Asked, NoOrder};
 use explanations::{Table, explanation_text, names_text, tables};
 use itoa::Buffer;
-use orders::{Order, Texts};
+use orders::{Order, OrderTexts, Texts};
 use program_io::status::{DIFFERENT, DONE, WRONG_WORDS};
 use program_io::{Outcome, ProgramFault, SECTIONS, report, write_pieces, write_text};
 use std::alloc::Global;
@@ -36,16 +35,14 @@ use vcd_dump::{DumpFault, write_all_bytes};
 /// Where the words are just `--version` or `-V` the version goes to `out`, and where a word asks for help
 /// that does; the status is 0 then. Where the words are wrong the
 /// status is 2, and some lines that say so go to `err`; then no text is asked for.
-pub fn command<T: KeptTexts, W: Write + Reasoned, E: Write>(
+pub fn command<T: Texts, W: Write, E: Write>(
     alloc: Global,
     words: &[String],
     texts: &mut T,
     out: &mut W,
     err: &mut E,
 ) -> u8
-    ensures ends { CommandEnds words.now
-        (record { held = T.held texts.new; read = T.said texts.new; written = W.said out.new })
-        (T.known texts.old)
+    ensures ends { CommandEnds words.now (T.said texts.new) (T.known texts.old)
         (record { readings = T.readings texts.old; out = W.contents out.old; err = E.contents err.old })
         (record { readings = T.readings texts.new; out = W.contents out.new; err = E.contents err.new }) result }
     ensures version { IsTrue (asks_for_version words.now) → VersionGiven
@@ -72,7 +69,7 @@ pub fn command<T: KeptTexts, W: Write + Reasoned, E: Write>(
 }
 
 /// Carries out an order, verbosely or not, and answers the exit status.
-fn answer_as_asked<T: KeptTexts, W: Write + Reasoned, E: Write>(
+fn answer_as_asked<T: Texts, W: Write, E: Write>(
     alloc: Global,
     order: &Order<'_>,
     verbose: bool,
@@ -81,9 +78,7 @@ fn answer_as_asked<T: KeptTexts, W: Write + Reasoned, E: Write>(
     out: &mut W,
     err: &mut E,
 ) -> u8
-    ensures told { OrderEnds verbose progress
-        (record { held = T.held texts.new; read = T.said texts.new; written = W.said out.new })
-        (T.known texts.old) order.now
+    ensures told { OrderEnds verbose progress (T.said texts.new) (T.known texts.old) order.now
         (record { readings = T.readings texts.old; out = W.contents out.old; err = E.contents err.old })
         (record { readings = T.readings texts.new; out = W.contents out.new; err = E.contents err.new }) result }
     ensures no_usage { result ≢ 2 }
@@ -116,7 +111,27 @@ pub fn answer_order<T: Texts, W: Write, E: Write>(
         (record { readings = T.readings texts.new; out = W.contents out.new; err = E.contents err.new }) result }
     ensures no_usage { result ≢ 2 }
 {
-    match carry_out(alloc, order, progress, texts, out, err) {
+    match order.read(alloc, texts) {
+        Ok(read) => answer_read(alloc, order, progress, &read, out, err),
+        Err(unread) => report(err, unread, order.text_names(unread.side())),
+    }
+}
+
+/// The same, behind the reading of the order's files.
+fn answer_read<W: Write, E: Write>(
+    alloc: Global,
+    order: &Order<'_>,
+    progress: bool,
+    texts: &OrderTexts,
+    out: &mut W,
+    err: &mut E,
+) -> u8
+    ensures told { Answered (IsAnswerTo order.now texts.now) progress order.now
+        (record { readings = None; out = W.contents out.old; err = E.contents err.old })
+        (record { readings = None; out = W.contents out.new; err = E.contents err.new }) result }
+    ensures no_usage { result ≢ 2 }
+{
+    match carry_out(alloc, order, texts, progress, out, err) {
         Ok(outcome) => tell_outcome(err, outcome),
         Err(fault) => report(err, fault, order.text_names(fault.side())),
     }

@@ -4,6 +4,8 @@ ghost use Rattle.vcd_dump.specs.declared.unit.TimeUnit.{TimeUnit};
 ghost use Rattle.vcd_dump.specs.Dump.{heading, line};
 ghost use Rattle.nullsim.specs.Version.{version};
 
+pub use runs::laws::isolation;
+
 /// The first line of each dump tells the program's version.
 pub fn dumps_tell_the_version()
     ensures { (unit : TimeUnit) →

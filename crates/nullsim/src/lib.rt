@@ -2,7 +2,6 @@
 #![tactic(auto)]
 
 mod commander;
-mod kept;
 pub mod laws;
 mod names;
 mod notes;
@@ -18,13 +17,13 @@ pub use command_line::{Asked, NoOrder};
 pub use commander::{answer_order, command, write_counts_line};
 pub use deck_text::{DeckTextFault, Sections, read_sections};
 pub use decks::{DeckFault, answer_deck, deck, tell};
-pub use kept::{Keeping, KeptTexts};
-pub use orders::{Order, PickOptions, SourceOptions, Texts};
-pub use plain_runs::{DiagramView, diagram, plain};
-pub use prepared_runs::{Picks, Show, SimFault, Source, View};
+pub use orders::{Order, OrderTexts, PickOptions, SourceOptions, SourceTexts, Texts};
+pub use plain_runs::{DiagramFault, DiagramView, diagram, plain, plain_with_progress};
+pub use prepared_runs::{DumpView, Picks, Selection, Show, SimFault, Source, View};
 pub use program_io::{Outcome, ProgramFault, ReadFault, read_text};
-pub use reasons::{Reasoned, WithReason, said_of};
-pub use run_pairs::{DiffAnswer, DiffTicks, Side, TwinAnswer, TwinFault, diff, twin};
-pub use runs::{CheckAnswer, Report, check, simulate};
+pub use run_pairs::{DiffAnswer, DiffFault, DiffTicks, Side, TwinAnswer, TwinFault, diff, twin};
+pub use run_progress::{Progress, Silent};
+pub use runs::{CheckAnswer, Report, check, simulate, simulate_with_progress};
+pub use vcd_dump::TimeUnit;
 pub use verbose::answer_verbosely;
 pub use words::asked_by_words;

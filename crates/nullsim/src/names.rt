@@ -4,86 +4,77 @@ ghost use Rattle.std.specs.List.{find};
 ghost use Rattle.netlist.specs.Names.{seen_names};
 ghost use Rattle.nullsim.specs.AtFault.{first_in_neither, in_neither, input_driven, name_at_fault, name_in_run, names_asked, names_shown, netlist_in, place_of_drive, unknown_asked};
 
-use crate::kept::KeptTexts;
 use bench_text::{BenchFault, read};
 use drawn_stimuli::DriveFault;
 use netlist::Netlist;
-use orders::Order;
-use prepared_runs::{Show, SimFault};
+use orders::{Order, OrderTexts};
+use prepared_runs::{Selection, SimFault};
 use program_io::ProgramFault;
 use run_pairs::Side;
 use std::alloc::{AllocError, Global};
 use std::slice::from_ref;
 
 /// The name that a fault is of, where a word of the command gave it: the first one that no net has, for
-/// `diff` of neither circuit, where the circuit's text is kept; or that of the input whose drive is faulty.
-pub(crate) fn name_at_fault<'o, T: KeptTexts>(
+/// `diff` of neither circuit, where the circuit's text is one; or that of the input whose drive is faulty.
+pub(crate) fn name_at_fault<'o>(
     alloc: Global,
     order: &'o Order<'_>,
     fault: ProgramFault<'_>,
-    texts: &T,
+    texts: &OrderTexts,
 ) -> Result<Option<&'o [u8]>, AllocError>
     ensures { IfOk result (λ name. option_map (λ name. name.now) name
-        ≡ name_at_fault (T.held texts.now) order.now fault.entry) }
+        ≡ name_at_fault order.now fault.entry texts.now) }
 {
     match fault {
         ProgramFault::Run { side, fault } => name_in_run(alloc, order, side, fault, texts),
+        ProgramFault::Drives(fault) => Ok(input_at(order, place_of_drive(fault))),
         _ => Ok(None),
     }
 }
 
-fn name_in_run<'o, T: KeptTexts>(
+fn name_in_run<'o>(
     alloc: Global,
     order: &'o Order<'_>,
     side: Side,
     fault: SimFault,
-    texts: &T,
+    texts: &OrderTexts,
 ) -> Result<Option<&'o [u8]>, AllocError>
     ensures { IfOk result (λ name. option_map (λ name. name.now) name
-        ≡ name_in_run (T.held texts.now) order.now side fault) }
+        ≡ name_in_run order.now side fault texts.now) }
 {
     match fault {
         SimFault::UnknownNet => unknown_asked(alloc, order, side, texts),
-        SimFault::Drives(fault) => Ok(input_at(order, place_of_drive(fault))),
         _ => Ok(None),
     }
 }
 
 /// The first name that an order asks for and no net of its netlist has, for `diff` of neither of the two.
-fn unknown_asked<'o, T: KeptTexts>(
+fn unknown_asked<'o>(
     alloc: Global,
     order: &'o Order<'_>,
     side: Side,
-    texts: &T,
+    texts: &OrderTexts,
 ) -> Result<Option<&'o [u8]>, AllocError>
     ensures { IfOk result (λ name. option_map (λ name. name.now) name
-        ≡ unknown_asked (T.held texts.now) order.now side) }
+        ≡ unknown_asked order.now side texts.now) }
 {
     match order {
-        Order::Diff {
-            first,
-            second,
-            names,
-            ..
-        } => {
-            let one = netlist_in(alloc, texts.kept(first.bench))?;
-            let other = netlist_in(alloc, texts.kept(second.bench))?;
+        Order::Diff { names, .. } => {
+            let one = netlist_in(alloc, texts.on(Side::First).bench())?;
+            let other = netlist_in(alloc, texts.on(Side::Second).bench())?;
             Ok(first_in_neither(names.as_slice(), &one, &other))
         }
         _ => {
-            let netlist = netlist_in(alloc, texts.kept(order.text_names(side).bench))?;
+            let netlist = netlist_in(alloc, texts.on(side).bench())?;
             Ok(first_in_neither(names_asked(order), &netlist, &netlist))
         }
     }
 }
 
-/// The netlist of a text, where the text is known and is one.
-fn netlist_in(alloc: Global, text: Option<&[u8]>) -> Result<Option<Netlist>, AllocError>
-    ensures { IfOk result (λ netlist. netlist ≡ netlist_in (option_map (λ text. text.now) text.entry)) }
+/// The netlist of a text, where it is one.
+fn netlist_in(alloc: Global, text: &[u8]) -> Result<Option<Netlist>, AllocError>
+    ensures { IfOk result (λ netlist. netlist ≡ netlist_in text.now) }
 {
-    let Some(text) = text else {
-        return Ok(None);
-    };
     match read(alloc, text) {
         Ok(netlist) => Ok(Some(netlist)),
         Err(BenchFault::Memory) => Err(AllocError),
@@ -91,7 +82,7 @@ fn netlist_in(alloc: Global, text: Option<&[u8]>) -> Result<Option<Netlist>, All
     }
 }
 
-/// The first of these names that no net of either netlist has, where both are known.
+/// The first of these names that no net of either netlist has, where there are both.
 fn first_in_neither<'a>(
     names: &[&'a [u8]],
     one: &Option<Netlist>,
@@ -127,12 +118,12 @@ fn names_asked<'o, 'a>(order: &'o Order<'a>) -> &'o [&'a [u8]]
     }
 }
 
-fn names_shown<'o, 'a>(show: &'o Show<'a>) -> &'o [&'a [u8]]
+fn names_shown<'o, 'a>(show: &'o Selection<'a>) -> &'o [&'a [u8]]
     ensures { seen_names result.now ≡ names_shown show.now }
 {
     match show {
-        Show::Named(names) => names.as_slice(),
-        Show::All | Show::Outputs => &[],
+        Selection::Named(names) => names.as_slice(),
+        Selection::All | Selection::Outputs => &[],
     }
 }
 

@@ -1,34 +1,32 @@
 //! What is noted of the run of an order that is done.
-ghost use Rattle.std.specs.Prelude.{◌≡◌, IfSome, option_map};
+ghost use Rattle.std.specs.Prelude.{◌≡◌, IfSome};
 ghost use Rattle.vcd_dump.specs.Bytes.{AppendsPrefix};
-ghost use Rattle.orders.specs.Options.{text_named};
 ghost use Rattle.prepared_runs.specs.Source.{seen_source};
 ghost use Rattle.nullsim.specs.Command.{outcome_text, status_of_outcome};
-ghost use Rattle.nullsim.specs.Noted.{AppendsParts, drawn_note, kept_source, order_notes, picks_note, run_of};
+ghost use Rattle.nullsim.specs.Noted.{AppendsParts, drawn_note, noted_source, order_notes, picks_note, run_of};
 
 use crate::commander::tell_outcome;
-use crate::kept::KeptTexts;
 use crate::verbose::write_told;
-use orders::{Order, PickOptions, SourceOptions};
+use orders::{Order, OrderTexts, PickOptions, SourceOptions, SourceTexts};
 use prepared_runs::{Picks, Source};
 use program_io::Outcome;
 use run_notes::notes_text;
+use run_pairs::Side;
 use std::alloc::Global;
 use std::io::Write;
 
 /// Writes what is told beside an answer, and behind it what is noted of the order's run, or a first part
-/// of each where the writer fails; answers the exit status. Nothing is noted where a text wasn't kept or
-/// a growth is refused.
-pub(crate) fn tell_noted<T: KeptTexts, E: Write>(
+/// of each where the writer fails; answers the exit status. Nothing is noted where a growth is refused.
+pub(crate) fn tell_noted<E: Write>(
     alloc: Global,
     order: &Order<'_>,
-    texts: &T,
+    texts: &OrderTexts,
     outcome: Outcome,
     err: &mut E,
 ) -> u8
     ensures status { result ≡ status_of_outcome outcome }
     ensures told { AppendsParts (E.contents err.old) (E.contents err.new) (outcome_text outcome)
-        (order_notes (T.held texts.now) order.now) }
+        (order_notes texts.now order.now) }
 {
     let status = tell_outcome(err, outcome);
     write_notes(alloc, order, texts, err);
@@ -36,8 +34,8 @@ pub(crate) fn tell_noted<T: KeptTexts, E: Write>(
 }
 
 /// Writes what is noted of an order's run.
-fn write_notes<T: KeptTexts, E: Write>(alloc: Global, order: &Order<'_>, texts: &T, err: &mut E)
-    ensures { AppendsPrefix (E.contents err.old) (E.contents err.new) (order_notes (T.held texts.now) order.now) }
+fn write_notes<E: Write>(alloc: Global, order: &Order<'_>, texts: &OrderTexts, err: &mut E)
+    ensures { AppendsPrefix (E.contents err.old) (E.contents err.new) (order_notes texts.now order.now) }
 {
     match notes_of(alloc, order, texts) {
         Some(notes) => write_told(err, notes.as_slice()),
@@ -45,12 +43,12 @@ fn write_notes<T: KeptTexts, E: Write>(alloc: Global, order: &Order<'_>, texts: 
     }
 }
 
-/// What is noted of an order's run, if there is one, its texts are kept and there is memory for it.
-fn notes_of<T: KeptTexts>(alloc: Global, order: &Order<'_>, texts: &T) -> Option<Vec<u8>>
-    ensures { IfSome result (λ notes. notes.items ≡ order_notes (T.held texts.now) order.now) }
+/// What is noted of an order's run, if there is one, its texts are accepted and there is memory for it.
+fn notes_of(alloc: Global, order: &Order<'_>, texts: &OrderTexts) -> Option<Vec<u8>>
+    ensures { IfSome result (λ notes. notes.items ≡ order_notes texts.now order.now) }
 {
     let (options, horizon) = run_of(order)?;
-    let source = kept_source(texts, options)?;
+    let source = noted_source(texts.on(Side::First), options);
     let mut notes = notes_text(alloc, &source, horizon).ok()?;
     notes
         .extend_from_slice(picks_note(options.picks).as_bytes())
@@ -97,29 +95,12 @@ fn run_of<'a>(order: &Order<'a>) -> Option<(SourceOptions<'a>, u64)>
     }
 }
 
-/// The source of these options, if the texts of its files are kept. Nothing is picked.
-fn kept_source<'t, T: KeptTexts>(texts: &'t T, options: SourceOptions<'_>) -> Option<Source<'t>>
-    ensures { option_map seen_source result ≡ kept_source (T.held texts.now) options.entry }
+/// The source of these options and texts. Nothing is picked.
+fn noted_source<'t>(texts: &'t SourceTexts, options: SourceOptions<'_>) -> Source<'t>
+    ensures { seen_source result ≡ noted_source options.entry texts.now }
 {
-    let bench = texts.kept(options.bench)?;
-    let delays = kept_text(texts, options.delays)?;
-    let stimuli = kept_text(texts, options.stimuli)?;
-    Some(Source {
-        bench,
-        delays,
-        stimuli,
-        default_delay: options.delay,
-        period: options.period,
+    Source {
         picks: Picks::Nothing,
-    })
-}
-
-/// The text of a file, if it is kept, and the empty text where none is named.
-fn kept_text<'t, T: KeptTexts>(texts: &'t T, name: Option<&str>) -> Option<&'t [u8]>
-    ensures { option_map (λ text. text.now) result ≡ text_named (T.held texts.now) name.entry }
-{
-    match name {
-        Some(name) => texts.kept(name),
-        None => Some(b""),
+        ..texts.source(&options)
     }
 }

@@ -18,6 +18,9 @@ pub(crate) fn number_at_fault(order: &Order<'_>, fault: ProgramFault<'_>) -> Opt
 {
     match fault {
         ProgramFault::Run { side, fault } => number_in_run(order, side, fault),
+        ProgramFault::Columns(fault) => number_of_columns(fault, diagram_in(order)?),
+        ProgramFault::Compared(fault) => number_of_ticks(fault, ticks_in(order)?),
+        ProgramFault::Drives(fault) => number_of_draws(fault, draws_in(order)?),
         _ => None,
     }
 }
@@ -27,9 +30,6 @@ fn number_in_run(order: &Order<'_>, side: Side, fault: SimFault) -> Option<u64>
 {
     match fault {
         SimFault::Setting(fault) => number_of_setting(order, side, fault),
-        SimFault::Columns(fault) => number_of_columns(fault, diagram_in(order)?),
-        SimFault::Compared(fault) => number_of_ticks(fault, ticks_in(order)?),
-        SimFault::Drives(fault) => number_of_draws(fault, draws_in(order)?),
         _ => None,
     }
 }

@@ -1,40 +1,26 @@
-//! What the system says of a read or a write that failed.
+//! What the system says of a write that failed.
+ghost use Rattle.std.specs.Prelude.{◌≡◌, None};
+ghost use Rattle.std.specs.Io.{WritesAtMost};
+ghost use Rattle.std.specs.Io.KnownBytes.{Keeps, WriteAppends};
+
 use std::alloc::Global;
-use std::io::{self, Error, Read, Write};
+use std::io::{self, Error, Write};
+use std::marker::{Brand, PhantomData};
 
-/// What knows why it failed last.
-pub trait Reasoned {
-    ghost use Rattle.std.specs.Prelude.{◌≡◌, ℕ, List, Option, None, option_map};
-
-    // What the system said of the last failure, if it said something.
-    ghost said: { Self → Option (List ℕ) } = { λ _. None };
-
-    /// What the system said of the last failure, if it said something.
-    fn reason(&self) -> Option<&[u8]>
-        ensures { option_map (λ reason. reason.now) result ≡ said self.now };
-}
-
-/// What the system says of a failure, such as `No such file or directory (os error 2)`; nothing where a
-/// growth is refused.
-pub fn said_of(alloc: Global, error: Error) -> Option<String> {
-    format!(in alloc; "{error}").ok()
-}
-
-/// A reader or a writer that hands everything on to one beneath it, and keeps what the system says of
-/// each failure.
+/// A writer that hands everything on to one that is lent to it, and keeps what the system says of each
+/// failure, such as `No space left on device (os error 28)`; nothing where a growth is refused.
 #[derive(Drop)]
-pub struct WithReason<S: Drop> {
+pub(crate) struct WithReason<'w, W> {
     alloc: Global,
-    beneath: S,
+    beneath: &'w mut W,
     said: Option<String>,
 }
 
-impl<S: Drop> WithReason<S> {
-    ghost use Rattle.std.specs.Prelude.{◌≡◌, None};
-
-    /// The reader or writer beneath, which hasn't failed so far.
-    pub fn new(alloc: Global, beneath: S) -> WithReason<S>
-        ensures beneath { result.beneath ≡ beneath }
+impl<'w, W: Write> WithReason<'w, W> {
+    /// The writer that is lent, which hasn't failed so far.
+    pub(crate) fn new(alloc: Global, beneath: &'w mut W) -> WithReason<'w, W>
+        ensures same_writer { result.beneath.ghost_name ≡ beneath.entry.ghost_name }
+        ensures bytes { result.beneath.now ≡ beneath.old }
         ensures said { result.said ≡ None }
     {
         WithReason {
@@ -44,66 +30,75 @@ impl<S: Drop> WithReason<S> {
         }
     }
 
-    /// The reader or writer beneath.
-    pub fn beneath(&self) -> &S
-        ensures { result.now ≡ self.now.beneath }
+    /// The writer that was lent, and what the system said of the last failure, if it said something.
+    pub(crate) fn end(self) -> (&'w mut W, Option<String>)
+        ensures same_writer { result.0.ghost_name ≡ self.entry.beneath.ghost_name }
+        ensures bytes { result.0.now ≡ self.entry.beneath.now }
+        ensures said { result.1 ≡ self.entry.said }
     {
-        &self.beneath
+        (self.beneath, self.said)
     }
 
-    /// What the system said of the last failure, if it said something.
-    pub fn into_said(self) -> Option<String>
-        ensures { result ≡ self.said }
+    fn write_beneath(&mut self, buf: &[u8]) -> io::Result<usize>
+        ensures same_writer { self.new.beneath.ghost_name ≡ self.old.beneath.ghost_name }
+        ensures bound { WritesAtMost result buf.now }
+        ensures bytes { WriteAppends (W.contents self.old.beneath.now) (W.contents self.new.beneath.now)
+            result buf.now }
     {
-        self.said
-    }
-
-    /// Keeps what the system says of a failure, and hands it on.
-    fn heard(&mut self, error: Error) -> Error
-        ensures beneath { self.new.beneath ≡ self.old.beneath }
-        ensures same { result ≡ error }
-    {
-        self.said = said_of(self.alloc, error);
-        error
-    }
-}
-
-impl<R: Read + Drop> Read for WithReason<R> {
-    ghost remaining = { λ with_reason. R.remaining with_reason.beneath };
-
-    fn read(&mut self, buf: &mut [u8]) -> io::Result<usize> {
-        match self.beneath.read(buf) {
-            Ok(n) => Ok(n),
-            Err(error) => Err(self.heard(error)),
-        }
-    }
-}
-
-impl<W: Write + Drop> Write for WithReason<W> {
-    ghost contents = { λ with_reason. W.contents with_reason.beneath };
-
-    fn write(&mut self, buf: &[u8]) -> io::Result<usize> {
         match self.beneath.write(buf) {
             Ok(n) => Ok(n),
             Err(error) => Err(self.heard(error)),
         }
     }
 
-    fn flush(&mut self) -> io::Result<()> {
+    fn flush_beneath(&mut self) -> io::Result<()>
+        ensures same_writer { self.new.beneath.ghost_name ≡ self.old.beneath.ghost_name }
+        ensures bytes { Keeps (W.contents self.old.beneath.now) (W.contents self.new.beneath.now) }
+    {
         match self.beneath.flush() {
             Ok(()) => Ok(()),
             Err(error) => Err(self.heard(error)),
         }
     }
+
+    /// Keeps what the system says of a failure, and hands it on.
+    fn heard(&mut self, error: Error) -> Error
+        ensures same_writer { self.new.beneath.ghost_name ≡ self.old.beneath.ghost_name }
+        ensures bytes { self.new.beneath.now ≡ self.old.beneath.now }
+        ensures same { result ≡ error }
+    {
+        self.said = format!(in self.alloc; "{error}").ok();
+        error
+    }
 }
 
-impl<S: Drop> Reasoned for WithReason<S> {
-    ghost use Rattle.std.specs.Prelude.{option_map, string_bytes};
+/// Which writer is lent, by a type: so that whoever writes to a [`NamedWriter`] can't put another in its place.
+pub(crate) trait WriterName {
+    ghost use Rattle.std.specs.Prelude.{ℕ};
 
-    ghost said = { λ with_reason. option_map string_bytes with_reason.said };
+    ghost name: { ℕ };
+}
 
-    fn reason(&self) -> Option<&[u8]> {
-        let said = self.said.as_ref()?;
-        Some(said.as_str().as_bytes())
+impl WriterName for Brand {
+    ghost name = { 0 };
+}
+
+/// A writer with reasons, of which the writer that is lent has this name.
+#[derive(Drop)]
+pub(crate) struct NamedWriter<'w, W, N: WriterName> {
+    pub(crate) writer: WithReason<'w, W>,
+    pub(crate) name: PhantomData<N>,
+    ghost same_writer: { writer.beneath.ghost_name ≡ N.name },
+}
+
+impl<W: Write, N: WriterName> Write for NamedWriter<'_, W, N> {
+    ghost contents = { λ named. W.contents named.writer.beneath.now };
+
+    fn write(&mut self, buf: &[u8]) -> io::Result<usize> {
+        self.writer.write_beneath(buf)
+    }
+
+    fn flush(&mut self) -> io::Result<()> {
+        self.writer.flush_beneath()
     }
 }

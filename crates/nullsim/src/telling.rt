@@ -1,30 +1,33 @@
-//! An order that tells how far it is.
-ghost use Rattle.std.specs.Prelude.{IfErr, IfOk, OnErr, OnOk};
+//! An order that tells how far it is, and what the system says where its answer can't be written.
+ghost use Rattle.std.specs.Prelude.{◌≡◌, IfErr, IfOk, OnErr, OnOk};
 ghost use Rattle.nullsim.specs.Progress.{TellsProgress};
-ghost use Rattle.orders.specs.OrderAnswer.{Answered, OrderEndsBy};
+ghost use Rattle.orders.specs.OrderAnswer.{IsAnswerTo};
 ghost use Rattle.orders.specs.Progress.{BrokenTicks, DoneTicks};
-ghost use Rattle.orders.specs.Readings.{ReadsAll, ReadsUntil, files_of};
+ghost use Rattle.program_io.specs.Answers.{AnswerEndsBy, GoesOut, IsNoRead};
 
-use orders::{Order, Texts};
+use crate::reasons::{NamedWriter, WithReason, WriterName};
+use orders::{Order, OrderTexts};
 use program_io::{Outcome, ProgramFault};
 use run_progress::{Percents, Silent};
 use std::alloc::Global;
 use std::io::Write;
+use std::marker::{Brand, PhantomData};
 
-/// Carries out an order, as [`Order::carry_out`] does. Where that is asked for, a run whose dump is written
-/// tells how far it is on `err`, in percent, and ends that line.
-pub(crate) fn carry_out<'a, T: Texts, W: Write, E: Write>(
+/// Carries out an order over the texts of its files, as [`Order::carry_out`] does. Where that is asked for,
+/// a run whose dump is written tells how far it is on `err`, in percent, and ends that line.
+pub(crate) fn carry_out<'a, W: Write, E: Write>(
     alloc: Global,
     order: &Order<'a>,
+    texts: &OrderTexts,
     progress: bool,
-    texts: &mut T,
     out: &mut W,
     err: &mut E,
 ) -> Result<Outcome, ProgramFault<'a>>
-    ensures ok { IfOk result (Answered (T.known texts.old) order.now (W.contents out.old) (W.contents out.new)) }
-    ensures err { IfErr result (OrderEndsBy (T.known texts.old) order.now (W.contents out.old) (W.contents out.new)) }
-    ensures read { OnOk result (ReadsAll (files_of order.now) (T.readings texts.old) (T.readings texts.new)) }
-    ensures stopped { IfErr result (ReadsUntil (files_of order.now) (T.readings texts.old) (T.readings texts.new)) }
+    ensures ok { IfOk result
+        (GoesOut (IsAnswerTo order.now texts.now) (W.contents out.old) (W.contents out.new)) }
+    ensures err { IfErr result
+        (AnswerEndsBy (IsAnswerTo order.now texts.now) (W.contents out.old) (W.contents out.new)) }
+    ensures no_read { IfErr result IsNoRead }
     ensures told { OnOk result
         (TellsProgress progress order.now (DoneTicks order.now) (E.contents err.old) (E.contents err.new)) }
     ensures told_until { OnErr result
@@ -39,4 +42,63 @@ pub(crate) fn carry_out<'a, T: Texts, W: Write, E: Write>(
     // No effect at run time. The proof reads what `err` holds from this use of it.
     let _ = &*err;
     carried
+}
+
+/// Carries out an order as [`carry_out`] does; with that what the system said of a write that failed, if it
+/// said something.
+pub(crate) fn carry_out_heard<'a, W: Write, E: Write>(
+    alloc: Global,
+    order: &Order<'a>,
+    texts: &OrderTexts,
+    progress: bool,
+    out: &mut W,
+    err: &mut E,
+) -> (Result<Outcome, ProgramFault<'a>>, Option<String>)
+    ensures ok { IfOk result.0
+        (GoesOut (IsAnswerTo order.now texts.now) (W.contents out.old) (W.contents out.new)) }
+    ensures err { IfErr result.0
+        (AnswerEndsBy (IsAnswerTo order.now texts.now) (W.contents out.old) (W.contents out.new)) }
+    ensures no_read { IfErr result.0 IsNoRead }
+    ensures told { OnOk result.0
+        (TellsProgress progress order.now (DoneTicks order.now) (E.contents err.old) (E.contents err.new)) }
+    ensures told_until { OnErr result.0
+        (TellsProgress progress order.now (BrokenTicks order.now) (E.contents err.old) (E.contents err.new)) }
+{
+    let writer = WithReason::new(alloc, out);
+    let (carried, writer) = carry_out_named::<Brand, W, E>(
+        alloc, order, texts, progress, writer, err,
+    );
+    let (out, said) = writer.end();
+    // No effect at run time. The proof reads what `out` holds from this use of it.
+    let _ = &*out;
+    (carried, said)
+}
+
+/// The same over such a writer, which is handed back.
+fn carry_out_named<'a, 'w, N: WriterName, W: Write, E: Write>(
+    alloc: Global,
+    order: &Order<'a>,
+    texts: &OrderTexts,
+    progress: bool,
+    writer: WithReason<'w, W>,
+    err: &mut E,
+) -> (Result<Outcome, ProgramFault<'a>>, WithReason<'w, W>)
+    requires { writer.beneath.ghost_name ≡ N.name }
+    ensures same_writer { result.1.beneath.ghost_name ≡ writer.entry.beneath.ghost_name }
+    ensures ok { IfOk result.0 (GoesOut (IsAnswerTo order.now texts.now)
+        (W.contents writer.entry.beneath.now) (W.contents result.1.beneath.now)) }
+    ensures err { IfErr result.0 (AnswerEndsBy (IsAnswerTo order.now texts.now)
+        (W.contents writer.entry.beneath.now) (W.contents result.1.beneath.now)) }
+    ensures no_read { IfErr result.0 IsNoRead }
+    ensures told { OnOk result.0
+        (TellsProgress progress order.now (DoneTicks order.now) (E.contents err.old) (E.contents err.new)) }
+    ensures told_until { OnErr result.0
+        (TellsProgress progress order.now (BrokenTicks order.now) (E.contents err.old) (E.contents err.new)) }
+{
+    let mut out: NamedWriter<'w, W, N> = NamedWriter {
+        writer,
+        name: PhantomData,
+    };
+    let carried = carry_out(alloc, order, texts, progress, &mut out, err);
+    (carried, out.writer)
 }

@@ -1,30 +1,29 @@
 //! An order whose fault is explained.
-ghost use Rattle.std.specs.Prelude.{◌≡◌, ◌≢◌, option_map, IfOk};
+ghost use Rattle.std.specs.Prelude.{◌≡◌, ◌≢◌, None, option_and_then, option_map, IfOk};
 ghost use Rattle.vcd_dump.specs.Bytes.{AppendsPrefix};
-ghost use Rattle.nullsim.specs.Progress.{OrderToldVerbosely};
-ghost use Rattle.nullsim.specs.Verbose.{ReportsVerbosely, explanation, reason_of, subject_of, subject_of_run};
+ghost use Rattle.nullsim.specs.AtFault.{name_at_fault};
+ghost use Rattle.nullsim.specs.Progress.{AnsweredVerbosely, OrderToldVerbosely};
+ghost use Rattle.nullsim.specs.Verbose.{ReportsVerbosely, explanation, reason_of, subject_of, subject_of_run, text_at_fault, text_in_run};
 
-use crate::kept::KeptTexts;
 use crate::names::name_at_fault;
 use crate::notes::tell_noted;
 use crate::numbers::number_at_fault;
-use crate::reasons::Reasoned;
-use crate::telling::carry_out;
+use crate::telling::carry_out_heard;
 use explanations::{AtHand, Subject, Table, fault_text};
-use orders::Order;
+use orders::{Order, OrderTexts, SourceTexts, Texts};
 use prepared_runs::SimFault;
-use program_io::{ProgramFault, fault_place, report};
+use program_io::{ProgramFault, report};
 use std::alloc::{AllocError, Global};
 use std::io::Write;
 use vcd_dump::write_all_bytes;
 
 /// Carries out an order and answers the exit status, as [`answer_order`](crate::answer_order) does.
 /// Where a fault is told, what it means goes to `err` behind its line: the line of the text at fault and
-/// the word at fault, where that text was kept, the name or the number at fault that the order has, what
-/// the system said of a failed read or write, the meaning, and what is wanted in its place. Where none
-/// is, what someone should know of the run goes there, as [`notes_text`](run_notes::notes_text) tells it,
-/// where its texts were kept and there is memory for it.
-pub fn answer_verbosely<T: KeptTexts, W: Write + Reasoned, E: Write>(
+/// the word at fault, the name or the number at fault that the order has, what the system said of a failed
+/// read, as the texts know it, or of a failed write, the meaning, and what is wanted in its place. Where
+/// none is, what someone should know of the run goes there, as [`notes_text`](run_notes::notes_text) tells
+/// it, where there is memory for it.
+pub fn answer_verbosely<T: Texts, W: Write, E: Write>(
     alloc: Global,
     order: &Order<'_>,
     tables: &[Table],
@@ -33,120 +32,165 @@ pub fn answer_verbosely<T: KeptTexts, W: Write + Reasoned, E: Write>(
     out: &mut W,
     err: &mut E,
 ) -> u8
-    ensures told { OrderToldVerbosely progress tables.now
-        (record { held = T.held texts.new; read = T.said texts.new; written = W.said out.new })
-        (T.known texts.old) order.now
+    ensures told { OrderToldVerbosely progress tables.now (T.said texts.new) (T.known texts.old) order.now
         (record { readings = T.readings texts.old; out = W.contents out.old; err = E.contents err.old })
         (record { readings = T.readings texts.new; out = W.contents out.new; err = E.contents err.new }) result }
     ensures no_usage { result ≢ 2 }
 {
-    texts.keep();
-    answer_kept(alloc, order, tables, progress, texts, out, err)
-}
-
-/// The same, for texts as they are.
-fn answer_kept<T: KeptTexts, W: Write + Reasoned, E: Write>(
-    alloc: Global,
-    order: &Order<'_>,
-    tables: &[Table],
-    progress: bool,
-    texts: &mut T,
-    out: &mut W,
-    err: &mut E,
-) -> u8
-    ensures told { OrderToldVerbosely progress tables.now
-        (record { held = T.held texts.new; read = T.said texts.new; written = W.said out.new })
-        (T.known texts.old) order.now
-        (record { readings = T.readings texts.old; out = W.contents out.old; err = E.contents err.old })
-        (record { readings = T.readings texts.new; out = W.contents out.new; err = E.contents err.new }) result }
-    ensures no_usage { result ≢ 2 }
-{
-    match carry_out(alloc, order, progress, texts, out, err) {
-        Ok(outcome) => tell_noted(alloc, order, texts, outcome, err),
-        Err(fault) => report_verbosely(alloc, tables, order, fault, texts, out, err),
+    match order.read(alloc, texts) {
+        Ok(read) => answer_read(alloc, order, tables, progress, &read, out, err),
+        Err(fault) => report_verbosely(alloc, tables, order, fault, None, texts.reason(), err),
     }
 }
 
-/// Writes the line of an order's fault, and behind it what is told of the fault; answers the exit status.
-fn report_verbosely<T: KeptTexts, W: Reasoned, E: Write>(
+/// The same, behind the reading of the order's files.
+fn answer_read<W: Write, E: Write>(
+    alloc: Global,
+    order: &Order<'_>,
+    tables: &[Table],
+    progress: bool,
+    texts: &OrderTexts,
+    out: &mut W,
+    err: &mut E,
+) -> u8
+    ensures told { AnsweredVerbosely tables.now texts.now progress order.now
+        (record { readings = None; out = W.contents out.old; err = E.contents err.old })
+        (record { readings = None; out = W.contents out.new; err = E.contents err.new }) result }
+    ensures no_usage { result ≢ 2 }
+{
+    let (carried, said) = carry_out_heard(alloc, order, texts, progress, out, err);
+    match carried {
+        Ok(outcome) => tell_noted(alloc, order, texts, outcome, err),
+        Err(fault) => {
+            let said = said.as_ref().map(|said| said.as_bytes());
+            report_verbosely(alloc, tables, order, fault, Some(texts), said, err)
+        }
+    }
+}
+
+/// Writes the line of an order's fault, and behind it what is told of the fault, by the texts that were
+/// read and by what the system said; answers the exit status.
+fn report_verbosely<E: Write>(
     alloc: Global,
     tables: &[Table],
     order: &Order<'_>,
     fault: ProgramFault<'_>,
-    texts: &T,
-    out: &W,
+    texts: Option<&OrderTexts>,
+    said: Option<&[u8]>,
     err: &mut E,
 ) -> u8
-    ensures told { ReportsVerbosely tables.now
-        (record { held = T.held texts.now; read = T.said texts.now; written = W.said out.now })
-        order.now fault.entry (E.contents err.old) (E.contents err.new) result }
+    ensures told { ReportsVerbosely tables.now (option_map (λ texts. texts.now) texts.entry) order.now fault.entry
+        (E.contents err.old) (E.contents err.new) result (option_map (λ said. said.now) said.entry) }
     ensures no_usage { result ≢ 2 }
 {
     let status = report(err, fault, order.text_names(fault.side()));
-    explain_fault(alloc, tables, order, fault, texts, out, err);
+    explain_fault(alloc, tables, order, fault, texts, said, err);
     status
 }
 
 /// Writes what is told of an order's fault, or a first part of it where the writer fails; nothing where a
 /// growth is refused.
-fn explain_fault<T: KeptTexts, W: Reasoned, E: Write>(
+fn explain_fault<E: Write>(
     alloc: Global,
     tables: &[Table],
     order: &Order<'_>,
     fault: ProgramFault<'_>,
-    texts: &T,
-    out: &W,
+    texts: Option<&OrderTexts>,
+    said: Option<&[u8]>,
     err: &mut E,
 )
     ensures { AppendsPrefix (E.contents err.old) (E.contents err.new) (explanation tables.now
-        (record { held = T.held texts.now; read = T.said texts.now; written = W.said out.now })
+        (record { texts = option_map (λ texts. texts.now) texts.entry; said = option_map (λ said. said.now) said.entry })
         order.now fault.entry) }
 {
-    match explanation(alloc, tables, order, fault, texts, out) {
+    match explanation(alloc, tables, order, fault, texts, said) {
         Ok(told) => write_told(err, told.as_slice()),
         Err(_) => {}
     }
 }
 
 /// What is told of an order's fault.
-fn explanation<'a, T: KeptTexts, W: Reasoned>(
+fn explanation<'a>(
     alloc: Global,
     tables: &[Table],
     order: &'a Order<'a>,
     fault: ProgramFault<'a>,
-    texts: &'a T,
-    out: &'a W,
+    texts: Option<&'a OrderTexts>,
+    said: Option<&'a [u8]>,
 ) -> Result<Vec<u8>, AllocError>
     ensures { IfOk result (λ told. told.items ≡ explanation tables.now
-        (record { held = T.held texts.now; read = T.said texts.now; written = W.said out.now })
+        (record { texts = option_map (λ texts. texts.now) texts.entry; said = option_map (λ said. said.now) said.entry })
         order.now fault.entry) }
 {
-    let names = order.text_names(fault.side());
     let at_hand = AtHand {
         subject: subject(fault),
         name: fault.name(),
         line: fault.line(),
-        text: texts.kept(fault_place(fault, names)),
-        word: name_at_fault(alloc, order, fault, texts)?,
+        text: text_if_read(fault, texts),
+        word: name_if_read(alloc, order, fault, texts)?,
         number: number_at_fault(order, fault),
-        reason: reason_of(fault, texts, out),
+        reason: reason_of(fault, said),
     };
     fault_text(alloc, tables, at_hand)
 }
 
-/// What the system said of a fault, if it said something.
-fn reason_of<'a, T: KeptTexts, W: Reasoned>(
-    fault: ProgramFault<'_>,
-    texts: &'a T,
-    out: &'a W,
-) -> Option<&'a [u8]>
-    ensures { option_map (λ reason. reason.now) result ≡ reason_of
-        (record { held = T.held texts.now; read = T.said texts.now; written = W.said out.now }) fault.entry }
+/// The text at fault, where the texts were read.
+fn text_if_read<'a>(fault: ProgramFault<'_>, texts: Option<&'a OrderTexts>) -> Option<&'a [u8]>
+    ensures { option_map (λ text. text.now) result
+        ≡ option_and_then (text_at_fault fault.entry) (option_map (λ texts. texts.now) texts.entry) }
+{
+    text_at_fault(fault, texts?)
+}
+
+fn text_at_fault<'a>(fault: ProgramFault<'_>, texts: &'a OrderTexts) -> Option<&'a [u8]>
+    ensures { option_map (λ text. text.now) result ≡ text_at_fault fault.entry texts.now }
 {
     match fault {
-        ProgramFault::Read(_) => texts.reason(),
-        ProgramFault::Output(_) | ProgramFault::Flush => out.reason(),
-        ProgramFault::Deck(_) | ProgramFault::Run { .. } | ProgramFault::Memory => None,
+        ProgramFault::Run { side, fault } => text_in_run(fault, texts.on(side)),
+        _ => None,
+    }
+}
+
+fn text_in_run(fault: SimFault, texts: &SourceTexts) -> Option<&[u8]>
+    ensures { option_map (λ text. text.now) result ≡ text_in_run texts.now fault }
+{
+    match fault {
+        SimFault::Bench(_) => Some(texts.bench()),
+        SimFault::Timing(_) => Some(texts.delays()),
+        SimFault::Stimulus(_) => Some(texts.stimuli()),
+        SimFault::Schedule(_) => Some(texts.schedule()),
+        _ => None,
+    }
+}
+
+/// The name at fault, where the texts were read.
+fn name_if_read<'o>(
+    alloc: Global,
+    order: &'o Order<'_>,
+    fault: ProgramFault<'_>,
+    texts: Option<&OrderTexts>,
+) -> Result<Option<&'o [u8]>, AllocError>
+    ensures { IfOk result (λ name. option_map (λ name. name.now) name
+        ≡ option_and_then (name_at_fault order.now fault.entry) (option_map (λ texts. texts.now) texts.entry)) }
+{
+    match texts {
+        Some(texts) => name_at_fault(alloc, order, fault, texts),
+        None => Ok(None),
+    }
+}
+
+/// What the system said of a fault, if it said something.
+fn reason_of<'a>(fault: ProgramFault<'_>, said: Option<&'a [u8]>) -> Option<&'a [u8]>
+    ensures { option_map (λ reason. reason.now) result ≡ reason_of (option_map (λ said. said.now) said.entry) fault.entry }
+{
+    match fault {
+        ProgramFault::Read(_) | ProgramFault::Output(_) | ProgramFault::Flush => said,
+        ProgramFault::Deck(_)
+        | ProgramFault::Run { .. }
+        | ProgramFault::Columns(_)
+        | ProgramFault::Drives(_)
+        | ProgramFault::Compared(_)
+        | ProgramFault::Memory => None,
     }
 }
 
@@ -163,6 +207,9 @@ fn subject(fault: ProgramFault<'_>) -> Subject
     match fault {
         ProgramFault::Deck(_) => Subject::Deck,
         ProgramFault::Run { fault, .. } => run_subject(fault),
+        ProgramFault::Columns(_) => Subject::Columns,
+        ProgramFault::Drives(_) => Subject::Drives,
+        ProgramFault::Compared(_) => Subject::Ticks,
         ProgramFault::Read(_)
         | ProgramFault::Output(_)
         | ProgramFault::Memory
@@ -179,9 +226,6 @@ fn run_subject(fault: SimFault) -> Subject
         SimFault::Timing(_) => Subject::Delays,
         SimFault::Stimulus(_) => Subject::Stimuli,
         SimFault::Schedule(_) => Subject::Schedule,
-        SimFault::Columns(_) => Subject::Columns,
-        SimFault::Drives(_) => Subject::Drives,
-        SimFault::Compared(_) => Subject::Ticks,
         SimFault::UnknownNet => Subject::Names,
         SimFault::Dump(_) | SimFault::Memory => Subject::Program,
     }

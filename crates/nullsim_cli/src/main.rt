@@ -2,7 +2,10 @@
 //! it carries out a command over files.
 #![tactic(auto)]
 
-use nullsim::{Keeping, ReadFault, Reasoned, Texts, WithReason, command, read_text, said_of, tell};
+mod reasons;
+
+use crate::reasons::{WithReason, said_of};
+use nullsim::{ReadFault, Texts, command, read_text, tell};
 use std::fs::File;
 use std::io::{self, ErrorKind, Write};
 use std::process::ExitCode;
@@ -32,12 +35,6 @@ impl<R: Files + AllocGlobal> Texts for Folder<'_, R> {
             }
         }
     }
-}
-
-impl<R> Reasoned for Folder<'_, R> {
-    ghost use Rattle.std.specs.Prelude.{option_map, string_bytes};
-
-    ghost said = { λ folder. option_map string_bytes folder.said };
 
     fn reason(&self) -> Option<&[u8]> {
         let said = self.said.as_ref()?;
@@ -56,12 +53,10 @@ fn main(rt: HostRuntime) -> ExitCode {
     let status = match words_given(&rt) {
         Ok(words) if words.is_empty() => tell(alloc, &mut rt.stdin(), &mut out, &mut err),
         Ok(words) => {
-            let folder = Folder {
+            let mut files = Folder {
                 rt: &rt,
                 said: None,
             };
-            let mut files = Keeping::new(alloc, folder);
-            let mut out = WithReason::new(alloc, out);
             command(alloc, words.as_slice(), &mut files, &mut out, &mut err)
         }
         Err(fault) if fault.kind() == ErrorKind::OutOfMemory => {

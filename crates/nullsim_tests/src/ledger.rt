@@ -5,7 +5,7 @@ ghost use Rattle.nullsim_tests.specs.Ledger.{seen_notes};
 ghost use Rattle.nullsim_tests.specs.Shelf.{text_under};
 
 use crate::shelf::{Shelf, words_of};
-use nullsim::{KeptTexts, ReadFault, Reasoned, Texts, WithReason, command};
+use nullsim::{ReadFault, Texts, command};
 use std::alloc::Global;
 use std::process::Abort;
 use std::test::Fail;
@@ -41,20 +41,6 @@ impl Texts for Ledger {
     }
 }
 
-impl Reasoned for Ledger {
-    fn reason(&self) -> Option<&[u8]> {
-        None
-    }
-}
-
-impl KeptTexts for Ledger {
-    fn keep(&mut self) {}
-
-    fn kept(&self, _name: &str) -> Option<&[u8]> {
-        None
-    }
-}
-
 // The notes and one more.
 fn noted(
     alloc: Global,
@@ -80,7 +66,7 @@ fn names_asked(alloc: Global, line: &str) -> Result<Vec<u8>, Fail> {
         shelf: Shelf::new(alloc),
         notes: Some(Vec::new(alloc)),
     };
-    let (mut out, mut err) = (WithReason::new(alloc, Vec::new(alloc)), Vec::new(alloc));
+    let (mut out, mut err) = (Vec::new(alloc), Vec::new(alloc));
     let _ = command(alloc, words.as_slice(), &mut ledger, &mut out, &mut err);
     let mut names = Vec::new(alloc);
     if let Some(notes) = &ledger.notes {

@@ -2,7 +2,7 @@
 ghost use Rattle.std.specs.Prelude.{◌≡◌, option_map};
 ghost use Rattle.nullsim_tests.specs.Shelf.{text_under};
 
-use nullsim::{KeptTexts, ReadFault, Reasoned, Texts, WithReason, command};
+use nullsim::{ReadFault, Texts, command};
 use std::alloc::{AllocError, Global};
 use std::io::Write;
 use std::process::Abort;
@@ -46,32 +46,15 @@ impl<'a> Shelf<'a> {
     }
 }
 
-/// The most bytes that are handed out of a text.
-const MOST: usize = 16_777_217;
-
 impl<'a> Texts for Shelf<'a> {
     ghost known = { λ shelf. text_under shelf.texts.now };
 
     fn text(&mut self, name: &str) -> Result<Vec<u8>, ReadFault> {
         match text_under(self.texts, name) {
-            Some(text) => Ok(Vec::from_slice(self.alloc, &text[..MOST.min(text.len())])?),
+            Some(text) => Ok(Vec::from_slice(self.alloc, text)?),
             None if name == "too-big" => Err(ReadFault::Memory),
             None => Err(ReadFault::Read),
         }
-    }
-}
-
-impl<'a> Reasoned for Shelf<'a> {
-    fn reason(&self) -> Option<&[u8]> {
-        None
-    }
-}
-
-impl<'a> KeptTexts for Shelf<'a> {
-    fn keep(&mut self) {}
-
-    fn kept(&self, _name: &str) -> Option<&[u8]> {
-        None
     }
 }
 
@@ -109,8 +92,7 @@ pub(crate) fn status_over<W: Write, E: Write>(
     err: &mut E,
 ) -> Result<u8, AllocError> {
     let words = words_of(alloc, line)?;
-    let mut out = WithReason::new(alloc, out);
-    Ok(command(alloc, words.as_slice(), &mut texts, &mut out, err))
+    Ok(command(alloc, words.as_slice(), &mut texts, out, err))
 }
 
 fn runs_out_of_memory(rt: &impl Abort, alloc: Global, line: &str) -> Result<(), Fail> {

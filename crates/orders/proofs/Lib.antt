@@ -1,3 +1,4 @@
+pub mod CallerLemmas
 mod OneAnswer
-mod OrderTexts
+mod ReadAnswers
 mod ReadingsLemmas

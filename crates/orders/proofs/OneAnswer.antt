@@ -2,6 +2,7 @@
 use Rattle.std.proofs.Common.{◌≡◌, ◌↔◌, ℕ, Bool, true, false, IsTrue, List, [], ◌∷◌, map, Option, Some, None, IfSome, Result, Ok, Err, Bor, Vec, refl, sym, ap, subst, ◌∙◌}
 use Rattle.std.specs.declared.alloc.Global.{Global}
 use Rattle.std.specs.List.{filter_map}
+use Rattle.std.specs.Result.{result_map_both}
 use Rattle.bench_text.specs.declared.fault.BenchFault.{BenchFault}
 use Rattle.bench_text.specs.Canonical.{canonical, within_limit}
 use Rattle.netlist.specs.Netlist.{NetlistView, net_named}
@@ -18,9 +19,11 @@ use Rattle.prepared_runs.specs.declared.fault.SimFault.{SimFault}
 use Rattle.orders.specs.declared.order.Order.{Order}
 use Rattle.orders.specs.declared.order.Order.TheVariants.{Run, Plain, Draw, Trace, Why, Stimuli, Info, Cone, Diff, Twin, Check}
 use Rattle.orders.specs.declared.order.SourceOptions.{SourceOptions}
+use Rattle.run_pairs.specs.declared.diff_fault.DiffFault.{DiffFault}
 use Rattle.run_pairs.specs.declared.twin_run.TwinAnswer.{TwinAnswer}
 use Rattle.run_pairs.specs.declared.twin_run.TwinFault.{TwinFault}
 use Rattle.program_io.specs.AnswerText.{twin_text}
+use Rattle.program_io.specs.ProgramFaults.{fault_of_bench}
 use Rattle.program_io.specs.Answers.{Answer, IsDiffAnswer, IsTwinAnswer, answered, compared, just, stimuli_answer}
 use Rattle.orders.specs.OrderAnswer.{ForSource, IsAnswer}
 use Rattle.circuit_texts.specs.ConeText.{IsConeAnswer, IsConeOfNetlist, IsExtractText}
@@ -30,7 +33,8 @@ use Rattle.circuit_texts.specs.InfoText.{IsInfoAnswer}
 use Rattle.run_pairs.proofs.CallerLemmas.{one_diff}
 use Rattle.circuit_texts.proofs.CallerLemmas.{one_info_answer, same_from_members}
 use Rattle.program_io.specs.declared.program_fault.ProgramFault.{ProgramFault}
-use Rattle.orders.specs.Options.{IsSourceOf, KnownTexts, all_known, picks_of_options, schedule_file, text_named}
+use Rattle.orders.specs.FileNames.{schedule_file}
+use Rattle.orders.specs.Options.{IsSourceOf, KnownTexts, all_known, picks_of_options, text_named}
 use Rattle.prepared_runs.specs.Source.{SourceView, or_fault}
 use Rattle.run_pairs.specs.Twins.{IsComparison, Twins, twins_of}
 
@@ -105,7 +109,7 @@ one_twin_answer (Ok twins) name horizon a b (comparison, is, text) (other, other
     text ∙ ap (λ bytes. Ok (just bytes)) (one_comparison twins name horizon comparison other is other_is) ∙ sym other_text
 one_twin_answer (Err fault) name horizon a b is other_is = is ∙ sym other_is
 
-one_diff_answer : (made : Result Pair TwinFault) (a b : Result Answer ProgramFault) → IsDiffAnswer made a → IsDiffAnswer made b → a ≡ b
+one_diff_answer : (made : Result Pair DiffFault) (a b : Result Answer ProgramFault) → IsDiffAnswer made a → IsDiffAnswer made b → a ≡ b
 one_diff_answer (Ok pair) a b (text, (same, is, answer)) (other_text, (other_same, other_is, other_answer)) =
     let one = one_diff pair text other_text same other_same is other_is in
     answer ∙ ap (λ bytes. Ok (compared bytes same)) one.0 ∙ ap (λ all. Ok (compared other_text all)) one.1 ∙ sym other_answer
@@ -163,7 +167,7 @@ module _ (texts : List ℕ → List ℕ) where
   one_for_info bench a b (text, read, (found, is, answer)) (other_text, other_read, (other_found, other_is, other_answer)) =
       let same_text : other_text ≡ text = other_read ∙ sym read in
       let of_text : IsInfoAnswer text other_found = subst (λ (t : List ℕ). IsInfoAnswer t other_found) same_text other_is in
-      answer ∙ ap (answered just) (one_info_answer text found other_found is of_text) ∙ sym other_answer
+      answer ∙ ap (result_map_both just fault_of_bench) (one_info_answer text found other_found is of_text) ∙ sym other_answer
 
   one_for_stimuli : (bench : Bor (List ℕ)) (drives : Vec Driven Global) (draws : Draws) (horizon : ℕ) (a b : Result Answer ProgramFault) →
       IsAnswer known (Stimuli bench drives draws horizon) a → IsAnswer known (Stimuli bench drives draws horizon) b → a ≡ b

@@ -1,12 +1,9 @@
 -- Readings that come one behind the other.
-use Rattle.std.proofs.Common.{◌≡◌, ℕ, List, [], ◌∷◌, ◌++◌, map, None, Some, refl, ap, sym, subst, ◌∙◌, inl, inr, append_assoc}
+use Rattle.std.proofs.Common.{◌≡◌, ℕ, List, [], ◌∷◌, ◌++◌, map, None, Some, refl, ap, sym, subst, ◌∙◌, append_assoc}
 use Rattle.std.proofs.lemmas.List.{map-append}
 use Rattle.program_io.specs.declared.input.ReadFault.{ReadFault}
-use Rattle.program_io.specs.declared.input.ReadFault.TheVariants as read
 use Rattle.program_io.specs.declared.program_fault.ProgramFault.{ProgramFault}
-use Rattle.program_io.specs.declared.program_fault.ProgramFault.TheVariants.{Memory, Read}
-use Rattle.program_io.specs.Answers.{IsNoRead}
-use Rattle.orders.specs.Readings.{AddsReadings, KnownReadings, Reading, ReadsAll, ReadsUntil, StopsAt, StopsBy, well_read, with_more}
+use Rattle.orders.specs.Readings.{AddsReadings, KnownReadings, Reading, ReadsAll, StopsAt, StopsBy, well_read, with_more}
 
 with_more-twice : (known : KnownReadings) (first second : List Reading) → with_more (with_more known first) second ≡ with_more known (first ++ second)
 with_more-twice None first second = refl
@@ -53,14 +50,3 @@ module _ (first second : List (List ℕ)) where
   pub StopsBy-after : (old mid new : KnownReadings) (fault : ProgramFault) → ReadsAll first old mid → StopsBy second mid new fault →
       StopsBy (first ++ second) old new fault
   StopsBy-after old mid new fault one (name, (failed, is, at)) = (name, (failed, is, StopsAt-after first second old mid new name.now failed one at))
-
-pub ReadsUntil-stopped : (files : List (List ℕ)) (old new : KnownReadings) (fault : ProgramFault) → StopsBy files old new fault → ReadsUntil files old new fault
-ReadsUntil-stopped files old new fault (name, (read.Read, is, at)) = rw is at
-ReadsUntil-stopped files old new fault (name, (read.Memory, is, at)) = rw is (inr (name.now, at))
-
--- all were read, and what came behind was no failed read
-pub ReadsUntil-behind : (files : List (List ℕ)) (old new : KnownReadings) → ReadsAll files old new → (fault : ProgramFault) → IsNoRead fault →
-    ReadsUntil files old new fault
-ReadsUntil-behind files old new all (Read name) no_read = absurd no_read
-ReadsUntil-behind files old new all Memory no_read = inl all
-ReadsUntil-behind files old new all fault no_read = all

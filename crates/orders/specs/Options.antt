@@ -1,11 +1,17 @@
--- The runs that options ask for.
+-- The runs that options ask for, and the texts of their files as they are read.
 use Rattle.std.specs.Prelude.{◌≡◌, ℕ, ◌+◌, List, [], take, unwrap_or, Option, None, Some, IfSome}
 use denote.Ref.{Bor}
 use Rattle.text_lines.specs.Text.{longest_text}
 use Rattle.orders.specs.declared.order.PickOptions.{PickOptions}
 use Rattle.orders.specs.declared.order.PickOptions.TheVariants.{Nothing, File, Seeded}
+use Rattle.run_pairs.specs.declared.twin_run.Side.{Side}
+use Rattle.run_pairs.specs.declared.twin_run.Side.TheVariants.{First, Second}
+use Rattle.orders.specs.declared.files.Files.{Files}
+use Rattle.orders.specs.declared.order.Order.{Order}
 use Rattle.orders.specs.declared.order.SourceOptions.{SourceOptions}
+use Rattle.orders.specs.declared.order_texts.OrderTexts.{OrderTexts}
 use Rattle.orders.specs.declared.source_texts.SourceTexts.{SourceTexts}
+use Rattle.orders.specs.FileNames.{files_on, schedule_file}
 use Rattle.prepared_runs.specs.Events.{PicksView, nothing, text, seeded}
 use Rattle.prepared_runs.specs.Source.{SourceView}
 
@@ -21,11 +27,6 @@ all_known texts name = Some (texts name)
 abbrev pub text_named : KnownTexts → Option (Bor (List ℕ)) → Option (List ℕ)
 text_named known None = Some []
 text_named known (Some name) = known name.now
-
--- the file of a schedule
-abbrev pub schedule_file : PickOptions → Option (Bor (List ℕ))
-schedule_file (File name) = Some name
-schedule_file other = None
 
 -- what is picked: by this text, where a file is named
 abbrev pub picks_of_options : PickOptions → List ℕ → PicksView
@@ -50,12 +51,21 @@ pub record IsSourceOf (known : KnownTexts) (options : SourceOptions) (source : S
 abbrev pub IsRead : Option (List ℕ) → List ℕ → Type 0
 IsRead known read = read ≡ take (longest_text + 1) (unwrap_or known read)
 
--- the texts of the files of the options, each so
-pub record ReadsSource (known : KnownTexts) (options : SourceOptions) (texts : SourceTexts) : Type 0 where
-  pub bench : IsRead (known options.bench.now) texts.bench.items
-  pub delays : IsRead (text_named known options.delays) texts.delays.items
-  pub stimuli : IsRead (text_named known options.stimuli) texts.stimuli.items
-  pub schedule : IsRead (text_named known (schedule_file options.picks)) texts.schedule.items
+-- the texts of some files, each so
+pub record ReadsFiles (known : KnownTexts) (files : Files) (texts : SourceTexts) : Type 0 where
+  pub bench : IsRead (text_named known files.bench) texts.bench.items
+  pub delays : IsRead (text_named known files.delays) texts.delays.items
+  pub stimuli : IsRead (text_named known files.stimuli) texts.stimuli.items
+  pub schedule : IsRead (text_named known files.schedule) texts.schedule.items
+
+-- the texts of the files of an order, each so: those of its first run, and those of a second
+abbrev pub ReadsOrder : KnownTexts → Order → OrderTexts → Type 0
+ReadsOrder known order texts = ReadsFiles known (files_on order First) texts.first × ReadsFiles known (files_on order Second) texts.second
+
+-- the texts on a side
+abbrev pub texts_on : OrderTexts → Side → SourceTexts
+texts_on texts First = texts.first
+texts_on texts Second = texts.second
 
 -- the source of these options and texts
 abbrev pub source_from : SourceOptions → SourceTexts → SourceView

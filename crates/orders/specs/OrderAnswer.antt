@@ -1,15 +1,15 @@
--- The answer to an order, and how an order ends.
-use Rattle.std.specs.Prelude.{◌≡◌, ℕ, List, map, Option, IfSome, Result}
+-- The answer to an order.
+use Rattle.std.specs.Prelude.{◌≡◌, ℕ, List, map, IfSome, Result}
 use Rattle.netlist.specs.Names.{seen_names}
 use Rattle.drawn_stimuli.specs.Inputs.{seen_drive}
 use Rattle.prepared_runs.specs.Source.{SourceView}
-use Rattle.program_io.specs.declared.outcome.Outcome.{Outcome}
 use Rattle.program_io.specs.declared.program_fault.ProgramFault.{ProgramFault}
-use Rattle.program_io.specs.Answers.{Answer, AnswerEndsBy, GoesOut, IsAnswerOfCone, IsAnswerOfDiff, IsAnswerOfInfo, IsAnswerOfTwin, check_answer, diagram_answer, plain_answer, run_answer, stimuli_answer, trace_answer, why_answer}
+use Rattle.program_io.specs.Answers.{Answer, IsAnswerOfCone, IsAnswerOfDiff, IsAnswerOfInfo, IsAnswerOfTwin, check_answer, diagram_answer, plain_answer, run_answer, stimuli_answer, trace_answer, why_answer}
 use Rattle.orders.specs.declared.order.Order.{Order}
 use Rattle.orders.specs.declared.order.Order.TheVariants.{Run, Plain, Draw, Trace, Why, Stimuli, Info, Cone, Diff, Twin, Check}
 use Rattle.orders.specs.declared.order.SourceOptions.{SourceOptions}
-use Rattle.orders.specs.Options.{IsSourceOf, KnownTexts}
+use Rattle.orders.specs.declared.order_texts.OrderTexts.{OrderTexts}
+use Rattle.orders.specs.Options.{IsSourceOf, KnownTexts, source_from}
 
 -- it is so for a source of these options
 abbrev pub ForSource : KnownTexts → SourceOptions → (SourceView → Type 0) → Type 0
@@ -33,9 +33,19 @@ IsAnswer known (Twin first second net horizon) answer =
     ForSource known first (λ one. ForSource known second (λ other. IsAnswerOfTwin one other net.now horizon answer))
 IsAnswer known (Check options horizon) answer = ForSource known options (λ source. answer ≡ check_answer source horizon)
 
--- just the answer to the order went out, and its outcome is handed on
-abbrev pub Answered : KnownTexts → Order → Option (List ℕ) → Option (List ℕ) → Outcome → Type 0
-Answered known order = GoesOut (IsAnswer known order)
-
-abbrev pub OrderEndsBy : KnownTexts → Order → Option (List ℕ) → Option (List ℕ) → ProgramFault → Type 0
-OrderEndsBy known order = AnswerEndsBy (IsAnswer known order)
+-- the answer to the order over texts that were read, or the first fault
+abbrev pub IsAnswerTo : Order → OrderTexts → Result Answer ProgramFault → Type 0
+IsAnswerTo (Run options view counts) texts answer = answer ≡ run_answer (source_from options texts.first) view counts
+IsAnswerTo (Plain options view) texts answer = answer ≡ plain_answer (source_from options texts.first) view
+IsAnswerTo (Draw options view) texts answer = answer ≡ diagram_answer (source_from options texts.first) view
+IsAnswerTo (Trace options horizon) texts answer = answer ≡ trace_answer (source_from options texts.first) horizon
+IsAnswerTo (Why options net tick) texts answer = answer ≡ why_answer (source_from options texts.first) net.now tick
+IsAnswerTo (Stimuli bench drives draws horizon) texts answer =
+    answer ≡ stimuli_answer texts.first.bench.items (map seen_drive drives.items) draws horizon
+IsAnswerTo (Info bench) texts answer = IsAnswerOfInfo texts.first.bench.items answer
+IsAnswerTo (Cone bench names) texts answer = IsAnswerOfCone texts.first.bench.items (seen_names names.items) answer
+IsAnswerTo (Diff first second names ticks) texts answer =
+    IsAnswerOfDiff (source_from first texts.first) (source_from second texts.second) (seen_names names.items) ticks answer
+IsAnswerTo (Twin first second net horizon) texts answer =
+    IsAnswerOfTwin (source_from first texts.first) (source_from second texts.second) net.now horizon answer
+IsAnswerTo (Check options horizon) texts answer = answer ≡ check_answer (source_from options texts.first) horizon

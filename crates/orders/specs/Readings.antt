@@ -1,14 +1,12 @@
 -- Which texts were asked for, in order, and how each was read.
-use Rattle.std.specs.Prelude.{◌≡◌, ◌⊎◌, ℕ, List, [], ◌∷◌, ◌++◌, map, option_map, Option, None, Some, IfSome, Result, Ok, Err}
+use Rattle.std.specs.Prelude.{◌≡◌, ℕ, List, [], ◌∷◌, ◌++◌, map, option_map, Option, None, Some, IfSome, Result, Ok, Err}
 use denote.Ref.{Bor}
 use Rattle.program_io.specs.declared.input.ReadFault.{ReadFault}
-use Rattle.program_io.specs.declared.input.ReadFault.TheVariants as read
 use Rattle.orders.specs.declared.order.Order.{Order}
-use Rattle.orders.specs.declared.order.Order.TheVariants.{Run, Plain, Draw, Trace, Why, Stimuli, Info, Cone, Diff, Twin, Check}
-use Rattle.orders.specs.declared.order.SourceOptions.{SourceOptions}
+use Rattle.orders.specs.declared.files.Files.{Files}
+use Rattle.run_pairs.specs.declared.twin_run.Side.TheVariants.{First, Second}
 use Rattle.program_io.specs.declared.program_fault.ProgramFault.{ProgramFault}
-use Rattle.program_io.specs.declared.program_fault.ProgramFault.TheVariants.{Read, Memory}
-use Rattle.orders.specs.Options.{schedule_file}
+use Rattle.orders.specs.FileNames.{files_on}
 use Rattle.program_io.specs.ProgramFaults.{fault_of_read}
 
 -- a text that was asked for, and why it could not be read, if it couldn't
@@ -41,22 +39,12 @@ abbrev pub if_named : Option (Bor (List ℕ)) → List (List ℕ)
 if_named None = []
 if_named (Some name) = name.now ∷ []
 
-abbrev pub files_of_options : SourceOptions → List (List ℕ)
-files_of_options options =
-    if_named (Some options.bench) ++ if_named options.delays ++ if_named options.stimuli ++ if_named (schedule_file options.picks)
+abbrev pub names_in : Files → List (List ℕ)
+names_in files = if_named files.bench ++ if_named files.delays ++ if_named files.stimuli ++ if_named files.schedule
 
+-- those of a first run before those of a second
 abbrev pub files_of : Order → List (List ℕ)
-files_of (Run options view counts) = files_of_options options
-files_of (Plain options view) = files_of_options options
-files_of (Draw options view) = files_of_options options
-files_of (Trace options horizon) = files_of_options options
-files_of (Why options net tick) = files_of_options options
-files_of (Stimuli bench drives draws horizon) = if_named (Some bench)
-files_of (Info bench) = if_named (Some bench)
-files_of (Cone bench names) = if_named (Some bench)
-files_of (Diff first second names ticks) = files_of_options first ++ files_of_options second
-files_of (Twin first second net horizon) = files_of_options first ++ files_of_options second
-files_of (Check options horizon) = files_of_options options
+files_of order = names_in (files_on order First) ++ names_in (files_on order Second)
 
 -- ---- how they were read
 
@@ -74,9 +62,3 @@ StopsAt files old new name fault =
 abbrev pub StopsBy : List (List ℕ) → KnownReadings → KnownReadings → ProgramFault → Type 0
 StopsBy files old new fault =
     (name : Bor (List ℕ)) × ((failed : ReadFault) × (fault ≡ fault_of_read name failed) × StopsAt files old new name.now failed)
-
--- where a read failed, the fault names the file; memory may be wanting for one of them or behind all; any other fault comes behind all
-abbrev pub ReadsUntil : List (List ℕ) → KnownReadings → KnownReadings → ProgramFault → Type 0
-ReadsUntil files old new (Read name) = StopsAt files old new name.now read.Read
-ReadsUntil files old new Memory = ReadsAll files old new ⊎ ((name : List ℕ) × StopsAt files old new name read.Memory)
-ReadsUntil files old new fault = ReadsAll files old new

@@ -1,11 +1,15 @@
 //! What words ask for, carried out over texts by name.
 #![tactic(auto)]
 
+mod files;
 pub mod laws;
 mod order;
 mod order_run;
+mod order_texts;
 mod source_texts;
 mod texts;
 
 pub use order::{Order, PickOptions, SourceOptions};
+pub use order_texts::OrderTexts;
+pub use source_texts::SourceTexts;
 pub use texts::Texts;

@@ -1,12 +1,12 @@
 //! What the words of the command line ask for.
 ghost use Rattle.std.specs.Prelude.{◌≡◌};
-ghost use Rattle.orders.specs.Options.{schedule_file};
 ghost use Rattle.program_io.specs.Place.{called, section_names};
-ghost use Rattle.orders.specs.FileNames.{file_names, names_of};
+ghost use Rattle.orders.specs.FileNames.{file_names, files_of_options, files_on, names_of, schedule_file};
 
+use crate::files::{Files, NO_FILES};
 use drawn_stimuli::{Draws, Driven};
 use plain_runs::DiagramView;
-use prepared_runs::View;
+use prepared_runs::DumpView;
 use program_io::{SECTIONS, TextNames};
 use run_pairs::{DiffTicks, Side};
 
@@ -47,14 +47,14 @@ pub enum Order<'a> {
     /// Write the dump of a run, by the kernel.
     Run {
         source: SourceOptions<'a>,
-        view: View<'a>,
+        view: DumpView<'a>,
         /// Whether the counts are asked for.
         counts: bool,
     },
     /// Write the dump of a run, by the plain engine. Nothing is picked.
     Plain {
         source: SourceOptions<'a>,
-        view: View<'a>,
+        view: DumpView<'a>,
     },
     /// Write the timing diagram of a run. Nothing is picked.
     Draw {
@@ -138,6 +138,28 @@ impl<'a> Order<'a> {
             (Order::Stimuli { bench, .. }, _) => netlist_alone(bench),
         }
     }
+
+    /// The files of the run on a side. Those of an order of one run are on the first side.
+    pub(crate) fn files(&self, side: Side) -> Files<'a>
+        ensures { result ≡ files_on self.now side }
+    {
+        match (self, side) {
+            (Order::Twin { second, .. }, Side::Second) => second.files(),
+            (Order::Diff { second, .. }, Side::Second) => second.files(),
+            (_, Side::Second) => NO_FILES,
+            (Order::Run { source, .. }, Side::First) => source.files(),
+            (Order::Plain { source, .. }, Side::First) => source.files(),
+            (Order::Draw { source, .. }, Side::First) => source.files(),
+            (Order::Trace { source, .. }, Side::First) => source.files(),
+            (Order::Why { source, .. }, Side::First) => source.files(),
+            (Order::Check { source, .. }, Side::First) => source.files(),
+            (Order::Twin { first, .. }, Side::First) => first.files(),
+            (Order::Diff { first, .. }, Side::First) => first.files(),
+            (Order::Info { bench }, Side::First) => Files::of_bench(bench),
+            (Order::Cone { bench, .. }, Side::First) => Files::of_bench(bench),
+            (Order::Stimuli { bench, .. }, Side::First) => Files::of_bench(bench),
+        }
+    }
 }
 
 /// What a fault calls the texts where the netlist's file is the only one.
@@ -158,11 +180,22 @@ impl<'a> SourceOptions<'a> {
             schedule: self.picks.file().unwrap_or("schedule"),
         }
     }
+
+    fn files(&self) -> Files<'a>
+        ensures { result ≡ files_of_options self.now }
+    {
+        Files {
+            bench: Some(self.bench),
+            delays: self.delays,
+            stimuli: self.stimuli,
+            schedule: self.picks.file(),
+        }
+    }
 }
 
 impl<'a> PickOptions<'a> {
     /// The file of the schedule.
-    pub(crate) fn file(&self) -> Option<&'a str>
+    fn file(&self) -> Option<&'a str>
         ensures { result ≡ schedule_file self.now }
     {
         match self {

@@ -1,19 +1,23 @@
 //! The texts of a run's files.
 ghost use Rattle.std.specs.Prelude.{◌≡◌, IfErr, IfOk, OnOk};
-ghost use Rattle.orders.specs.Options.{IsRead, ReadsSource, picks_of_options, source_from, text_named};
+ghost use Rattle.orders.specs.Options.{IsRead, ReadsFiles, picks_of_options, source_from, text_named};
 ghost use Rattle.prepared_runs.specs.Events.{seen_picks};
-ghost use Rattle.orders.specs.Readings.{ReadsAll, StopsBy, files_of_options, if_named};
+ghost use Rattle.orders.specs.Readings.{ReadsAll, StopsBy, if_named, names_in};
 ghost use Rattle.prepared_runs.specs.Source.{seen_source};
 
+use crate::files::Files;
 use crate::order::{PickOptions, SourceOptions};
 use crate::texts::Texts;
 use prepared_runs::{Picks, Source};
 use program_io::ProgramFault;
 use std::alloc::Global;
 
+/// The most bytes of a text that are kept: one more than a text may have.
+const MOST: usize = 16_777_217;
+
 /// The texts of a run's files. One that isn't named is empty.
 #[derive(Drop)]
-pub(crate) struct SourceTexts {
+pub struct SourceTexts {
     bench: Vec<u8>,
     delays: Vec<u8>,
     stimuli: Vec<u8>,
@@ -24,20 +28,20 @@ impl SourceTexts {
     /// Reads the files in their order: netlist, delays, stimuli, schedule.
     pub(crate) fn read<'a, T: Texts>(
         alloc: Global,
-        options: &SourceOptions<'a>,
+        files: Files<'a>,
         texts: &mut T,
     ) -> Result<SourceTexts, ProgramFault<'a>>
-        ensures ok { IfOk result (ReadsSource (T.known texts.old) options.now) }
+        ensures ok { IfOk result (ReadsFiles (T.known texts.old) files.entry) }
         ensures read { OnOk result
-            (ReadsAll (files_of_options options.now) (T.readings texts.old) (T.readings texts.new)) }
+            (ReadsAll (names_in files.entry) (T.readings texts.old) (T.readings texts.new)) }
         ensures err { IfErr result
-            (StopsBy (files_of_options options.now) (T.readings texts.old) (T.readings texts.new)) }
+            (StopsBy (names_in files.entry) (T.readings texts.old) (T.readings texts.new)) }
         ensures stays { T.known texts.new ≡ T.known texts.old }
     {
-        let bench = file_text(alloc, texts, Some(options.bench))?;
-        let delays = file_text(alloc, texts, options.delays)?;
-        let stimuli = file_text(alloc, texts, options.stimuli)?;
-        let schedule = file_text(alloc, texts, options.picks.file())?;
+        let bench = file_text(alloc, texts, files.bench)?;
+        let delays = file_text(alloc, texts, files.delays)?;
+        let stimuli = file_text(alloc, texts, files.stimuli)?;
+        let schedule = file_text(alloc, texts, files.schedule)?;
         Ok(SourceTexts {
             bench,
             delays,
@@ -46,14 +50,42 @@ impl SourceTexts {
         })
     }
 
+    /// The text of the netlist.
+    pub fn bench(&self) -> &[u8]
+        ensures { result.now ≡ self.now.bench.items }
+    {
+        self.bench.as_slice()
+    }
+
+    /// The text of the delays.
+    pub fn delays(&self) -> &[u8]
+        ensures { result.now ≡ self.now.delays.items }
+    {
+        self.delays.as_slice()
+    }
+
+    /// The text of the stimuli.
+    pub fn stimuli(&self) -> &[u8]
+        ensures { result.now ≡ self.now.stimuli.items }
+    {
+        self.stimuli.as_slice()
+    }
+
+    /// The text of the schedule.
+    pub fn schedule(&self) -> &[u8]
+        ensures { result.now ≡ self.now.schedule.items }
+    {
+        self.schedule.as_slice()
+    }
+
     /// The source of these texts, with the numbers of the options.
-    pub(crate) fn source(&self, options: &SourceOptions<'_>) -> Source<'_>
+    pub fn source(&self, options: &SourceOptions<'_>) -> Source<'_>
         ensures { seen_source result ≡ source_from options.now self.now }
     {
         Source {
-            bench: self.bench.as_slice(),
-            delays: self.delays.as_slice(),
-            stimuli: self.stimuli.as_slice(),
+            bench: self.bench(),
+            delays: self.delays(),
+            stimuli: self.stimuli(),
             default_delay: options.delay,
             period: options.period,
             picks: self.picks(options.picks),
@@ -71,8 +103,9 @@ impl SourceTexts {
     }
 }
 
-/// The text of a file, or the empty text where none is named.
-pub(crate) fn file_text<'a, T: Texts>(
+/// The text of a file, or the empty text where none is named. Of a longer text than any that is accepted
+/// the first bytes are kept, one more than the longest has.
+fn file_text<'a, T: Texts>(
     alloc: Global,
     texts: &mut T,
     name: Option<&'a str>,
@@ -88,7 +121,10 @@ pub(crate) fn file_text<'a, T: Texts>(
         return Ok(Vec::new(alloc));
     };
     match texts.text(name) {
-        Ok(text) => Ok(text),
+        Ok(mut text) => {
+            text.truncate(MOST);
+            Ok(text)
+        }
         Err(fault) => Err(ProgramFault::of_read(fault, name)),
     }
 }

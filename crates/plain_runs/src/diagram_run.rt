@@ -3,14 +3,16 @@ ghost use Rattle.std.specs.Prelude.{◌≡◌, ◌≢◌, ◌≤◌, Ok, Err, If
 ghost use Rattle.std.specs.Io.KnownBytes.{Appends};
 ghost use Rattle.design.specs.Design.{IsDesign};
 ghost use Rattle.timing_diagram.specs.Columns.{IsDrawable};
-ghost use Rattle.plain_runs.specs.Drawn.{diagram_of_design, diagram_of_source, ticks_of_view};
-ghost use Rattle.prepared_runs.specs.Ends.{BreaksOff, IsRefusal, RunEndsBy};
+ghost use Rattle.plain_runs.specs.declared.diagram_fault.DiagramFault.TheVariants.{Run};
+ghost use Rattle.plain_runs.specs.Drawn.{DiagramEndsBy, diagram_of_design, diagram_of_source, ticks_of_view};
+ghost use Rattle.prepared_runs.specs.Ends.{BreaksOff};
 ghost use Rattle.prepared_runs.specs.Source.{seen_source, shown_nets, MayWantMemory};
 ghost use Rattle.prepared_runs.specs.declared.fault.SimFault.TheVariants.{Memory};
 
+use crate::diagram_fault::DiagramFault;
 use crate::plain_run::shown_waves;
 use design::Design;
-use prepared_runs::{Show, SimFault, Source, prepare, shown_nets};
+use prepared_runs::{Selection, SimFault, Source, prepare, shown_nets};
 use run_progress::Silent;
 use std::alloc::Global;
 use std::io::Write;
@@ -21,7 +23,7 @@ use timing_text::Horizon;
 #[derive(Debug, Drop)]
 pub struct DiagramView<'a> {
     /// Which nets it shows, from top to bottom.
-    pub show: Show<'a>,
+    pub show: Selection<'a>,
     /// The last tick of the run: at most 10,000,000.
     pub horizon: u64,
     /// The first tick that is drawn.
@@ -38,8 +40,8 @@ pub struct DiagramView<'a> {
 /// A column shows what the equations give the net at the column's ticks.
 ///
 /// # Errors
-/// The horizon and the columns are looked at first, then the settings and the texts, and then the names
-/// of nets that are to be shown ([`SimFault::UnknownNet`]); a refusal comes
+/// The horizon and the columns ([`DiagramFault::Columns`]) are looked at first, then the settings and the
+/// texts, and then the names of nets that are to be shown ([`SimFault::UnknownNet`]); a refusal comes
 /// before the first byte is written, and the diagram is made whole before that. After a failed write a
 /// first part of it went out.
 pub fn diagram<W: Write>(
@@ -47,26 +49,26 @@ pub fn diagram<W: Write>(
     source: &Source<'_>,
     view: &DiagramView<'_>,
     out: &mut W,
-) -> Result<(), SimFault>
+) -> Result<(), DiagramFault>
     ensures ok { OnOk result (IsOkAnd (diagram_of_source (seen_source source.now) view.now)
         (Appends (W.contents out.old) (W.contents out.new))) }
-    ensures err { IfErr result (RunEndsBy (diagram_of_source (seen_source source.now) view.now)
+    ensures err { IfErr result (DiagramEndsBy (diagram_of_source (seen_source source.now) view.now)
         (W.contents out.old) (W.contents out.new)) }
-    ensures memory { result ≡ Err Memory → MayWantMemory (seen_source source.now) view.now.horizon }
+    ensures memory { result ≡ Err (Run Memory) → MayWantMemory (seen_source source.now) view.now.horizon }
 {
     let columns = columns_of(view)?;
     let (design, horizon) = prepare(alloc, source, view.horizon)?;
     let nets = shown_nets(alloc, &design, &view.show)?;
-    draw_design(alloc, &design, horizon, view, nets.as_slice(), columns, out)
+    draw_design(alloc, &design, horizon, view, nets.as_slice(), columns, out)?;
+    Ok(())
 }
 
 /// The columns of a diagram.
-fn columns_of(view: &DiagramView<'_>) -> Result<Columns, SimFault>
-    ensures ok { IfOk result (λ ticks. ticks_of_view view.now ≡ Ok ticks) }
+fn columns_of(view: &DiagramView<'_>) -> Result<Columns, DiagramFault>
+    ensures exact { result ≡ ticks_of_view view.now }
     ensures drawable { IfOk result IsDrawable }
     ensures within { IfOk result (λ ticks. ticks.to ≤ view.now.horizon) }
-    ensures err { IfErr result (IsRefusal (ticks_of_view view.now)) }
-    ensures no_memory { IfErr result (λ fault. fault ≢ Memory) }
+    ensures no_memory { IfErr result (λ fault. fault ≢ Run Memory) }
 {
     let horizon = Horizon::new(view.horizon)?;
     Ok(Columns::new(view.from, view.to, view.step, horizon)?)

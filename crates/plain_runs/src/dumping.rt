@@ -10,7 +10,7 @@ use design::Design;
 use fanin_cone::net_numbers;
 use logic3::Waveform;
 use netlist::without_repeats;
-use prepared_runs::{Show, SimFault, View};
+use prepared_runs::{DumpView, SimFault};
 use std::alloc::Global;
 use std::io::Write;
 use timing_text::Horizon;
@@ -21,7 +21,7 @@ pub(crate) fn write_dump<W: Write>(
     alloc: Global,
     design: &Design,
     horizon: Horizon,
-    view: &View<'_>,
+    view: &DumpView<'_>,
     nets: &[u32],
     waves: &[Waveform],
     out: &mut W,

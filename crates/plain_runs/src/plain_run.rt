@@ -8,13 +8,14 @@ ghost use Rattle.prepared_runs.specs.Source.{design_of_source, dump_of_design, d
 ghost use Rattle.prepared_runs.specs.Ends.{BreaksOff, RunEndsBy};
 ghost use Rattle.prepared_runs.specs.Shown.{wave_at, waves_up_to};
 ghost use Rattle.prepared_runs.specs.Viewed.{ShowsValues};
+ghost use Rattle.prepared_runs.specs.Views.{dump_view};
 ghost use Rattle.prepared_runs.specs.declared.fault.SimFault.TheVariants.{Memory};
 
 use crate::dumping::write_dump;
 use design::Design;
 use design::plain::{advance, unknown_waves};
 use logic3::Waveform;
-use prepared_runs::{Show, SimFault, Source, View, prepare, shown_nets};
+use prepared_runs::{DumpView, Selection, SimFault, Source, View, prepare, shown_nets};
 use run_progress::{Progress, Silent};
 use std::alloc::{AllocError, Global};
 use std::io::Write;
@@ -26,36 +27,36 @@ use timing_text::Horizon;
 ///
 /// # Errors
 /// A refusal of the settings or of a text comes before the first byte is written; the settings and
-/// the length of the netlist's text are looked at before any memory is taken. Behind them comes
-/// [`SimFault::UnknownNet`], where no net has a name that is to be shown. After a failed write
+/// the length of the netlist's text are looked at before any memory is taken. After a failed write
 /// or a want of memory a first part of the dump went out, which may be nothing.
 pub fn plain<W: Write>(
     alloc: Global,
     source: &Source<'_>,
-    view: &View<'_>,
+    view: &View,
     out: &mut W,
 ) -> Result<(), SimFault>
-    ensures ok { OnOk result (IsOkAnd (dump_of_source (seen_source source.now) view.now)
+    ensures ok { OnOk result (IsOkAnd (dump_of_source (seen_source source.now) (dump_view view.now))
         (Appends (W.contents out.old) (W.contents out.new))) }
     ensures shows { OnOk result (W.contents out.old ≡ Some [] → IfSome (W.contents out.new) (λ text.
         IsOkAnd (design_of_source (seen_source source.now) view.now.horizon)
-        (λ ready. ShowsValues view.now ready.1 text))) }
-    ensures err { IfErr result (RunEndsBy (dump_of_source (seen_source source.now) view.now)
+        (λ ready. ShowsValues (dump_view view.now) ready.1 text))) }
+    ensures err { IfErr result (RunEndsBy (dump_of_source (seen_source source.now) (dump_view view.now))
         (W.contents out.old) (W.contents out.new)) }
     ensures memory { result ≡ Err Memory → MayWantMemory (seen_source source.now) view.now.horizon }
 {
-    plain_with_progress(alloc, source, view, out, &mut Silent)
+    plain_with_progress(alloc, source, &DumpView::of(view), out, &mut Silent)
 }
 
 /// Writes the dump of a run, as [`plain`] does, and tells how far the run is: each number of ticks, from 0
 /// on, once so many are known, and so many as the run has at last. The dump goes out behind that.
 ///
 /// # Errors
-/// As [`plain`]; nothing is told of a source or a view that is refused.
+/// As [`plain`], and behind its refusals [`SimFault::UnknownNet`], where no net has a name that is to be
+/// shown. Nothing is told of a source or a view that is refused.
 pub fn plain_with_progress<W: Write, P: Progress>(
     alloc: Global,
     source: &Source<'_>,
-    view: &View<'_>,
+    view: &DumpView<'_>,
     out: &mut W,
     progress: &mut P,
 ) -> Result<(), SimFault>
@@ -87,7 +88,7 @@ fn dump_by_plain_engine<W: Write, P: Progress>(
     alloc: Global,
     design: &Design,
     horizon: Horizon,
-    view: &View<'_>,
+    view: &DumpView<'_>,
     nets: &[u32],
     out: &mut W,
     progress: &mut P,
@@ -109,7 +110,7 @@ pub(crate) fn shown_waves<P: Progress>(
     alloc: Global,
     design: &Design,
     horizon: Horizon,
-    show: &Show<'_>,
+    show: &Selection<'_>,
     nets: &[u32],
     progress: &mut P,
 ) -> Result<Vec<Waveform>, AllocError>
@@ -120,8 +121,8 @@ pub(crate) fn shown_waves<P: Progress>(
 {
     let waves = all_waves(alloc, design, horizon, progress)?;
     match show {
-        Show::All => Ok(waves),
-        Show::Outputs | Show::Named(_) => copies(alloc, waves.as_slice(), nets),
+        Selection::All => Ok(waves),
+        Selection::Outputs | Selection::Named(_) => copies(alloc, waves.as_slice(), nets),
     }
 }
 

@@ -17,8 +17,8 @@ use Rattle.design.specs.Build.{design_of}
 use Rattle.cmb_events.specs.declared.event.Event.{Event}
 use Rattle.cmb_events.specs.declared.schedule_fault.ScheduleFault.{ScheduleFault}
 use Rattle.cmb_events.specs.declared.schedule_fault.ScheduleFault.TheVariants as schedule
-use Rattle.prepared_runs.specs.declared.view.Show.{Show}
-use Rattle.prepared_runs.specs.declared.view.View.{View}
+use Rattle.prepared_runs.specs.declared.view.Selection.{Selection}
+use Rattle.prepared_runs.specs.declared.view.DumpView.{DumpView}
 use Rattle.prepared_runs.specs.declared.fault.SimFault.{SimFault}
 use Rattle.prepared_runs.specs.declared.fault.SimFault.TheVariants.{Setting, UnknownNet, Dump, Memory}
 use Rattle.prepared_runs.specs.Events.{events_of_picks}
@@ -127,7 +127,7 @@ module _ (source : SourceView) (ticks : ℕ) where
 -- ---- what is made of it
 
 -- a net that isn't there refuses one answer as it refuses another
-pub unknown_for : {A B : Type 0} (show : Show) (netlist : NetlistView) (shown : A) (answer : B) (fault : SimFault) →
+pub unknown_for : {A B : Type 0} (show : Selection) (netlist : NetlistView) (shown : A) (answer : B) (fault : SimFault) →
     if_known show netlist shown ≡ Err fault → if_known show netlist answer ≡ Err fault
 unknown_for show netlist shown answer fault = go (knows_shown show netlist)
   where
@@ -135,7 +135,7 @@ unknown_for show netlist shown answer fault = go (knows_shown show netlist)
     go true e = absurd (cc)
     go false e = cc
 
-module _ (source : SourceView) (view : View) where
+module _ (source : SourceView) (view : DumpView) where
   -- a fault of the design is the answer
   pub dump_of_source-bad : (fault : SimFault) → design_of_source source view.horizon ≡ Err fault → dump_of_source source view ≡ Err fault
   unfolding dump_of_source

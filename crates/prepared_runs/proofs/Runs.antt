@@ -4,7 +4,7 @@ use Rattle.text_lines.specs.Text.{◌>>=◌}
 use Rattle.design.specs.Design.{DesignView}
 use Rattle.cmb_events.specs.declared.event.Event.{Event}
 use Rattle.prepared_runs.specs.declared.fault.SimFault.{SimFault}
-use Rattle.prepared_runs.specs.declared.view.View.{View}
+use Rattle.prepared_runs.specs.declared.view.DumpView.{DumpView}
 use Rattle.prepared_runs.specs.Events.{events_of_picks}
 use Rattle.prepared_runs.specs.Faults.{sim_of_schedule}
 use Rattle.prepared_runs.specs.Source.{SourceView, design_of_source, or_fault, dump_of_design}
@@ -38,7 +38,7 @@ pub ready_of_run : (source : SourceView) (ticks : ℕ) (run : RunView) → run_o
 ready_of_run source ticks run accepted = IsReady-design_of_source source ticks (run.horizon, run.design) (design_of_run source ticks run accepted)
 
 -- and its dump shows the design's values
-pub ShowsValues-run_of_source : (source : SourceView) (view : View) (run : RunView) → run_of_source source view.horizon ≡ Ok run →
+pub ShowsValues-run_of_source : (source : SourceView) (view : DumpView) (run : RunView) → run_of_source source view.horizon ≡ Ok run →
     ShowsValues view run.design (dump_of_design view run.horizon run.design)
 ShowsValues-run_of_source source view run accepted =
     ShowsValues-design_of_source source view run.horizon run.design (design_of_run source view.horizon run accepted)

@@ -23,8 +23,8 @@ use Rattle.design.specs.Equations.{value_of, waves_of}
 use Rattle.design.proofs.CallerLemmas.{length-circuit}
 use Rattle.fanin_cone.specs.Extract.{first_unknown}
 use Rattle.fanin_cone.proofs.CallerLemmas.{filter_map-known, first_unknown-known}
-use Rattle.prepared_runs.specs.declared.view.Show.{Show}
-use Rattle.prepared_runs.specs.declared.view.Show.TheVariants as show
+use Rattle.prepared_runs.specs.declared.view.Selection.{Selection}
+use Rattle.prepared_runs.specs.declared.view.Selection.TheVariants as show
 use Rattle.prepared_runs.specs.declared.fault.SimFault.TheVariants.{UnknownNet}
 use Rattle.prepared_runs.specs.Source.{net_or_unknown, shown_nets}
 use Rattle.prepared_runs.specs.Shown.{wave_at, waves_up_to}
@@ -62,18 +62,18 @@ module _ (netlist seen : NetlistView) (names listed : List (List ℕ)) (numbers 
   none_unknown =
       (λ i. is_none (first_unknown (sym same i) (sym same_names i))) ∙ ap is_none (first_unknown-known seen listed numbers known)
 
-nets_below : (kind : Show) (netlist : NetlistView) → IsNetlist netlist → All (λ net. net < length netlist.nets) (shown_nets kind netlist)
+nets_below : (kind : Selection) (netlist : NetlistView) → IsNetlist netlist → All (λ net. net < length netlist.nets) (shown_nets kind netlist)
 nets_below show.All netlist formed = λ k d inside. all_below (length netlist.nets) k d inside
 nets_below show.Outputs netlist formed = formed.outputs
 nets_below (show.Named names) netlist formed =
     All-distinct (λ net. net < length netlist.nets) (filter_map (net_named netlist) (seen_names names.items)) (named_below netlist (seen_names names.items))
 
 -- each shown net is a net
-pub All-shown_nets : (kind : Show) (design : DesignView) → IsDesign design → All (λ net. net < length design.circuit) (shown_nets kind design.netlist)
+pub All-shown_nets : (kind : Selection) (design : DesignView) → IsDesign design → All (λ net. net < length design.circuit) (shown_nets kind design.netlist)
 All-shown_nets kind design formed = rw (length-circuit design formed) (nets_below kind design.netlist formed.netlist)
 
 -- and no net is shown twice
-pub AllPairs-shown_nets : (kind : Show) (design : DesignView) → IsDesign design →
+pub AllPairs-shown_nets : (kind : Selection) (design : DesignView) → IsDesign design →
     AllPairs (λ (earlier later : ℕ). earlier ≢ later) (shown_nets kind design.netlist)
 AllPairs-shown_nets show.All design formed = λ i j d less inside. all_apart (length design.netlist.nets) i j d less inside
 AllPairs-shown_nets show.Outputs design formed = formed.netlist.outputs_once
@@ -88,7 +88,7 @@ few_below n nets below apart =
     there q (k, inside, is) = subst (λ net. net < n) is (below k q inside)
 
 -- no more nets are shown than there are
-pub few-shown_nets : (kind : Show) (design : DesignView) → IsDesign design → length (shown_nets kind design.netlist) ≤ length design.circuit
+pub few-shown_nets : (kind : Selection) (design : DesignView) → IsDesign design → length (shown_nets kind design.netlist) ≤ length design.circuit
 few-shown_nets kind design formed =
     few_below (length design.circuit) (shown_nets kind design.netlist) (All-shown_nets kind design formed) (AllPairs-shown_nets kind design formed)
 
@@ -114,7 +114,7 @@ All-within circuit horizon nets =
 -- ---- the waveforms of all nets, and those of the shown ones
 
 -- where all nets are shown, their waveforms are all of them
-pub waves_of-all : (kind : Show) (design : DesignView) (horizon : ℕ) (nets : List ℕ) → IsDesign design → kind ≡ show.All →
+pub waves_of-all : (kind : Selection) (design : DesignView) (horizon : ℕ) (nets : List ℕ) → IsDesign design → kind ≡ show.All →
     nets ≡ shown_nets kind design.netlist → waves_of design.circuit (horizon + 1) ≡ waves_up_to design.circuit horizon nets
 unfolding waves_of
 waves_of-all kind design horizon nets formed all are =

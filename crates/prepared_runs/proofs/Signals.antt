@@ -14,7 +14,7 @@ use Rattle.vcd_dump.specs.Codes.{code_at}
 use Rattle.vcd_dump.specs.Dump.{Variable, variable_at, declaration, change_text, change_line, time_line, changes_at, lines_at, dump_text}
 use Rattle.vcd_dump.specs.Traces.{name_of, traces}
 use Rattle.vcd_dump.proofs.CallerLemmas.{same_from}
-use Rattle.prepared_runs.specs.declared.view.View.{View}
+use Rattle.prepared_runs.specs.declared.view.DumpView.{DumpView}
 use Rattle.prepared_runs.specs.Source.{shown_nets, signals_of, dump_of_design}
 use Rattle.prepared_runs.specs.Shown.{waves_up_to}
 
@@ -71,7 +71,7 @@ dump_text-waves unit horizon circuit nets =
     (λ net tick within. value_at-wave_of (value_of circuit net) 0 (horizon + 1) tick (omega arith) (omega arith)) nets unit
 
 -- so what is dumped of the shown nets' waveforms is the answer's text
-pub dump_of_design-waves : (view : View) (horizon : ℕ) (design : DesignView) (nets : List ℕ) (waves : List Wave) →
+pub dump_of_design-waves : (view : DumpView) (horizon : ℕ) (design : DesignView) (nets : List ℕ) (waves : List Wave) →
     nets ≡ shown_nets view.show design.netlist → waves ≡ waves_up_to design.circuit horizon nets →
     dump_text view.unit horizon (traces design.circuit nets waves) ≡ dump_of_design view horizon design
 unfolding dump_of_design
@@ -81,7 +81,7 @@ dump_of_design-waves view horizon design nets waves are show =
     ∙ ap (λ ns. dump_text view.unit horizon (signals_of design.circuit ns)) are
 
 -- what is dumped of the shown nets is the answer's text
-pub dump_of_design-nets : (view : View) (horizon : ℕ) (design : DesignView) (nets : List ℕ) → nets ≡ shown_nets view.show design.netlist →
+pub dump_of_design-nets : (view : DumpView) (horizon : ℕ) (design : DesignView) (nets : List ℕ) → nets ≡ shown_nets view.show design.netlist →
     dump_text view.unit horizon (signals_of design.circuit nets) ≡ dump_of_design view horizon design
 unfolding dump_of_design
 dump_of_design-nets view horizon design nets are = ap (λ ns. dump_text view.unit horizon (signals_of design.circuit ns)) are

@@ -30,7 +30,7 @@ use Rattle.vcd_dump.specs.Traces.{name_of}
 use Rattle.vcd_dump.proofs.CallerLemmas.{shown_value-dump_text}
 use Rattle.prepared_runs.specs.declared.fault.SimFault.{SimFault}
 use Rattle.prepared_runs.specs.declared.fault.SimFault.TheVariants.{Setting, UnknownNet}
-use Rattle.prepared_runs.specs.declared.view.View.{View}
+use Rattle.prepared_runs.specs.declared.view.DumpView.{DumpView}
 use Rattle.prepared_runs.specs.Faults.{sim_of_bench, sim_of_build}
 use Rattle.prepared_runs.specs.Source.{SourceView, design_of_source, dump_of_source, if_known, knows_shown, or_fault, shown_nets, signals_of, dump_of_design}
 use Rattle.prepared_runs.specs.Viewed.{ShowsValues}
@@ -103,7 +103,7 @@ module _ (design : DesignView) (ok : IsDesign design) where
         slice_get-map entry nets place ∙ ap (option_map entry) (slice_get-get_or nets place net inside ∙ ap (λ n. Some n) is)
 
   -- the text of a design shows its values
-  ShowsValues-dump_of_design : (view : View) (horizon : ℕ) → view.horizon ≡ horizon → horizon < 2 ^ 64 → ShowsValues view design (dump_of_design view horizon design)
+  ShowsValues-dump_of_design : (view : DumpView) (horizon : ℕ) → view.horizon ≡ horizon → horizon < 2 ^ 64 → ShowsValues view design (dump_of_design view horizon design)
   unfolding dump_of_design
   ShowsValues-dump_of_design view horizon is small net tick shown due =
       let nets = shown_nets view.show design.netlist in
@@ -161,7 +161,7 @@ known_answer true answer given e = cc
 known_answer false answer given e = absurd (cc)
 
 -- the dump of a run shows the values of its design
-pub ShowsValues-design_of_source : (source : SourceView) (view : View) (horizon : ℕ) (design : DesignView) →
+pub ShowsValues-design_of_source : (source : SourceView) (view : DumpView) (horizon : ℕ) (design : DesignView) →
     design_of_source source view.horizon ≡ Ok (horizon, design) → ShowsValues view design (dump_of_design view horizon design)
 ShowsValues-design_of_source source view horizon design made =
     let fits = IsReady-design_of_source source view.horizon (horizon, design) made in
@@ -169,7 +169,7 @@ ShowsValues-design_of_source source view horizon design made =
     let within = fits.within in
     ShowsValues-dump_of_design design fits.design view horizon (sym at_end) (omega arith)
 
-pub ShowsValues-dump_of_source : (source : SourceView) (view : View) (text : List ℕ) → dump_of_source source view ≡ Ok text →
+pub ShowsValues-dump_of_source : (source : SourceView) (view : DumpView) (text : List ℕ) → dump_of_source source view ≡ Ok text →
     IsOkAnd (design_of_source source view.horizon) (λ ready. ShowsValues view ready.1 text)
 unfolding dump_of_source
 ShowsValues-dump_of_source source view text e = go (design_of_source source view.horizon) (ShowsValues-design_of_source source view) e

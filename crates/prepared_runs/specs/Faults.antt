@@ -4,9 +4,6 @@ use Rattle.bench_text.specs.Faults as of_bench
 use Rattle.timing_text.specs.Faults.{delay_line, delay_name, option_name, stimulus_line, stimulus_name}
 use Rattle.cmb_events.specs.ScheduleFaults as of_schedule
 use Rattle.vcd_dump.specs.Faults as of_dump
-use Rattle.timing_diagram.specs.Faults as of_columns
-use Rattle.drawn_stimuli.specs.Faults as of_drives
-use Rattle.wave_diff.specs.Faults as of_compared
 use Rattle.bench_text.specs.declared.fault.BenchFault.{BenchFault}
 use Rattle.bench_text.specs.declared.fault.BenchFault.TheVariants as bench
 use Rattle.design.specs.declared.fault.BuildFault.{BuildFault}
@@ -17,12 +14,10 @@ use Rattle.cmb_events.specs.declared.schedule_fault.ScheduleFault.{ScheduleFault
 use Rattle.cmb_events.specs.declared.schedule_fault.ScheduleFault.TheVariants as schedule
 use Rattle.fanin_cone.specs.declared.fault.ConeFault.{ConeFault}
 use Rattle.fanin_cone.specs.declared.fault.ConeFault.TheVariants as cone
-use Rattle.drawn_stimuli.specs.declared.fault.DriveFault.{DriveFault}
-use Rattle.drawn_stimuli.specs.declared.fault.DriveFault.TheVariants as drives
 use Rattle.vcd_dump.specs.declared.fault.DumpFault.{DumpFault}
 use Rattle.vcd_dump.specs.declared.fault.DumpFault.TheVariants as dump
 use Rattle.prepared_runs.specs.declared.fault.SimFault.{SimFault}
-use Rattle.prepared_runs.specs.declared.fault.SimFault.TheVariants.{Setting, Bench, Timing, Stimulus, Schedule, Columns, Drives, Compared, UnknownNet, Dump, Memory}
+use Rattle.prepared_runs.specs.declared.fault.SimFault.TheVariants.{Setting, Bench, Timing, Stimulus, Schedule, UnknownNet, Dump, Memory}
 
 -- the line that a fault names, and 0 for one without a line
 abbrev pub line_of : SimFault → ℕ
@@ -38,9 +33,6 @@ name_of (Bench fault) = of_bench.name_of fault
 name_of (Timing fault) = delay_name fault
 name_of (Stimulus fault) = stimulus_name fault
 name_of (Schedule fault) = of_schedule.name_of fault
-name_of (Columns fault) = of_columns.name_of fault
-name_of (Drives fault) = of_drives.name_of fault
-name_of (Compared fault) = of_compared.name_of fault
 name_of UnknownNet = codes "UnknownNet"
 name_of (Dump fault) = of_dump.name_of fault
 name_of Memory = codes "Memory"
@@ -66,10 +58,6 @@ sim_of_schedule fault = Schedule fault
 abbrev pub sim_of_cone : ConeFault → SimFault
 sim_of_cone (cone.UnknownNet at) = UnknownNet
 sim_of_cone cone.Memory = Memory
-
-abbrev pub sim_of_drives : DriveFault → SimFault
-sim_of_drives drives.Memory = Memory
-sim_of_drives fault = Drives fault
 
 abbrev pub sim_of_dump : DumpFault → SimFault
 sim_of_dump dump.Memory = Memory

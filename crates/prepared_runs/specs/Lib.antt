@@ -6,3 +6,4 @@ pub mod Prepared
 pub mod Shown
 pub mod Source
 pub mod Viewed
+pub mod Views

@@ -18,9 +18,9 @@ use Rattle.fanin_cone.specs.Extract.{first_unknown}
 use Rattle.vcd_dump.specs.Dump.{dump_text}
 use Rattle.vcd_dump.specs.Traces.{name_of}
 use Rattle.prepared_runs.specs.declared.source.Source.{Source}
-use Rattle.prepared_runs.specs.declared.view.View.{View}
-use Rattle.prepared_runs.specs.declared.view.Show.{Show}
-use Rattle.prepared_runs.specs.declared.view.Show.TheVariants.{All, Outputs, Named}
+use Rattle.prepared_runs.specs.declared.view.DumpView.{DumpView}
+use Rattle.prepared_runs.specs.declared.view.Selection.{Selection}
+use Rattle.prepared_runs.specs.declared.view.Selection.TheVariants.{All, Outputs, Named}
 use Rattle.prepared_runs.specs.declared.fault.SimFault.{SimFault}
 use Rattle.prepared_runs.specs.declared.fault.SimFault.TheVariants.{Setting, UnknownNet}
 use Rattle.prepared_runs.specs.Faults.{sim_of_bench, sim_of_build}
@@ -46,19 +46,19 @@ seen_source s = record {
 }
 
 -- the numbers of the nets that a dump shows, in its order; nets that are named are shown in the order of the names, none twice
-abbrev pub shown_nets : Show → NetlistView → List ℕ
+abbrev pub shown_nets : Selection → NetlistView → List ℕ
 shown_nets All netlist = range_with_len 0 (length netlist.nets)
 shown_nets Outputs netlist = netlist.outputs
 shown_nets (Named names) netlist = distinct (filter_map (net_named netlist) (seen_names names.items))
 
 -- each name of a net that is to be shown is that of a net
-abbrev pub knows_shown : Show → NetlistView → Bool
+abbrev pub knows_shown : Selection → NetlistView → Bool
 knows_shown All netlist = true
 knows_shown Outputs netlist = true
 knows_shown (Named names) netlist = is_none (first_unknown netlist (seen_names names.items))
 
 -- an answer, unless a net that is to be shown isn't there
-abbrev pub if_known : {A : Type 0} → Show → NetlistView → A → Result A SimFault
+abbrev pub if_known : {A : Type 0} → Selection → NetlistView → A → Result A SimFault
 if_known show netlist answer = if knows_shown show netlist then Ok answer else Err UnknownNet
 
 -- the names of nets, each with what the net shows at each tick
@@ -66,7 +66,7 @@ abbrev pub signals_of : Circuit → List ℕ → List (List ℕ × (ℕ → Valu
 signals_of circuit nets = map (λ net. (name_of circuit net, value_of circuit net)) nets
 
 -- the dump of a design up to a horizon
-unfoldable pub dump_of_design : View → ℕ → DesignView → List ℕ
+unfoldable pub dump_of_design : DumpView → ℕ → DesignView → List ℕ
 dump_of_design view horizon design = dump_text view.unit horizon (signals_of design.circuit (shown_nets view.show design.netlist))
 
 -- the same value, or the fault as another
@@ -93,7 +93,7 @@ design_of_source source ticks = do
   Ok (horizon, design)
 
 -- the answer to texts and settings: the dump, or the first fault
-unfoldable pub dump_of_source : SourceView → View → Result (List ℕ) SimFault
+unfoldable pub dump_of_source : SourceView → DumpView → Result (List ℕ) SimFault
 dump_of_source source view = do
   ready ← design_of_source source view.horizon
   if_known view.show (ready.1).netlist (dump_of_design view ready.0 ready.1)

@@ -1,26 +1,22 @@
 ghost use Rattle.std.specs.Prelude.{◌≡◌, Some};
 ghost use Rattle.prepared_runs.specs.declared.fault.SimFault.TheVariants as sim;
-ghost use Rattle.prepared_runs.specs.Faults.{line_of, name_of, sim_of_bench, sim_of_build, sim_of_cone, sim_of_drives, sim_of_dump, sim_of_schedule};
+ghost use Rattle.prepared_runs.specs.Faults.{line_of, name_of, sim_of_bench, sim_of_build, sim_of_cone, sim_of_dump, sim_of_schedule};
 
 use bench_text::BenchFault;
 use cmb_events::ScheduleFault;
 use cmb_kernel::KernelFault;
 use design::BuildFault;
-use drawn_stimuli::DriveFault;
 use fanin_cone::ConeFault;
 use std::alloc::AllocError;
 use std::fmt;
 use thiserror::Error;
-use timing_diagram::ColumnsFault;
 use timing_text::{DelayFault, OptionFault, StimulusFault};
 use vcd_dump::DumpFault;
-use wave_diff::ComparedFault;
 
 /// Why a run ended early.
 ///
 /// The first fault decides: the settings (default delay, period, horizon), the netlist, the delays,
-/// the stimuli, the schedule, the names of nets; the ticks of a timing diagram, and those at which runs are
-/// compared, come before all else but the horizon. A want of memory of any layer is [`Memory`](Self::Memory).
+/// the stimuli, the schedule, the names of nets. A want of memory of any layer is [`Memory`](Self::Memory).
 #[derive(Clone, Copy, Debug, PartialEq, Eq, Error)]
 pub enum SimFault {
     Setting(OptionFault),
@@ -28,12 +24,6 @@ pub enum SimFault {
     Timing(DelayFault),
     Stimulus(StimulusFault),
     Schedule(ScheduleFault),
-    /// The ticks of a timing diagram can't be drawn.
-    Columns(ColumnsFault),
-    /// What is to drive the inputs is faulty.
-    Drives(DriveFault),
-    /// The ticks at which runs are to be compared are refused.
-    Compared(ComparedFault),
     /// No net has a name that was asked for.
     UnknownNet,
     /// The dump broke off.
@@ -52,13 +42,7 @@ impl SimFault {
             SimFault::Timing(fault) => fault.line(),
             SimFault::Stimulus(fault) => fault.line(),
             SimFault::Schedule(fault) => fault.line(),
-            SimFault::Setting(_)
-            | SimFault::Columns(_)
-            | SimFault::Drives(_)
-            | SimFault::Compared(_)
-            | SimFault::UnknownNet
-            | SimFault::Dump(_)
-            | SimFault::Memory => 0,
+            SimFault::Setting(_) | SimFault::UnknownNet | SimFault::Dump(_) | SimFault::Memory => 0,
         }
     }
 
@@ -72,9 +56,6 @@ impl SimFault {
             SimFault::Timing(fault) => fault.name(),
             SimFault::Stimulus(fault) => fault.name(),
             SimFault::Schedule(fault) => fault.name(),
-            SimFault::Columns(fault) => fault.name(),
-            SimFault::Drives(fault) => fault.name(),
-            SimFault::Compared(fault) => fault.name(),
             SimFault::UnknownNet => "UnknownNet",
             SimFault::Dump(fault) => fault.name(),
             SimFault::Memory => "Memory",
@@ -160,33 +141,6 @@ impl From<ConeFault> for SimFault {
             ConeFault::UnknownNet { .. } => SimFault::UnknownNet,
             ConeFault::Memory => SimFault::Memory,
         }
-    }
-}
-
-impl From<ColumnsFault> for SimFault {
-    ghost from_gives = { λ fault e. e ≡ sim.Columns fault };
-
-    fn from(fault: ColumnsFault) -> SimFault {
-        SimFault::Columns(fault)
-    }
-}
-
-impl From<DriveFault> for SimFault {
-    ghost from_gives = { λ fault e. e ≡ sim_of_drives fault };
-
-    fn from(fault: DriveFault) -> SimFault {
-        match fault {
-            DriveFault::Memory => SimFault::Memory,
-            other => SimFault::Drives(other),
-        }
-    }
-}
-
-impl From<ComparedFault> for SimFault {
-    ghost from_gives = { λ fault e. e ≡ sim.Compared fault };
-
-    fn from(fault: ComparedFault) -> SimFault {
-        SimFault::Compared(fault)
     }
 }
 

@@ -11,4 +11,4 @@ pub use fault::SimFault;
 pub use nets::{marks_of, net_named, shown_nets};
 pub use preparation::{PreparedRun, prepare, prepare_run};
 pub use source::{Picks, Source};
-pub use view::{Show, View};
+pub use view::{DumpView, Selection, Show, View};

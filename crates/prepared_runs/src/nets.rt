@@ -6,7 +6,7 @@ ghost use Rattle.prepared_runs.specs.Marked.{is_among};
 ghost use Rattle.prepared_runs.specs.Source.{if_known, knows_shown, net_or_unknown, shown_nets};
 
 use crate::fault::SimFault;
-use crate::view::Show;
+use crate::view::Selection;
 use design::Design;
 use fanin_cone::net_numbers;
 use netlist::without_repeats;
@@ -16,7 +16,11 @@ use std::alloc::{AllocError, Global};
 ///
 /// # Errors
 /// [`SimFault::UnknownNet`] where no net has one of the names.
-pub fn shown_nets(alloc: Global, design: &Design, show: &Show<'_>) -> Result<Vec<u32>, SimFault>
+pub fn shown_nets(
+    alloc: Global,
+    design: &Design,
+    show: &Selection<'_>,
+) -> Result<Vec<u32>, SimFault>
     ensures nets { IfOk result (λ nets. nets.items ≡ shown_nets show.now design.now.netlist) }
     ensures known { OnOk result (IsTrue (knows_shown show.now design.now.netlist)) }
     ensures err { IfErr result
@@ -25,9 +29,9 @@ pub fn shown_nets(alloc: Global, design: &Design, show: &Show<'_>) -> Result<Vec
 {
     let nets = design.nets();
     match show {
-        Show::All => Ok((0..nets).collect(alloc)?),
-        Show::Outputs => Ok(Vec::from_slice(alloc, design.netlist().outputs())?),
-        Show::Named(names) => {
+        Selection::All => Ok((0..nets).collect(alloc)?),
+        Selection::Outputs => Ok(Vec::from_slice(alloc, design.netlist().outputs())?),
+        Selection::Named(names) => {
             let numbers = net_numbers(alloc, design.netlist(), names.as_slice())?;
             Ok(without_repeats(alloc, numbers.as_slice(), nets as usize)?)
         }

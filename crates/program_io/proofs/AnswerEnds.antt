@@ -3,13 +3,22 @@ use Rattle.std.proofs.Common.{◌≡◌, ◌≢◌, ℕ, Bool, List, Option, Res
 use Rattle.std.specs.Io.KnownBytes.{Appends, Keeps}
 use Rattle.std.specs.Result.{result_map_both}
 use Rattle.std.proofs.KnownBytes.{Appends-kept, Keeps-refl}
+use Rattle.bench_text.specs.declared.fault.BenchFault.{BenchFault}
+use Rattle.bench_text.specs.declared.fault.BenchFault.TheVariants as bench
+use Rattle.circuit_texts.specs.declared.driven_fault.DrivenFault.{DrivenFault}
+use Rattle.circuit_texts.specs.declared.driven_fault.DrivenFault.TheVariants as driven
+use Rattle.plain_runs.specs.declared.diagram_fault.DiagramFault.{DiagramFault}
+use Rattle.plain_runs.specs.declared.diagram_fault.DiagramFault.TheVariants as diagram
+use Rattle.plain_runs.specs.Drawn.{DiagramEndsBy}
 use Rattle.prepared_runs.specs.declared.fault.SimFault.{SimFault}
 use Rattle.prepared_runs.specs.declared.fault.SimFault.TheVariants.{Dump, Memory}
 use Rattle.runs.specs.declared.simulation.Report.{Report}
+use Rattle.run_pairs.specs.declared.diff_fault.DiffFault.{DiffFault}
+use Rattle.run_pairs.specs.declared.diff_fault.DiffFault.TheVariants as diff
 use Rattle.run_pairs.specs.declared.twin_run.Side.{Side}
 use Rattle.run_pairs.specs.declared.twin_run.Side.TheVariants.{First}
 use Rattle.run_pairs.specs.declared.twin_run.TwinFault.{TwinFault}
-use Rattle.run_pairs.specs.Diffs.{IsDiff, Pair}
+use Rattle.run_pairs.specs.Diffs.{IsDiff, IsDiffRefusal, Pair, on_run}
 use Rattle.prepared_runs.specs.Ends.{IsRefusal, RunEndsBy}
 use Rattle.runs.specs.declared.check_run.CheckAnswer.{CheckAnswer}
 use Rattle.run_pairs.specs.declared.twin_run.TwinAnswer.{TwinAnswer}
@@ -25,7 +34,7 @@ use Rattle.program_io.specs.declared.program_fault.ProgramFault.TheVariants.{Flu
 use Rattle.program_io.specs.declared.program_fault.ProgramFault.TheVariants as program
 use Rattle.program_io.specs.Ends.{WriteEndsBy}
 use Rattle.program_io.specs.Answers.{Answer, AnswerEndsBy, GoesOut, IsDiffAnswer, IsNoRead, IsTwinAnswer, answered, compared, counted, just, with_counts}
-use Rattle.program_io.specs.ProgramFaults.{fault_of_run, fault_of_twin}
+use Rattle.program_io.specs.ProgramFaults.{fault_of_bench, fault_of_diagram, fault_of_diff, fault_of_driven, fault_of_run, fault_of_twin}
 
 module _ (P : Result Answer ProgramFault → Type 0) where
   -- ---- before a byte is written
@@ -46,6 +55,29 @@ module _ (P : Result Answer ProgramFault → Type 0) where
       go at (Dump broken) refusal = absurd refusal
       go at Memory refusal = inl (Keeps-refl held)
       go at fault refusal = (stands (on at fault) refusal, Keeps-refl held)
+
+  -- so is one of two runs that are compared net by net, or of the ticks that count
+  pub AnswerEndsBy-diff : {A : Type 0} (held : Option (List ℕ)) (made : Result A DiffFault) (fault : DiffFault) →
+      ((other : DiffFault) → made ≡ Err other → P (Err (fault_of_diff other))) → IsDiffRefusal made fault → AnswerEndsBy P held held (fault_of_diff fault)
+  AnswerEndsBy-diff held made (diff.Compared fault) stands refusal = (stands (diff.Compared fault) refusal, Keeps-refl held)
+  AnswerEndsBy-diff held made (diff.Run fault) stands refusal = go fault.side fault.fault refusal
+    where
+      go : (at : Side) (fault : SimFault) → IsDiffRefusal made (on_run at fault) → AnswerEndsBy P held held (fault_of_run at fault)
+      go at (Dump broken) refusal = absurd refusal
+      go at Memory refusal = inl (Keeps-refl held)
+      go at fault refusal = (stands (on_run at fault) refusal, Keeps-refl held)
+
+  -- so is one of the only netlist
+  pub AnswerEndsBy-bench : (held : Option (List ℕ)) (fault : BenchFault) → (fault ≢ bench.Memory → P (Err (fault_of_bench fault))) →
+      AnswerEndsBy P held held (fault_of_bench fault)
+  AnswerEndsBy-bench held bench.Memory refused = inl (Keeps-refl held)
+  AnswerEndsBy-bench held _ refused = (refused (λ e. (cc)), Keeps-refl held)
+
+  -- so is one of a stimulus text
+  pub AnswerEndsBy-driven : (held : Option (List ℕ)) (fault : DrivenFault) → (fault ≢ driven.Memory → P (Err (fault_of_driven fault))) →
+      AnswerEndsBy P held held (fault_of_driven fault)
+  AnswerEndsBy-driven held driven.Memory refused = inl (Keeps-refl held)
+  AnswerEndsBy-driven held _ refused = (refused (λ e. (cc)), Keeps-refl held)
 
   -- ---- the only run
 
@@ -82,6 +114,16 @@ module _ (P : Result Answer ProgramFault → Type 0) where
       text_in-just (Ok text) = refl
       text_in-just (Err fault) = refl
 
+  -- the same of a timing diagram
+  pub AnswerEndsBy-diagram : (result : Result (List ℕ) DiagramFault) → P (result_map_both just fault_of_diagram result) →
+      (old new : Option (List ℕ)) (fault : DiagramFault) → DiagramEndsBy result old new fault → AnswerEndsBy P old new (fault_of_diagram fault)
+  AnswerEndsBy-diagram (Ok text) is old new (diagram.Run (Dump broken)) (failed, part) = (failed, (just text, is, part))
+  AnswerEndsBy-diagram (Err fault) is old new (diagram.Run (Dump broken)) (failed, part) = absurd part
+  AnswerEndsBy-diagram (Ok text) is old new (diagram.Run Memory) part = inr (just text, is, part)
+  AnswerEndsBy-diagram (Err fault) is old new (diagram.Run Memory) kept = inl kept
+  AnswerEndsBy-diagram result is old new fault ends =
+      (subst (λ (r : Result (List ℕ) DiagramFault). P (result_map_both just fault_of_diagram r)) ends.0 is, ends.1)
+
   -- ---- behind the last write
 
   -- the dump of a run went out, and its counts are those asked for
@@ -96,6 +138,11 @@ module _ (P : Result Answer ProgramFault → Type 0) where
       IsOkAnd result (Appends old new) → GoesOut P old new Done
   GoesOut-dump (Ok text) is old new went = (just text, is, (went, refl))
   GoesOut-dump (Err fault) is old new went = absurd went
+
+  pub GoesOut-diagram : (result : Result (List ℕ) DiagramFault) → P (result_map_both just fault_of_diagram result) → (old new : Option (List ℕ)) →
+      IsOkAnd result (Appends old new) → GoesOut P old new Done
+  GoesOut-diagram (Ok text) is old new went = (just text, is, (went, refl))
+  GoesOut-diagram (Err fault) is old new went = absurd went
 
   -- the text of the answer is written
   module _ (answer : Answer) (written : List ℕ) (is : P (Ok answer)) (same : written ≡ answer.text) (old new : Option (List ℕ)) where
@@ -120,6 +167,20 @@ pub fault_of_run-no_read : (side : Side) (fault : SimFault) → IsNoRead (fault_
 fault_of_run-no_read side (Dump broken) = tt
 fault_of_run-no_read side Memory = tt
 fault_of_run-no_read side fault = tt
+
+pub fault_of_diff-no_read : (fault : DiffFault) → IsNoRead (fault_of_diff fault)
+fault_of_diff-no_read (diff.Compared fault) = tt
+fault_of_diff-no_read (diff.Run fault) = fault_of_run-no_read fault.side fault.fault
+
+pub fault_of_diagram-no_read : (fault : DiagramFault) → IsNoRead (fault_of_diagram fault)
+fault_of_diagram-no_read (diagram.Columns fault) = tt
+fault_of_diagram-no_read (diagram.Run fault) = fault_of_run-no_read First fault
+
+pub fault_of_driven-no_read : (fault : DrivenFault) → IsNoRead (fault_of_driven fault)
+fault_of_driven-no_read (driven.Setting fault) = tt
+fault_of_driven-no_read (driven.Bench fault) = tt
+fault_of_driven-no_read (driven.Drives fault) = tt
+fault_of_driven-no_read driven.Memory = tt
 
 pub WriteEndsBy-no_read : (old new : Option (List ℕ)) (text : List ℕ) (fault : ProgramFault) → WriteEndsBy old new text fault → IsNoRead fault
 WriteEndsBy-no_read old new text fault (inl (broken, is, failed, part)) = rw is tt
@@ -151,12 +212,12 @@ pub IsTwinAnswer-refused : (twins : Result Twins TwinFault) (name : List ℕ) (h
 IsTwinAnswer-refused twins name horizon fault refused = rw refused refl
 
 -- so it is with a comparison net by net
-pub IsDiffAnswer-done : (made : Result Pair TwinFault) (text : List ℕ) (same : Bool) → IsOkAnd made (λ pair. IsDiff pair text same) →
+pub IsDiffAnswer-done : (made : Result Pair DiffFault) (text : List ℕ) (same : Bool) → IsOkAnd made (λ pair. IsDiff pair text same) →
     IsDiffAnswer made (Ok (compared text same))
 IsDiffAnswer-done (Ok pair) text same is = (text, (same, is, refl))
 IsDiffAnswer-done (Err fault) text same is = absurd is
 
-pub IsDiffAnswer-refused : (made : Result Pair TwinFault) (fault : TwinFault) → made ≡ Err fault → IsDiffAnswer made (Err (fault_of_twin fault))
+pub IsDiffAnswer-refused : (made : Result Pair DiffFault) (fault : DiffFault) → made ≡ Err fault → IsDiffAnswer made (Err (fault_of_diff fault))
 IsDiffAnswer-refused made fault refused = rw refused refl
 
 -- so are those of a check that of the check

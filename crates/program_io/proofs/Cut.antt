@@ -23,7 +23,7 @@ use Rattle.cmb_events.specs.declared.schedule_fault.ScheduleFault.TheVariants as
 use Rattle.cmb_events.specs.Schedule.{events_after, events_of}
 use Rattle.prepared_runs.specs.declared.fault.SimFault.{SimFault}
 use Rattle.prepared_runs.specs.declared.fault.SimFault.TheVariants.{Setting}
-use Rattle.prepared_runs.specs.declared.view.View.{View}
+use Rattle.prepared_runs.specs.declared.view.DumpView.{DumpView}
 use Rattle.plain_runs.specs.declared.diagram_run.DiagramView.{DiagramView}
 use Rattle.drawn_stimuli.specs.declared.drive.Draws.{Draws}
 use Rattle.drawn_stimuli.specs.Inputs.{DriveView}
@@ -114,7 +114,7 @@ design_of_source-cut source ticks =
     ap (λ read. design_by source ticks read (build (cut source.delays) (cut source.stimuli))) (netlist_of-cut source.bench)
     ∙ ap (design_by source ticks (netlist_of source.bench)) builds
 
-pub dump_of_source-cut : (source : SourceView) (view : View) → dump_of_source (cut_source source) view ≡ dump_of_source source view
+pub dump_of_source-cut : (source : SourceView) (view : DumpView) → dump_of_source (cut_source source) view ≡ dump_of_source source view
 unfolding dump_of_source
 dump_of_source-cut source view = rw (design_of_source-cut source view.horizon) refl
 
@@ -137,7 +137,7 @@ run_of_source-cut source ticks =
     ap (λ made. run_by made (picked (cut_picks source.picks))) (design_of_source-cut source ticks)
     ∙ ap (run_by (design_of_source source ticks)) same
 
-pub simulated-cut : (source : SourceView) (view : View) → simulated (cut_source source) view ≡ simulated source view
+pub simulated-cut : (source : SourceView) (view : DumpView) → simulated (cut_source source) view ≡ simulated source view
 unfolding simulated
 simulated-cut source view = rw (run_of_source-cut source view.horizon) refl
 

@@ -2,6 +2,7 @@
 use Rattle.std.specs.Prelude.{◌≡◌, ℕ, Bool, List, true, false, Option, Result, Ok, Err}
 use Rattle.std.specs.Result.{result_map_both}
 use Rattle.std.specs.Io.KnownBytes.{Appends}
+use Rattle.bench_text.specs.declared.fault.BenchFault.{BenchFault}
 use Rattle.cmb_kernel.specs.declared.counts.Counts.{Counts}
 use Rattle.plain_runs.specs.declared.diagram_run.DiagramView.{DiagramView}
 use Rattle.prepared_runs.specs.declared.fault.SimFault.{SimFault}
@@ -9,13 +10,14 @@ use Rattle.runs.specs.declared.simulation.Report.{Report}
 use Rattle.run_pairs.specs.declared.twin_run.Side.TheVariants.{First}
 use Rattle.run_pairs.specs.declared.twin_run.TwinAnswer.{TwinAnswer}
 use Rattle.run_pairs.specs.declared.twin_run.TwinFault.{TwinFault}
-use Rattle.prepared_runs.specs.declared.view.View.{View}
+use Rattle.prepared_runs.specs.declared.view.DumpView.{DumpView}
 use Rattle.runs.specs.Checked.{checked}
 use Rattle.circuit_texts.specs.ConeText.{IsConeAnswer}
 use Rattle.drawn_stimuli.specs.declared.drive.Draws.{Draws}
 use Rattle.drawn_stimuli.specs.Inputs.{DriveView}
 use Rattle.plain_runs.specs.Drawn.{diagram_of_source}
 use Rattle.circuit_texts.specs.Driven.{stimuli_of_drives}
+use Rattle.run_pairs.specs.declared.diff_fault.DiffFault.{DiffFault}
 use Rattle.run_pairs.specs.declared.diff_run.DiffTicks.{DiffTicks}
 use Rattle.run_pairs.specs.Diffs.{IsDiff, Pair, pair_of}
 use Rattle.plain_runs.specs.Explained.{why_of_source}
@@ -31,7 +33,7 @@ use Rattle.program_io.specs.declared.program_fault.ProgramFault.{ProgramFault}
 use Rattle.program_io.specs.declared.program_fault.ProgramFault.TheVariants.{Read}
 use Rattle.program_io.specs.AnswerText.{check_text, twin_text}
 use Rattle.program_io.specs.Ends.{ForAnswer, ProgramEndsBy}
-use Rattle.program_io.specs.ProgramFaults.{fault_of_run, fault_of_twin}
+use Rattle.program_io.specs.ProgramFaults.{fault_of_bench, fault_of_diagram, fault_of_diff, fault_of_driven, fault_of_run, fault_of_twin}
 
 -- what goes out, and what is told beside it
 pub record Answer : Type 0 where
@@ -58,16 +60,16 @@ answered answer_of result = result_map_both answer_of (fault_of_run First) resul
 -- ---- the answer to texts, or the first fault
 
 -- the dump of a run by the kernel
-abbrev pub run_answer : SourceView → View → Bool → Result Answer ProgramFault
+abbrev pub run_answer : SourceView → DumpView → Bool → Result Answer ProgramFault
 run_answer source view counts = answered (with_counts counts) (simulated source view)
 
 -- the dump of a run by the plain engine
-abbrev pub plain_answer : SourceView → View → Result Answer ProgramFault
+abbrev pub plain_answer : SourceView → DumpView → Result Answer ProgramFault
 plain_answer source view = answered just (dump_of_source source view)
 
 -- the timing diagram of a run
 abbrev pub diagram_answer : SourceView → DiagramView → Result Answer ProgramFault
-diagram_answer source view = answered just (diagram_of_source source view)
+diagram_answer source view = result_map_both just fault_of_diagram (diagram_of_source source view)
 
 -- the trace of a run
 abbrev pub trace_answer : SourceView → ℕ → Result Answer ProgramFault
@@ -79,7 +81,7 @@ why_answer source name tick = answered just (why_of_source source name tick)
 
 -- the stimulus text of a netlist's inputs
 abbrev pub stimuli_answer : List ℕ → List DriveView → Draws → ℕ → Result Answer ProgramFault
-stimuli_answer bench drives draws horizon = answered just (stimuli_of_drives bench drives draws horizon)
+stimuli_answer bench drives draws horizon = result_map_both just fault_of_driven (stimuli_of_drives bench drives draws horizon)
 
 -- the lines of a check
 abbrev pub check_answer : SourceView → ℕ → Result Answer ProgramFault
@@ -91,7 +93,7 @@ IsAnswerOfCone bench names answer = (found : Result (List ℕ) SimFault) × IsCo
 
 -- what a circuit is
 abbrev pub IsAnswerOfInfo : List ℕ → Result Answer ProgramFault → Type 0
-IsAnswerOfInfo bench answer = (found : Result (List ℕ) SimFault) × IsInfoAnswer bench found × (answer ≡ answered just found)
+IsAnswerOfInfo bench answer = (found : Result (List ℕ) BenchFault) × IsInfoAnswer bench found × (answer ≡ result_map_both just fault_of_bench found)
 
 -- the lines of a comparison, or the fault of one side
 abbrev pub IsTwinAnswer : Result Twins TwinFault → List ℕ → ℕ → Result Answer ProgramFault → Type 0
@@ -113,9 +115,9 @@ abbrev pub compared : List ℕ → Bool → Answer
 compared text same = record { text = text; outcome = outcome_of same }
 
 -- those of two runs that can be compared, or the fault of one side
-abbrev pub IsDiffAnswer : Result Pair TwinFault → Result Answer ProgramFault → Type 0
+abbrev pub IsDiffAnswer : Result Pair DiffFault → Result Answer ProgramFault → Type 0
 IsDiffAnswer (Ok pair) answer = (text : List ℕ) × ((same : Bool) × IsDiff pair text same × (answer ≡ Ok (compared text same)))
-IsDiffAnswer (Err fault) answer = answer ≡ Err (fault_of_twin fault)
+IsDiffAnswer (Err fault) answer = answer ≡ Err (fault_of_diff fault)
 
 -- those of two sources
 abbrev pub IsAnswerOfDiff : SourceView → SourceView → List (List ℕ) → DiffTicks → Result Answer ProgramFault → Type 0

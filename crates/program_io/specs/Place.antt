@@ -2,11 +2,11 @@
 use Rattle.std.specs.Prelude.{ℕ, List, ◌++◌, codes, decimal}
 use Rattle.vcd_dump.specs.Dump.{line}
 use Rattle.prepared_runs.specs.declared.fault.SimFault.{SimFault}
-use Rattle.prepared_runs.specs.declared.fault.SimFault.TheVariants.{Setting, Bench, Timing, Stimulus, Schedule, Columns, Drives, Compared, UnknownNet, Dump}
+use Rattle.prepared_runs.specs.declared.fault.SimFault.TheVariants.{Setting, Bench, Timing, Stimulus, Schedule, UnknownNet, Dump}
 use Rattle.prepared_runs.specs.declared.fault.SimFault.TheVariants as sim
 use Rattle.program_io.specs.declared.place.TextNames.{TextNames}
 use Rattle.program_io.specs.declared.program_fault.ProgramFault.{ProgramFault}
-use Rattle.program_io.specs.declared.program_fault.ProgramFault.TheVariants.{Read, Deck, Run, Output, Memory, Flush}
+use Rattle.program_io.specs.declared.program_fault.ProgramFault.TheVariants.{Read, Deck, Run, Columns, Drives, Compared, Output, Memory, Flush}
 use Rattle.program_io.specs.ProgramFaults.{line_of, name_of}
 
 -- what the texts of a run are called
@@ -35,9 +35,6 @@ run_place names (Bench fault) = names.bench
 run_place names (Timing fault) = names.delays
 run_place names (Stimulus fault) = names.stimuli
 run_place names (Schedule fault) = names.schedule
-run_place names (Columns fault) = codes "options"
-run_place names (Drives fault) = codes "options"
-run_place names (Compared fault) = codes "options"
 run_place names UnknownNet = names.bench
 run_place names (Dump fault) = codes "stdout"
 run_place names sim.Memory = codes "memory"
@@ -47,6 +44,9 @@ abbrev pub place_of : Names → ProgramFault → List ℕ
 place_of names (Read name) = name.now
 place_of names (Deck fault) = codes "deck"
 place_of names (Run side fault) = run_place names fault
+place_of names (Columns fault) = codes "options"
+place_of names (Drives fault) = codes "options"
+place_of names (Compared fault) = codes "options"
 place_of names (Output fault) = codes "stdout"
 place_of names Memory = codes "memory"
 place_of names Flush = codes "stdout"

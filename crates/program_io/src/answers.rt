@@ -16,7 +16,7 @@ use crate::program_fault::ProgramFault;
 use circuit_texts::{cone_text, info, stimuli};
 use drawn_stimuli::{Draws, Driven};
 use plain_runs::{DiagramView, diagram, plain_with_progress, why};
-use prepared_runs::{SimFault, Source, View};
+use prepared_runs::{DumpView, SimFault, Source};
 use run_pairs::{DiffTicks, diff, twin};
 use run_progress::Progress;
 use runs::{check, simulate_with_progress, sweep_with_progress, trace};
@@ -33,7 +33,7 @@ use std::io::Write;
 pub fn write_run<W: Write, P: Progress>(
     alloc: Global,
     source: &Source<'_>,
-    view: &View<'_>,
+    view: &DumpView<'_>,
     counts: bool,
     out: &mut W,
     progress: &mut P,
@@ -55,7 +55,7 @@ pub fn write_run<W: Write, P: Progress>(
 fn dump_and_count<W: Write, P: Progress>(
     alloc: Global,
     source: &Source<'_>,
-    view: &View<'_>,
+    view: &DumpView<'_>,
     counts: bool,
     out: &mut W,
     progress: &mut P,
@@ -82,7 +82,7 @@ fn dump_and_count<W: Write, P: Progress>(
 pub fn write_plain<W: Write, P: Progress>(
     alloc: Global,
     source: &Source<'_>,
-    view: &View<'_>,
+    view: &DumpView<'_>,
     out: &mut W,
     progress: &mut P,
 ) -> Result<Outcome, ProgramFault<'static>>

@@ -30,6 +30,7 @@ pub fn fault_place<'a>(fault: ProgramFault<'a>, names: TextNames<'a>) -> &'a str
         ProgramFault::Read(name) => name,
         ProgramFault::Deck(_) => "deck",
         ProgramFault::Run { fault, .. } => run_place(fault, names),
+        ProgramFault::Columns(_) | ProgramFault::Drives(_) | ProgramFault::Compared(_) => "options",
         ProgramFault::Output(_) | ProgramFault::Flush => "stdout",
         ProgramFault::Memory => "memory",
     }
@@ -40,8 +41,7 @@ fn run_place<'a>(fault: SimFault, names: TextNames<'a>) -> &'a str
     ensures { result.now ≡ run_place (called names.entry) fault }
 {
     match fault {
-        SimFault::Setting(_) | SimFault::Columns(_) | SimFault::Drives(_) | SimFault::Compared(_) =>
-            "options",
+        SimFault::Setting(_) => "options",
         SimFault::Bench(_) | SimFault::UnknownNet => names.bench,
         SimFault::Timing(_) => names.delays,
         SimFault::Stimulus(_) => names.stimuli,

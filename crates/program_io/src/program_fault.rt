@@ -2,16 +2,22 @@
 ghost use Rattle.std.specs.Prelude.{◌≡◌, Some};
 ghost use Rattle.run_pairs.specs.declared.twin_run.Side.TheVariants.{First};
 ghost use Rattle.program_io.specs.declared.program_fault.ProgramFault.TheVariants as program;
-ghost use Rattle.program_io.specs.ProgramFaults.{fault_of_read, fault_of_run, fault_of_twin, line_of, name_of, side_of};
+ghost use Rattle.program_io.specs.ProgramFaults.{fault_of_bench, fault_of_diagram, fault_of_diff, fault_of_driven, fault_of_read, fault_of_run, fault_of_twin, line_of, name_of, side_of};
 
 use crate::input::ReadFault;
+use bench_text::BenchFault;
+use circuit_texts::DrivenFault;
 use deck_text::DeckTextFault;
+use drawn_stimuli::DriveFault;
+use plain_runs::DiagramFault;
 use prepared_runs::SimFault;
-use run_pairs::{Side, TwinFault};
+use run_pairs::{DiffFault, Side, TwinFault};
 use std::alloc::AllocError;
 use std::fmt;
 use thiserror::Error;
+use timing_diagram::ColumnsFault;
 use vcd_dump::DumpFault;
+use wave_diff::ComparedFault;
 
 /// Why the program ended early: its text is the name that the line of a fault ends with.
 #[derive(Clone, Copy, Debug, Error)]
@@ -22,6 +28,12 @@ pub enum ProgramFault<'a> {
     Deck(DeckTextFault),
     /// A run is refused: the only one, which counts as the first, or one of two.
     Run { side: Side, fault: SimFault },
+    /// The ticks of a timing diagram can't be drawn.
+    Columns(ColumnsFault),
+    /// What is to drive the inputs is faulty.
+    Drives(DriveFault),
+    /// The ticks at which runs are to be compared are refused.
+    Compared(ComparedFault),
     /// A write of the answer failed.
     Output(DumpFault),
     /// A growth was refused.
@@ -49,6 +61,9 @@ impl<'a> ProgramFault<'a> {
             ProgramFault::Deck(fault) => fault.line(),
             ProgramFault::Run { fault, .. } => fault.line(),
             ProgramFault::Read(_)
+            | ProgramFault::Columns(_)
+            | ProgramFault::Drives(_)
+            | ProgramFault::Compared(_)
             | ProgramFault::Output(_)
             | ProgramFault::Memory
             | ProgramFault::Flush => 0,
@@ -63,6 +78,9 @@ impl<'a> ProgramFault<'a> {
             ProgramFault::Read(_) => "Read",
             ProgramFault::Deck(fault) => fault.name(),
             ProgramFault::Run { fault, .. } => fault.name(),
+            ProgramFault::Columns(fault) => fault.name(),
+            ProgramFault::Drives(fault) => fault.name(),
+            ProgramFault::Compared(fault) => fault.name(),
             ProgramFault::Output(fault) => fault.name(),
             ProgramFault::Memory => "Memory",
             ProgramFault::Flush => "Write",
@@ -129,5 +147,49 @@ impl From<TwinFault> for ProgramFault<'_> {
 
     fn from(fault: TwinFault) -> Self {
         ProgramFault::of_run(fault.side, fault.fault)
+    }
+}
+
+/// The fault of the only netlist.
+impl From<BenchFault> for ProgramFault<'_> {
+    ghost from_gives = { λ fault e. e ≡ fault_of_bench fault };
+
+    fn from(fault: BenchFault) -> Self {
+        ProgramFault::from(SimFault::from(fault))
+    }
+}
+
+impl From<DiagramFault> for ProgramFault<'_> {
+    ghost from_gives = { λ fault e. e ≡ fault_of_diagram fault };
+
+    fn from(fault: DiagramFault) -> Self {
+        match fault {
+            DiagramFault::Columns(fault) => ProgramFault::Columns(fault),
+            DiagramFault::Run(fault) => ProgramFault::from(fault),
+        }
+    }
+}
+
+impl From<DrivenFault> for ProgramFault<'_> {
+    ghost from_gives = { λ fault e. e ≡ fault_of_driven fault };
+
+    fn from(fault: DrivenFault) -> Self {
+        match fault {
+            DrivenFault::Setting(fault) => ProgramFault::from(SimFault::Setting(fault)),
+            DrivenFault::Bench(fault) => ProgramFault::from(SimFault::Bench(fault)),
+            DrivenFault::Drives(fault) => ProgramFault::Drives(fault),
+            DrivenFault::Memory => ProgramFault::Memory,
+        }
+    }
+}
+
+impl From<DiffFault> for ProgramFault<'_> {
+    ghost from_gives = { λ fault e. e ≡ fault_of_diff fault };
+
+    fn from(fault: DiffFault) -> Self {
+        match fault {
+            DiffFault::Compared(fault) => ProgramFault::Compared(fault),
+            DiffFault::Run(fault) => ProgramFault::from(fault),
+        }
     }
 }

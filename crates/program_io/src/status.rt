@@ -27,7 +27,11 @@ pub(crate) fn status(fault: ProgramFault<'_>) -> u8
     ensures { result ≡ status_of fault.entry }
 {
     match fault {
-        ProgramFault::Deck(_) | ProgramFault::Run { .. } => REFUSED,
+        ProgramFault::Deck(_)
+        | ProgramFault::Run { .. }
+        | ProgramFault::Columns(_)
+        | ProgramFault::Drives(_)
+        | ProgramFault::Compared(_) => REFUSED,
         ProgramFault::Read(_) | ProgramFault::Output(_) | ProgramFault::Flush => FAILED,
         ProgramFault::Memory => NO_MEMORY,
     }

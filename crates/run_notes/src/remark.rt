@@ -73,7 +73,7 @@ fn is_late(design: &Design, horizon: Horizon, net: u32) -> bool
 fn has_change_past(changes: &[Change], tick: u64) -> bool
     ensures { result ≡ list_any (λ (change : Change). nat_lt tick change.tick) changes.now }
 {
-    changes.iter().any(|change| tick < u64::from(change.tick))
+    changes.iter().any(|change| tick < change.tick)
 }
 
 /// Whether a net is X throughout.

@@ -1,5 +1,5 @@
 -- Two runs compared net by net, step by step.
-use Rattle.std.proofs.Common.{◌≡◌, ℕ, ◌+◌, ◌<◌, ◌≤◌, ◌&&◌, ◌==◌, ◌↔◌, nat_lt, Bool, true, false, cond, IsTrue, List, [], ◌∷◌, ◌++◌, take, length, map, find, get_or, bytes_eq, flat_map, All, Option, Some, None, Result, Ok, Err, Bor, refl, sym, ap, subst, ◌∙◌, arith, true≢false}
+use Rattle.std.proofs.Common.{◌≡◌, ℕ, ◌+◌, ◌<◌, ◌≤◌, ◌&&◌, ◌==◌, ◌↔◌, nat_lt, Bool, true, false, cond, IsTrue, List, [], ◌∷◌, ◌++◌, take, length, map, find, get_or, bytes_eq, flat_map, All, Option, Some, None, Result, Ok, Err, IsOkAnd, Bor, refl, sym, ap, subst, ◌∙◌, arith, true≢false}
 use Rattle.std.specs.List.{list_all}
 use Rattle.std.proofs.lemmas.List.{flat_map_more, get_or-map, length-map, map-append, take_more}
 use Rattle.std.proofs.lemmas.List.Elements.{All-head, All-push, All-tail}
@@ -26,6 +26,7 @@ use Rattle.wave_diff.specs.declared.comparison.Comparison.{Comparison}
 use Rattle.wave_diff.specs.declared.comparison.Comparison.TheVariants.{Same, Differs}
 use Rattle.wave_diff.specs.declared.comparison.Side.TheVariants as only
 use Rattle.wave_diff.specs.declared.difference.Difference.{Difference}
+use Rattle.wave_diff.specs.declared.fault.ComparedFault.{ComparedFault}
 use Rattle.wave_diff.specs.declared.fault.ComparedFault.TheVariants.{BadEvery, PastHorizon}
 use Rattle.wave_diff.specs.Compared.{ComparedTicks, IsCompared, compared_of}
 use Rattle.wave_diff.specs.Comparison.{is_same}
@@ -34,21 +35,70 @@ use Rattle.wave_diff.specs.Text.{comparison_line}
 use Rattle.wave_diff.proofs.CallerLemmas.{first_difference-None, first_difference-same}
 use Rattle.run_pairs.specs.declared.diff_run.DiffTicks.{DiffTicks}
 use Rattle.prepared_runs.specs.declared.fault.SimFault.{SimFault}
-use Rattle.prepared_runs.specs.declared.fault.SimFault.TheVariants.{Setting, Compared, UnknownNet}
+use Rattle.prepared_runs.specs.declared.fault.SimFault.TheVariants.{UnknownNet, Dump, Memory}
 use Rattle.prepared_runs.specs.declared.preparation.PreparedRun.{PreparedRun}
+use Rattle.run_pairs.specs.declared.diff_fault.DiffFault.{DiffFault}
+use Rattle.run_pairs.specs.declared.diff_fault.DiffFault.TheVariants.{Compared, Run}
+use Rattle.run_pairs.specs.declared.twin_run.Side.{Side}
 use Rattle.run_pairs.specs.declared.twin_run.Side.TheVariants.{First, Second}
+use Rattle.run_pairs.specs.declared.twin_run.TwinFault.{TwinFault}
+use Rattle.prepared_runs.specs.Ends.{IsRefusal}
 use Rattle.runs.specs.AtEnd.{IsAtEnd}
-use Rattle.run_pairs.specs.Diffs.{AgreesOnCone, IsComparisonOf, IsDiff, IsOfDifference, IsOfNets, NetDiff, Pair, diff_line, is_known, names_compared, pair_by, pair_in, pair_of, ticks_of_diff}
+use Rattle.run_pairs.specs.Diffs.{AgreesOnCone, IsComparisonOf, IsDiff, IsDiffRefusal, IsOfDifference, IsOfNets, NetDiff, Pair, diff_line, is_known, names_compared, of_horizon, on_run, pair_by, pair_in, pair_of, ticks_of_diff}
 use Rattle.prepared_runs.specs.Source.{SourceView, or_fault}
 use Rattle.prepared_runs.specs.Prepared.{RunView, run_of_source}
-use Rattle.run_pairs.specs.Twins.{CanCompare, on}
+use Rattle.run_pairs.specs.Twins.{CanCompare, IsTwinRefusal, on}
 use Rattle.runs.proofs.CallerLemmas.{same_values}
 use Rattle.prepared_runs.proofs.CallerLemmas.{ready_of_run}
+
+-- ---- refusals
+
+-- a fault of the ticks, which is none of a write, is the answer
+pub IsDiffRefusal-ticks : {A : Type 0} (ticks : DiffTicks) (answer : Result A DiffFault) (fault : DiffFault) →
+    ticks_of_diff ticks ≡ Err fault → answer ≡ Err fault → IsDiffRefusal answer fault
+unfolding ticks_of_diff
+IsDiffRefusal-ticks ticks answer fault bad is = go (horizon_of ticks.horizon) bad
+  where
+    refused : (other : DiffFault) → other ≡ fault → (answer ≡ Err other → IsDiffRefusal answer other) → IsDiffRefusal answer fault
+    refused other same holds = subst (λ f. answer ≡ Err f → IsDiffRefusal answer f) same holds is
+
+    in_ticks : (compared : Result ComparedTicks ComparedFault) → or_fault Compared compared ≡ Err fault → IsDiffRefusal answer fault
+    in_ticks (Ok compared) e = absurd (cc)
+    in_ticks (Err why) e = let same : Compared why ≡ fault = cc in refused (Compared why) same (λ is. is)
+
+    go : (end : Result ℕ OptionFault) →
+        (or_fault of_horizon end >>= λ horizon. or_fault Compared (compared_of ticks.from ticks.every horizon)) ≡ Err fault → IsDiffRefusal answer fault
+    go (Ok horizon) e = in_ticks (compared_of ticks.from ticks.every horizon) e
+    go (Err why) e = let same : of_horizon why ≡ fault = cc in refused (of_horizon why) same (λ is. is)
+
+-- so is what refuses a side's run
+pub IsDiffRefusal-lifted : {A B : Type 0} (answer : Result A DiffFault) (refused : Result B SimFault) (side : Side) (fault : TwinFault) → fault.side ≡ side →
+    ((why : SimFault) → refused ≡ Err why → answer ≡ Err (on_run side why)) → IsRefusal refused fault.fault → IsDiffRefusal answer (Run fault)
+IsDiffRefusal-lifted answer refused side fault on_side lifts refusal = rw on_side (go fault.fault refusal)
+  where
+    go : (why : SimFault) → IsRefusal refused why → IsDiffRefusal answer (on_run side why)
+    go (Dump other) refusal = absurd refusal
+    go Memory refusal = tt
+    go _ refusal = lifts _ refusal
+
+-- and what refuses the names
+pub IsDiffRefusal-run : {A : Type 0} (made : Result A TwinFault) (fault : TwinFault) → IsTwinRefusal made fault →
+    IsDiffRefusal (or_fault Run made) (Run fault)
+IsDiffRefusal-run made fault refusal = go fault.side fault.fault refusal
+  where
+    go : (side : Side) (why : SimFault) → IsTwinRefusal made (on side why) → IsDiffRefusal (or_fault Run made) (on_run side why)
+    go side (Dump other) refusal = absurd refusal
+    go side Memory refusal = tt
+    go side _ refusal = ap (or_fault Run) refusal
+
+pub IsOkAnd-run : {A : Type 0} (made : Result A TwinFault) (P : A → Type 0) → IsOkAnd made P → IsOkAnd (or_fault Run made) P
+IsOkAnd-run (Ok value) P holds = holds
+IsOkAnd-run (Err fault) P holds = absurd holds
 
 -- ---- the pair
 
 module _ (ticks : DiffTicks) where
-  pub ticks_of_diff-bad : (fault : OptionFault) → horizon_of ticks.horizon ≡ Err fault → ticks_of_diff ticks ≡ Err (Setting fault)
+  pub ticks_of_diff-bad : (fault : OptionFault) → horizon_of ticks.horizon ≡ Err fault → ticks_of_diff ticks ≡ Err (of_horizon fault)
   unfolding ticks_of_diff
   ticks_of_diff-bad fault bad = rw bad refl
 
@@ -58,21 +108,22 @@ module _ (ticks : DiffTicks) where
   ticks_of_diff-good horizon good = rw good refl
 
 module _ (first second : SourceView) (names : List (List ℕ)) (ticks : DiffTicks) where
-  pub pair_of-bad_ticks : (fault : SimFault) → ticks_of_diff ticks ≡ Err fault → pair_of first second names ticks ≡ Err (on First fault)
+  pub pair_of-bad_ticks : (fault : DiffFault) → ticks_of_diff ticks ≡ Err fault → pair_of first second names ticks ≡ Err fault
   unfolding pair_of
   pair_of-bad_ticks fault bad = rw bad refl
 
   module _ (compared : ComparedTicks) (count : ticks_of_diff ticks ≡ Ok compared) where
-    pub pair_of-bad_first : (fault : SimFault) → run_of_source first ticks.horizon ≡ Err fault → pair_of first second names ticks ≡ Err (on First fault)
+    pub pair_of-bad_first : (fault : SimFault) → run_of_source first ticks.horizon ≡ Err fault → pair_of first second names ticks ≡ Err (on_run First fault)
     unfolding pair_of
     pair_of-bad_first fault bad = rw (count, bad) refl
 
     module _ (one : RunView) (made_one : run_of_source first ticks.horizon ≡ Ok one) where
-      pub pair_of-bad_second : (fault : SimFault) → run_of_source second ticks.horizon ≡ Err fault → pair_of first second names ticks ≡ Err (on Second fault)
+      pub pair_of-bad_second : (fault : SimFault) → run_of_source second ticks.horizon ≡ Err fault → pair_of first second names ticks ≡ Err (on_run Second fault)
       unfolding pair_of
       pair_of-bad_second fault bad = rw (count, made_one, bad) refl
 
-      pub pair_of-in : (other : RunView) → run_of_source second ticks.horizon ≡ Ok other → pair_of first second names ticks ≡ pair_in one other compared names
+      pub pair_of-in : (other : RunView) → run_of_source second ticks.horizon ≡ Ok other →
+          pair_of first second names ticks ≡ or_fault Run (pair_in one other compared names)
       unfolding pair_of
       pair_of-in other made_other = rw (count, made_one, made_other) refl
 
@@ -97,13 +148,13 @@ pub IsPairOf-pair_of : (first second : SourceView) (names : List (List ℕ)) (ti
 unfolding pair_of pair_in
 IsPairOf-pair_of first second names ticks pair made = go (ticks_of_diff ticks) refl (run_of_source first ticks.horizon) refl (run_of_source second ticks.horizon) refl made
   where
-    in_pair : (known : Bool) (a : Pair) → cond known (Ok a) (Err (on First UnknownNet)) ≡ Ok pair → a ≡ pair
+    in_pair : (known : Bool) (a : Pair) → or_fault Run (cond known (Ok a) (Err (on First UnknownNet))) ≡ Ok pair → a ≡ pair
     in_pair true a e = cc
     in_pair false a e = cc
 
-    go : (counts : Result ComparedTicks SimFault) → ticks_of_diff ticks ≡ counts → (one : Result RunView SimFault) → run_of_source first ticks.horizon ≡ one →
+    go : (counts : Result ComparedTicks DiffFault) → ticks_of_diff ticks ≡ counts → (one : Result RunView SimFault) → run_of_source first ticks.horizon ≡ one →
         (other : Result RunView SimFault) → run_of_source second ticks.horizon ≡ other →
-        (or_fault (on First) counts >>= λ compared. or_fault (on First) one >>= λ a. or_fault (on Second) other >>= λ b. pair_in a b compared names) ≡ Ok pair →
+        (counts >>= λ compared. or_fault (on_run First) one >>= λ a. or_fault (on_run Second) other >>= λ b. or_fault Run (pair_in a b compared names)) ≡ Ok pair →
         IsPairOf first second ticks pair
     go (Ok compared) count (Ok a) one (Ok b) other e =
         let same : pair_by a b compared (names_compared names a.design.netlist b.design.netlist) ≡ pair =
@@ -132,7 +183,7 @@ ticks_of_diff-end ticks compared made = go (nat_lt most_ticks ticks.horizon) mad
     in_range false true e = cc
     in_range true past e = cc
 
-    go : (late : Bool) → (or_fault Setting (cond late (Err BadHorizon) (Ok ticks.horizon)) >>= λ horizon. or_fault Compared (compared_of ticks.from ticks.every horizon)) ≡ Ok compared →
+    go : (late : Bool) → (or_fault of_horizon (cond late (Err BadHorizon) (Ok ticks.horizon)) >>= λ horizon. or_fault Compared (compared_of ticks.from ticks.every horizon)) ≡ Ok compared →
         compared.to ≡ ticks.horizon
     go false e = in_range (ticks.every == 0) (nat_lt ticks.horizon ticks.from) e
     go true e = cc

@@ -16,13 +16,37 @@ use Rattle.wave_diff.specs.Comparison.{is_same}
 use Rattle.wave_diff.specs.Difference.{first_difference}
 use Rattle.wave_diff.specs.Text.{comparison_line}
 use Rattle.run_pairs.specs.declared.diff_run.DiffTicks.{DiffTicks}
+use Rattle.timing_text.specs.declared.fault.OptionFault.{OptionFault}
 use Rattle.prepared_runs.specs.declared.fault.SimFault.{SimFault}
-use Rattle.prepared_runs.specs.declared.fault.SimFault.TheVariants.{Setting, Compared, UnknownNet}
+use Rattle.prepared_runs.specs.declared.fault.SimFault.TheVariants.{Setting, UnknownNet, Dump, Memory}
+use Rattle.run_pairs.specs.declared.diff_fault.DiffFault.{DiffFault}
+use Rattle.run_pairs.specs.declared.diff_fault.DiffFault.TheVariants.{Compared, Run}
+use Rattle.run_pairs.specs.declared.twin_run.Side.{Side}
 use Rattle.run_pairs.specs.declared.twin_run.Side.TheVariants.{First, Second}
 use Rattle.run_pairs.specs.declared.twin_run.TwinFault.{TwinFault}
 use Rattle.prepared_runs.specs.Source.{SourceView, or_fault}
 use Rattle.prepared_runs.specs.Prepared.{RunView, run_of_source}
 use Rattle.run_pairs.specs.Twins.{on}
+
+-- ---- the faults
+
+-- a fault of the run on a side
+abbrev pub on_run : Side → SimFault → DiffFault
+on_run side fault = Run (on side fault)
+
+-- a refused horizon is told of the first run
+abbrev pub of_horizon : OptionFault → DiffFault
+of_horizon fault = on_run First (Setting fault)
+
+-- before a byte is written: the fault is the answer, unless memory was wanting
+abbrev pub IsDiffRefusal : {A : Type 0} → Result A DiffFault → DiffFault → Type 0
+IsDiffRefusal answer (Compared fault) = answer ≡ Err (Compared fault)
+IsDiffRefusal answer (Run fault) = refused fault.side fault.fault
+  where
+    refused : Side → SimFault → Type 0
+    refused side (Dump fault) = ⊥
+    refused side Memory = Unit {0}
+    refused side fault = answer ≡ Err (on_run side fault)
 
 -- ---- the names
 
@@ -67,18 +91,18 @@ pair_in one other ticks names =
     else Err (on First UnknownNet)
 
 -- the ticks that count, or the first fault
-unfoldable pub ticks_of_diff : DiffTicks → Result ComparedTicks SimFault
+unfoldable pub ticks_of_diff : DiffTicks → Result ComparedTicks DiffFault
 ticks_of_diff ticks = do
-  horizon ← or_fault Setting (horizon_of ticks.horizon)
+  horizon ← or_fault of_horizon (horizon_of ticks.horizon)
   or_fault Compared (compared_of ticks.from ticks.every horizon)
 
 -- the runs of two sources, or the first fault: the ticks come before the first source, it before the second, and that before the names
-unfoldable pub pair_of : SourceView → SourceView → List (List ℕ) → DiffTicks → Result Pair TwinFault
+unfoldable pub pair_of : SourceView → SourceView → List (List ℕ) → DiffTicks → Result Pair DiffFault
 pair_of first second names ticks = do
-  compared ← or_fault (on First) (ticks_of_diff ticks)
-  one ← or_fault (on First) (run_of_source first ticks.horizon)
-  other ← or_fault (on Second) (run_of_source second ticks.horizon)
-  pair_in one other compared names
+  compared ← ticks_of_diff ticks
+  one ← or_fault (on_run First) (run_of_source first ticks.horizon)
+  other ← or_fault (on_run Second) (run_of_source second ticks.horizon)
+  or_fault Run (pair_in one other compared names)
 
 -- ---- the comparison
 

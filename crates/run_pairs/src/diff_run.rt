@@ -1,13 +1,13 @@
 //! Two runs, compared net by net.
-ghost use Rattle.std.specs.Prelude.{◌≡◌, ◌≢◌, Ok, IfErr, IfOk, IsOkAnd};
+ghost use Rattle.std.specs.Prelude.{◌≡◌, ◌≢◌, IfErr, IfOk, IsOkAnd};
 ghost use Rattle.netlist.specs.Names.{seen_names};
-ghost use Rattle.run_pairs.specs.Diffs.{IsDiff, names_compared, names_of_outputs, pair_by, pair_in, pair_of, ticks_of_diff};
-ghost use Rattle.prepared_runs.specs.Ends.{IsRefusal};
+ghost use Rattle.run_pairs.specs.Diffs.{IsDiff, IsDiffRefusal, names_compared, names_of_outputs, on_run, pair_by, pair_in, pair_of, ticks_of_diff};
 ghost use Rattle.prepared_runs.specs.Prepared.{seen_run};
 ghost use Rattle.prepared_runs.specs.Source.{seen_source, MayWantMemory};
 ghost use Rattle.run_pairs.specs.Twins.{CanCompare, IsTwinRefusal};
 ghost use Rattle.prepared_runs.specs.declared.fault.SimFault.TheVariants.{Memory};
 
+use crate::diff_fault::DiffFault;
 use crate::diff_names::{are_known, names_of_outputs};
 use crate::net_diffs::diff_by_names;
 use crate::twin_run::{Side, TwinFault};
@@ -46,33 +46,32 @@ pub struct DiffAnswer {
 /// else they hold and whatever picks their events.
 ///
 /// # Errors
-/// A refusal of the horizon or the ticks comes before all else, then one of the first source, then one
-/// of the second, then [`SimFault::UnknownNet`], told of the first, where no run has a net of one of
-/// the names. Which side a want of memory names is open.
+/// A refusal of the horizon or the ticks ([`DiffFault::Compared`]) comes before all else, then one of the
+/// first source, then one of the second, then [`SimFault::UnknownNet`], told of the first, where no run
+/// has a net of one of the names. Which side a want of memory names is open.
 pub fn diff(
     alloc: Global,
     first: &Source<'_>,
     second: &Source<'_>,
     names: &[&[u8]],
     ticks: DiffTicks,
-) -> Result<DiffAnswer, TwinFault>
+) -> Result<DiffAnswer, DiffFault>
     ensures ok { IfOk result (λ answer. IsOkAnd (pair_of (seen_source first.now) (seen_source second.now) (seen_names names.now) ticks)
         (λ pair. IsDiff pair answer.text.items answer.same)) }
-    ensures err { IfErr result (IsTwinRefusal (pair_of (seen_source first.now) (seen_source second.now) (seen_names names.now) ticks)) }
-    ensures memory { IfErr result (λ fault. fault.fault ≡ Memory → MayWantMemory (seen_source first.now) ticks.horizon) }
+    ensures err { IfErr result (IsDiffRefusal (pair_of (seen_source first.now) (seen_source second.now) (seen_names names.now) ticks)) }
+    ensures memory { IfErr result (λ fault. (side : Side) → fault ≡ on_run side Memory → MayWantMemory (seen_source first.now) ticks.horizon) }
 {
-    let compared = Side::First.blame(compared_ticks(ticks))?;
+    let compared = compared_ticks(ticks)?;
     let one = Side::First.blame(prepare_run(alloc, first, ticks.horizon))?;
     let other = Side::Second.blame(prepare_run(alloc, second, ticks.horizon))?;
-    diff_prepared(alloc, &one, &other, names, compared)
+    Ok(diff_prepared(alloc, &one, &other, names, compared)?)
 }
 
 /// The ticks that count.
-fn compared_ticks(ticks: DiffTicks) -> Result<Compared, SimFault>
-    ensures ok { IfOk result (λ compared. ticks_of_diff ticks ≡ Ok compared) }
+fn compared_ticks(ticks: DiffTicks) -> Result<Compared, DiffFault>
+    ensures exact { result ≡ ticks_of_diff ticks }
     ensures end { IfOk result (λ compared. compared.to ≡ ticks.horizon) }
-    ensures err { IfErr result (IsRefusal (ticks_of_diff ticks)) }
-    ensures no_memory { IfErr result (λ fault. fault ≢ Memory) }
+    ensures no_memory { IfErr result (λ fault. (side : Side) → fault ≢ on_run side Memory) }
 {
     let horizon = Horizon::new(ticks.horizon)?;
     Ok(Compared::new(ticks.from, ticks.every, horizon.ticks())?)

@@ -1,8 +1,9 @@
-//! Runs that show some nets, by their names.
+//! Runs that show some nets, by their names or as outputs.
 use cmb_events::ScheduleFault;
-use plain_runs::plain;
-use prepared_runs::{Picks, Show, SimFault, Source, View};
-use runs::{simulate, sweep};
+use plain_runs::{plain, plain_with_progress};
+use prepared_runs::{DumpView, Picks, Selection, Show, SimFault, Source, View};
+use run_progress::{Percents, Silent};
+use runs::{simulate, simulate_with_progress, sweep, sweep_with_progress};
 use std::alloc::{AllocError, Global};
 use std::process::Abort;
 use vcd_dump::TimeUnit;
@@ -26,13 +27,18 @@ const WORDS: Source<'static> = Source {
 };
 
 // A flip-flop whose pin is 1 at tick 4 alone, an inverter behind it, and a gate beside them that oscillates
-// from tick 6 on; the events to begin with are of both parts.
+// from tick 6 on.
 const BESIDE: Source<'static> = Source {
     bench: b"INPUT(e)\nz = NAND(e, z)\nINPUT(d)\nOUTPUT(y)\ny = NOT(q)\nq = DFF(d)\n",
     delays: b"timing version 2\nclock q 4 0\n",
     stimuli: b"0 e 0\n6 e 1\n4 d 1\n5 d 0\n",
-    picks: Picks::Text(b"advance e\nadvance z\nadvance d\ndeliver z 1\nadvance z\ndeliver q 0\n"),
     ..EDGE
+};
+
+// The same with events of both parts to begin with.
+const PICKED: Source<'static> = Source {
+    picks: Picks::Text(b"advance e\nadvance z\nadvance d\ndeliver z 1\nadvance z\ndeliver q 0\n"),
+    ..BESIDE
 };
 
 // Of the inverter behind the flip-flop: its pin is 1 from tick 5 on, and 0 from tick 9 on.
@@ -47,7 +53,7 @@ type Row = (
     &'static [u8],
 );
 
-static SHOWN: [Row; 8] = [
+static SHOWN: [Row; 10] = [
     (EDGE, 8, &[b"y", b"a"], NAMED_DUMP),
     (EDGE, 8, &[b"y", b"a", b"y", b"a", b"a"], NAMED_DUMP),
     (EDGE, 8, &[b"a"], INPUT_DUMP),
@@ -56,10 +62,28 @@ static SHOWN: [Row; 8] = [
     (WORDS, 5, &[b"all"], WORD_DUMP),
     (BESIDE, 10, &[b"y"], BEHIND_DUMP),
     (BESIDE, 10, &[b"y", b"y"], BEHIND_DUMP),
+    (PICKED, 10, &[b"y"], BEHIND_DUMP),
+    (PICKED, 10, &[b"y", b"y"], BEHIND_DUMP),
 ];
 
 // All ways to run it have this dump.
-fn shows(rt: &impl Abort, alloc: Global, source: &Source, view: &View, dump: &[u8]) {
+fn shows(rt: &impl Abort, alloc: Global, source: &Source, view: &DumpView, dump: &[u8]) {
+    let mut out = Vec::new(alloc);
+    let answer = simulate_with_progress(alloc, source, view, &mut out, &mut Silent);
+    assert!(rt; answer.is_ok());
+    assert!(rt; out.as_slice() == dump);
+    let mut swept = Vec::new(alloc);
+    let answer = sweep_with_progress(alloc, source, view, &mut swept, &mut Silent);
+    assert!(rt; answer == Ok(()));
+    assert!(rt; swept.as_slice() == dump);
+    let mut out = Vec::new(alloc);
+    let answer = plain_with_progress(alloc, source, view, &mut out, &mut Silent);
+    assert!(rt; answer == Ok(()));
+    assert!(rt; out.as_slice() == dump);
+}
+
+// So do the calls that name no nets.
+fn shows_unnamed(rt: &impl Abort, alloc: Global, source: &Source, view: &View, dump: &[u8]) {
     let mut out = Vec::new(alloc);
     assert!(rt; simulate(alloc, source, view, &mut out).is_ok());
     assert!(rt; out.as_slice() == dump);
@@ -71,10 +95,10 @@ fn shows(rt: &impl Abort, alloc: Global, source: &Source, view: &View, dump: &[u
     assert!(rt; out.as_slice() == dump);
 }
 
-fn view_of(show: Show<'static>, horizon: u64) -> View<'static> {
-    View {
+fn view_of(names: Vec<&'static [u8]>, horizon: u64) -> DumpView<'static> {
+    DumpView {
         horizon,
-        show,
+        show: Selection::Named(names),
         unit: TimeUnit::Ns,
     }
 }
@@ -82,24 +106,69 @@ fn view_of(show: Show<'static>, horizon: u64) -> View<'static> {
 #[test]
 fn named_nets(rt: HostRuntime) -> Result<(), AllocError> {
     for (source, horizon, names, dump) in &SHOWN {
-        let show = Show::Named(Vec::from_slice(rt.alloc(), names)?);
-        shows(&rt, rt.alloc(), source, &view_of(show, *horizon), dump);
+        let names = Vec::from_slice(rt.alloc(), names)?;
+        shows(&rt, rt.alloc(), source, &view_of(names, *horizon), dump);
     }
     Ok(())
 }
 
+const OUTPUTS: View = View {
+    horizon: 10,
+    show: Show::Outputs,
+    unit: TimeUnit::Ns,
+};
+
 // The output hangs on a part of the circuit alone.
 #[test]
 fn outputs_of_a_part(rt: HostRuntime) {
-    let view = view_of(Show::Outputs, 10);
-    shows(&rt, rt.alloc(), &BESIDE, &view, BEHIND_DUMP);
+    for source in &[BESIDE, PICKED] {
+        let view = DumpView::of(&OUTPUTS);
+        shows(&rt, rt.alloc(), source, &view, BEHIND_DUMP);
+        shows_unnamed(&rt, rt.alloc(), source, &OUTPUTS, BEHIND_DUMP);
+    }
+}
+
+// An inverter and an input beside it; the events to begin with make all of both known.
+const INVERTER_BESIDE: Source<'static> = Source {
+    bench: b"INPUT(a)\nINPUT(b)\nOUTPUT(y)\ny = NOT(a)\n",
+    stimuli: b"0 a 0\n3 a 1\n",
+    picks: Picks::Text(b"advance a\nadvance b\ndeliver y 0\ndeliver y 0\ndeliver y 0\nadvance y\n"),
+    ..EDGE
+};
+
+// The events make all known before the first sweep, so no percent is told before the last one.
+fn knows_all_at_once(rt: &impl Abort, alloc: Global, show: Selection<'static>) {
+    let view = DumpView {
+        horizon: 5,
+        show,
+        unit: TimeUnit::Ns,
+    };
+    let (mut out, mut err) = (Vec::new(alloc), Vec::new(alloc));
+    let mut percents = Percents::new(&mut err);
+    let answer = sweep_with_progress(alloc, &INVERTER_BESIDE, &view, &mut out, &mut percents);
+    percents.end();
+    assert!(rt; answer == Ok(()));
+    assert!(rt; err.as_slice() == b"\r100%\n".as_slice());
+}
+
+// Events that were picked are applied, whatever is shown.
+#[test]
+fn picked_events_are_applied(rt: HostRuntime) -> Result<(), AllocError> {
+    knows_all_at_once(&rt, rt.alloc(), Selection::Outputs);
+    for name in [b"y", b"b"] {
+        let names = Vec::from_slice(rt.alloc(), &[name.as_slice()])?;
+        knows_all_at_once(&rt, rt.alloc(), Selection::Named(names));
+    }
+    Ok(())
 }
 
 // The run is refused so by the kernel, both ways, and nothing goes out.
-fn refuses(rt: &impl Abort, alloc: Global, source: &Source, view: &View, fault: SimFault) {
+fn refuses(rt: &impl Abort, alloc: Global, source: &Source, view: &DumpView, fault: SimFault) {
     let mut out = Vec::new(alloc);
-    assert!(rt; simulate(alloc, source, view, &mut out) == Err(fault));
-    assert!(rt; sweep(alloc, source, view, &mut out) == Err(fault));
+    let answer = simulate_with_progress(alloc, source, view, &mut out, &mut Silent);
+    assert!(rt; answer == Err(fault));
+    let answer = sweep_with_progress(alloc, source, view, &mut out, &mut Silent);
+    assert!(rt; answer == Err(fault));
     assert!(rt; out.is_empty());
 }
 
@@ -107,7 +176,7 @@ fn refuses(rt: &impl Abort, alloc: Global, source: &Source, view: &View, fault: 
 #[test]
 fn unknown_names(rt: HostRuntime) -> Result<(), AllocError> {
     let names = Vec::from_slice(rt.alloc(), &[b"a".as_slice(), b"zz".as_slice()])?;
-    let view = view_of(Show::Named(names), 8);
+    let view = view_of(names, 8);
     refuses(&rt, rt.alloc(), &EDGE, &view, SimFault::UnknownNet);
     let scheduled = Source {
         picks: Picks::Text(b"advance zz"),
@@ -116,7 +185,8 @@ fn unknown_names(rt: HostRuntime) -> Result<(), AllocError> {
     let fault = SimFault::Schedule(ScheduleFault::UnknownNet { line: 1 });
     refuses(&rt, rt.alloc(), &scheduled, &view, fault);
     let mut out = Vec::new(rt.alloc());
-    assert!(rt; plain(rt.alloc(), &scheduled, &view, &mut out) == Err(SimFault::UnknownNet));
+    let answer = plain_with_progress(rt.alloc(), &scheduled, &view, &mut out, &mut Silent);
+    assert!(rt; answer == Err(SimFault::UnknownNet));
     assert!(rt; out.is_empty());
     Ok(())
 }

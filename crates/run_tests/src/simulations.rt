@@ -115,7 +115,7 @@ fn unscheduled(total: [u64; 4]) -> Report {
 }
 
 // All nets in nanoseconds, up to a horizon.
-fn all_up_to(horizon: u64) -> View<'static> {
+fn all_up_to(horizon: u64) -> View {
     View {
         horizon,
         show: Show::All,

@@ -12,8 +12,8 @@ use Rattle.fanin_cone.proofs.CallerLemmas.{names_alone, values_alone}
 use Rattle.vcd_dump.specs.Dump.{dump_text}
 use Rattle.vcd_dump.specs.Traces.{name_of}
 use Rattle.prepared_runs.specs.declared.preparation.PreparedRun.{PreparedRun}
-use Rattle.prepared_runs.specs.declared.view.Show.{Show}
-use Rattle.prepared_runs.specs.declared.view.View.{View}
+use Rattle.prepared_runs.specs.declared.view.Selection.{Selection}
+use Rattle.prepared_runs.specs.declared.view.DumpView.{DumpView}
 use Rattle.runs.specs.Alone.{CanShow, ShowsTheSame}
 use Rattle.prepared_runs.specs.Source.{dump_of_design, shown_nets, signals_of}
 use Rattle.prepared_runs.proofs.CallerLemmas.{All-shown_nets, AllPairs-shown_nets, dump_of_design-nets, name_is}
@@ -56,7 +56,7 @@ CanShow-outputs design ok horizon events nets none are = record {
 }
 
 -- a run can show the nets that it is to show
-pub CanShow-shown : (kind : Show) (run : PreparedRun) (nets : List ℕ) → IsDesign run.design → All (Exists run.design.circuit) run.schedule →
+pub CanShow-shown : (kind : Selection) (run : PreparedRun) (nets : List ℕ) → IsDesign run.design → All (Exists run.design.circuit) run.schedule →
     length run.schedule ≤ most_events → nets ≡ shown_nets kind run.design.netlist → CanShow run nets
 CanShow-shown kind run nets ok exist few are = record {
   design = ok;
@@ -78,7 +78,7 @@ module _ (whole part : DesignView) (nets : List ℕ) (below : All (λ net. net <
       (values_alone whole part nets in_netlist is)
 
 -- so it has the same dump
-pub dump_alone : (view : View) (run whole : PreparedRun) (listed nets shown : List ℕ) → listed ≡ nets → ShowsTheSame run nets whole shown →
+pub dump_alone : (view : DumpView) (run whole : PreparedRun) (listed nets shown : List ℕ) → listed ≡ nets → ShowsTheSame run nets whole shown →
     shown ≡ shown_nets view.show whole.design.netlist →
     dump_text view.unit run.horizon (signals_of run.design.circuit listed) ≡ dump_of_design view whole.horizon whole.design
 dump_alone view run whole listed nets shown same_nets same are =

@@ -3,7 +3,7 @@ use Rattle.std.proofs.Common.{◌≡◌, ℕ, Bool, true, false, cond, IsTrue, L
 use Rattle.text_lines.specs.Text.{◌>>=◌}
 use Rattle.design.specs.Design.{DesignView}
 use Rattle.cmb_events.specs.declared.event.Event.{Event}
-use Rattle.prepared_runs.specs.declared.view.View.{View}
+use Rattle.prepared_runs.specs.declared.view.DumpView.{DumpView}
 use Rattle.prepared_runs.specs.declared.fault.SimFault.{SimFault}
 use Rattle.prepared_runs.specs.declared.fault.SimFault.TheVariants.{UnknownNet}
 use Rattle.runs.specs.declared.simulation.Report.{Report}
@@ -14,7 +14,7 @@ use Rattle.prepared_runs.specs.Prepared.{RunView, run_of_source}
 use Rattle.runs.specs.Simulated.{dump_in, report_of, simulated}
 use Rattle.prepared_runs.proofs.CallerLemmas.{unknown_for}
 
-module _ (source : SourceView) (view : View) where
+module _ (source : SourceView) (view : DumpView) where
   -- a fault of the run is the answer
   pub simulated-bad : (fault : SimFault) → run_of_source source view.horizon ≡ Err fault → dump_in (simulated source view) ≡ Err fault
   unfolding simulated
@@ -34,7 +34,7 @@ module _ (source : SourceView) (view : View) where
     simulated-good known = rw (made, known) refl
 
 -- the dump of a run by the kernel is the one that needs no events
-module _ (source : SourceView) (view : View) (text : List ℕ) (report : Report) where
+module _ (source : SourceView) (view : DumpView) (text : List ℕ) (report : Report) where
   abbrev picked : ℕ × DesignView → Result (List Event) SimFault
   picked ready = or_fault sim_of_schedule (events_of_picks (ready.1).circuit source.picks)
 

@@ -7,7 +7,7 @@ use Rattle.fanin_cone.specs.Agreement.{AgreesOn}
 use Rattle.fanin_cone.specs.Cone.{InCone}
 use Rattle.vcd_dump.specs.Shown.{shown_value}
 use Rattle.runs.specs.declared.simulation.Report.{Report}
-use Rattle.prepared_runs.specs.declared.view.View.{View}
+use Rattle.prepared_runs.specs.declared.view.DumpView.{DumpView}
 use Rattle.prepared_runs.specs.Prepared.{RunView, run_of_source}
 use Rattle.runs.specs.Simulated.{simulated}
 use Rattle.prepared_runs.specs.Source.{SourceView, knows_shown, shown_nets}
@@ -15,7 +15,7 @@ use Rattle.prepared_runs.specs.Source.{SourceView, knows_shown, shown_nets}
 -- an input that is accepted, and the run that it makes, in which each net is that is to be shown
 pub record AcceptedRun : Type 0 where
   pub source : SourceView
-  pub view : View
+  pub view : DumpView
   pub run : RunView
   pub accepted : run_of_source source view.horizon ≡ Ok run
   pub known : IsTrue (knows_shown view.show run.design.netlist)

@@ -7,7 +7,7 @@ use Rattle.cmb_kernel.specs.State.{KernelView, State, started, frontier_at, leas
 use Rattle.cmb_kernel.specs.Step.{steps, completed_within}
 use Rattle.prepared_runs.specs.declared.fault.SimFault.{SimFault}
 use Rattle.runs.specs.declared.simulation.Report.{Report}
-use Rattle.prepared_runs.specs.declared.view.View.{View}
+use Rattle.prepared_runs.specs.declared.view.DumpView.{DumpView}
 use Rattle.prepared_runs.specs.Source.{SourceView, if_known, dump_of_design}
 use Rattle.prepared_runs.specs.Prepared.{RunView, run_of_source}
 
@@ -26,7 +26,7 @@ report_of run =
     reported end run.design.circuit (steps (started run.design.circuit end) run.events)
 
 -- the answer to a source: the dump and the report, or the first fault
-unfoldable pub simulated : SourceView → View → Result (List ℕ × Report) SimFault
+unfoldable pub simulated : SourceView → DumpView → Result (List ℕ × Report) SimFault
 simulated source view = do
   run ← run_of_source source view.horizon
   if_known view.show run.design.netlist (dump_of_design view run.horizon run.design, report_of run)

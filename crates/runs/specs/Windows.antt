@@ -3,7 +3,7 @@ use Rattle.std.specs.Prelude.{ℕ, ◌*◌, ◌/◌, nat_lt, if◌then◌else◌
 
 -- so many changes a sweep over so many nets should tell at most
 abbrev pub most_told : ℕ → ℕ
-most_told nets = max 65_536 (2 * nets)
+most_told nets = max 40_960 (2 * nets)
 
 -- a window past the longest run
 abbrev pub widest : ℕ

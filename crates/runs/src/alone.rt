@@ -1,5 +1,5 @@
 //! A run of the nets in the cones of those that are shown alone.
-ghost use Rattle.std.specs.Prelude.{IfOk};
+ghost use Rattle.std.specs.Prelude.{◌≡◌, IfOk};
 ghost use Rattle.runs.specs.Alone.{CanShow, ShowsTheSame};
 
 use cmb_events::Schedule;
@@ -15,10 +15,10 @@ pub(crate) struct ShownRun {
 }
 
 /// A run in which these nets show what they show in this one: that of the nets in their fan-in cones
-/// alone, where these are not all nets.
+/// alone, where these are not all nets and no events were picked.
 ///
-/// No net shows what picks the events, so such a run has none: those that were picked are of nets by
-/// their old numbers, and some of these are left out.
+/// Events that were picked are applied, all of them, so a run that has some stays as it is: they may be
+/// of any nets.
 pub(crate) fn cones_of(
     alloc: Global,
     run: PreparedRun,
@@ -27,8 +27,9 @@ pub(crate) fn cones_of(
     requires { CanShow run nets.items }
     ensures can { IfOk result (λ shown. CanShow shown.run shown.nets.items) }
     ensures same { IfOk result (λ shown. ShowsTheSame shown.run shown.nets.items run nets.items) }
+    ensures schedule { IfOk result (λ shown. shown.run.schedule ≡ run.schedule) }
 {
-    if nets.is_empty() {
+    if nets.is_empty() || !run.schedule.events().is_empty() {
         return Ok(ShownRun { run, nets });
     }
     let Some(design) = cones_alone(alloc, &run.design, nets.as_slice())? else {

@@ -42,7 +42,7 @@ pub(crate) fn give_parts(
     let mut changes = Vec::new(alloc);
     for net in nets {
         changes.clear();
-        kernel.drain_below(*net, bound, &mut changes)?;
+        kernel.drain_below_into(*net, bound, &mut changes)?;
         stream.part(changes.as_slice())?;
     }
     Ok(())
@@ -70,7 +70,7 @@ pub(crate) fn forget_below(
     let mut forgotten = Vec::new(alloc);
     for net in nets {
         forgotten.clear();
-        kernel.drain_below(*net, bound, &mut forgotten)?;
+        kernel.drain_below_into(*net, bound, &mut forgotten)?;
     }
     Ok(())
 }

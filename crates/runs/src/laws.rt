@@ -1,7 +1,7 @@
 //! Facts about the definitions alone.
 ghost use Rattle.std.specs.Prelude.{◌≡◌, ℕ, List, IsOkAnd, Ok};
 ghost use Rattle.design.specs.Equations.{value_of};
-ghost use Rattle.prepared_runs.specs.declared.view.View.{View};
+ghost use Rattle.prepared_runs.specs.declared.view.DumpView.{DumpView};
 ghost use Rattle.runs.specs.declared.simulation.Report.{Report};
 ghost use Rattle.prepared_runs.specs.Source.{SourceView, design_of_source, dump_of_source};
 ghost use Rattle.runs.specs.Isolation.{AcceptedRun, AgreeingRuns, EndsShowing};
@@ -11,13 +11,13 @@ ghost use Rattle.prepared_runs.specs.Viewed.{ShowsValues};
 /// The dump of a run shows, for each shown net and at every tick to the horizon, the value that
 /// the defining equations give that net.
 pub fn dump_shows_values()
-    ensures { (source : SourceView) (view : View) (text : List ℕ) → dump_of_source source view ≡ Ok text →
+    ensures { (source : SourceView) (view : DumpView) (text : List ℕ) → dump_of_source source view ≡ Ok text →
         IsOkAnd (design_of_source source view.horizon) (λ ready. ShowsValues view ready.1 text) }
 {}
 
 /// What picks a run's events plays no part in its dump, which is that of the plain engine.
 pub fn picks_play_no_part()
-    ensures { (source : SourceView) (view : View) (text : List ℕ) (report : Report) →
+    ensures { (source : SourceView) (view : DumpView) (text : List ℕ) (report : Report) →
         simulated source view ≡ Ok (text, report) → dump_of_source source view ≡ Ok text }
 {}
 

@@ -7,6 +7,7 @@ ghost use Rattle.prepared_runs.specs.Ends.{RunEndsBy};
 ghost use Rattle.runs.specs.Simulated.{dump_in, simulated};
 ghost use Rattle.prepared_runs.specs.Prepared.{run_of_source};
 ghost use Rattle.prepared_runs.specs.Viewed.{ShowsValues};
+ghost use Rattle.prepared_runs.specs.Views.{dump_view};
 ghost use Rattle.run_progress.specs.Told.{IsProgress, Told};
 ghost use Rattle.prepared_runs.specs.declared.fault.SimFault.TheVariants.{Memory};
 
@@ -15,7 +16,7 @@ use crate::streaming::dump_by_kernel;
 use cmb_channels::Logs;
 use cmb_events::Event;
 use cmb_kernel::{Counts, Kernel, KernelFault};
-use prepared_runs::{PreparedRun, SimFault, Source, View, prepare_run, shown_nets};
+use prepared_runs::{DumpView, PreparedRun, SimFault, Source, View, prepare_run, shown_nets};
 use run_progress::{Progress, Silent};
 use std::alloc::Global;
 use std::io::Write;
@@ -43,39 +44,39 @@ pub struct Report {
 ///
 /// # Errors
 /// A refusal of the settings or of a text comes before the first byte is written; the settings and
-/// the length of the netlist's text are looked at before any memory is taken. Behind them comes
-/// [`SimFault::UnknownNet`], where no net has a name that is to be shown. After a failed write
+/// the length of the netlist's text are looked at before any memory is taken. After a failed write
 /// or a want of memory a first part of the dump went out, which may be nothing.
 pub fn simulate<W: Write>(
     alloc: Global,
     source: &Source<'_>,
-    view: &View<'_>,
+    view: &View,
     out: &mut W,
 ) -> Result<Report, SimFault>
-    ensures ok { IfOk result (λ report. IsOkAnd (simulated (seen_source source.now) view.now)
+    ensures ok { IfOk result (λ report. IsOkAnd (simulated (seen_source source.now) (dump_view view.now))
         (λ answer. Appends (W.contents out.old) (W.contents out.new) answer.0 × (report ≡ answer.1))) }
     ensures shows { OnOk result (W.contents out.old ≡ Some [] → IfSome (W.contents out.new) (λ text.
         IsOkAnd (run_of_source (seen_source source.now) view.now.horizon)
-        (λ run. ShowsValues view.now run.design text))) }
+        (λ run. ShowsValues (dump_view view.now) run.design text))) }
     // A run ends within as many rounds as the horizon and one more tick has least delays.
     ensures rounds { IfOk result (λ report. IsOkAnd (run_of_source (seen_source source.now) view.now.horizon)
         (λ run. report.total.rounds ≤ most_rounds (run.horizon + 1) run.design.circuit)) }
-    ensures err { IfErr result (RunEndsBy (dump_in (simulated (seen_source source.now) view.now))
+    ensures err { IfErr result (RunEndsBy (dump_in (simulated (seen_source source.now) (dump_view view.now)))
         (W.contents out.old) (W.contents out.new)) }
     ensures memory { result ≡ Err Memory → MayWantMemory (seen_source source.now) view.now.horizon }
 {
-    simulate_with_progress(alloc, source, view, out, &mut Silent)
+    simulate_with_progress(alloc, source, &DumpView::of(view), out, &mut Silent)
 }
 
 /// Runs a source as [`simulate`] does, and tells how far the run is: after the events, and after each
 /// round, how many ticks are known of every net. These numbers rise, and end with all ticks of the run.
 ///
 /// # Errors
-/// As [`simulate`]; nothing is told of a source or a view that is refused.
+/// As [`simulate`], and behind its refusals [`SimFault::UnknownNet`], where no net has a name that is to be
+/// shown. Nothing is told of a source or a view that is refused.
 pub fn simulate_with_progress<W: Write, P: Progress>(
     alloc: Global,
     source: &Source<'_>,
-    view: &View<'_>,
+    view: &DumpView<'_>,
     out: &mut W,
     progress: &mut P,
 ) -> Result<Report, SimFault>

@@ -185,6 +185,6 @@ fn write_known<W: Write>(
     }
     give_parts(alloc, kernel, nets, known, stream)?;
     forget_below(alloc, kernel, hidden, known)?;
-    stream.span(out, known)?;
+    stream.write_parts(out, known)?;
     Ok(())
 }

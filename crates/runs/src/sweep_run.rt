@@ -13,6 +13,7 @@ ghost use Rattle.runs.specs.Simulated.{IsKnown, dump_in, simulated};
 ghost use Rattle.prepared_runs.specs.Prepared.{run_of_source};
 ghost use Rattle.prepared_runs.specs.Source.{seen_source, signals_of, MayWantMemory};
 ghost use Rattle.prepared_runs.specs.Viewed.{ShowsValues};
+ghost use Rattle.prepared_runs.specs.Views.{dump_view};
 ghost use Rattle.run_progress.specs.Told.{IsProgress, Told};
 ghost use Rattle.prepared_runs.specs.declared.fault.SimFault.TheVariants.{Memory};
 
@@ -21,7 +22,7 @@ use crate::pace::Pace;
 use crate::simulation::RunKernel;
 use crate::streaming::dump_by_kernel;
 use cmb_kernel::KernelFault;
-use prepared_runs::{PreparedRun, SimFault, Source, View, prepare_run, shown_nets};
+use prepared_runs::{DumpView, PreparedRun, SimFault, Source, View, prepare_run, shown_nets};
 use run_progress::{Progress, Silent};
 use std::alloc::Global;
 use std::io::Write;
@@ -29,8 +30,8 @@ use vcd_dump::TimeUnit;
 
 /// Runs a source by the kernel, which applies the events that are picked and then picks its own: it
 /// sweeps through the nets in the order in which values flow, some ticks at a time. After each sweep
-/// what every net knows goes out and is forgotten. Where the shown nets don't hang on all others, the
-/// nets in their fan-in cones alone are run, without the events that are picked.
+/// what every net knows goes out and is forgotten. Where no events are picked and the shown nets don't
+/// hang on all others, the nets in their fan-in cones alone are run.
 ///
 /// The text is that of [`simulate`](crate::simulate), since no order of events shows in it, and nothing
 /// outside of cones; it takes far fewer events, and memory for what is in flight in a window of ticks
@@ -41,30 +42,31 @@ use vcd_dump::TimeUnit;
 pub fn sweep<W: Write>(
     alloc: Global,
     source: &Source<'_>,
-    view: &View<'_>,
+    view: &View,
     out: &mut W,
 ) -> Result<(), SimFault>
-    ensures ok { OnOk result (IsOkAnd (dump_in (simulated (seen_source source.now) view.now))
+    ensures ok { OnOk result (IsOkAnd (dump_in (simulated (seen_source source.now) (dump_view view.now)))
         (Appends (W.contents out.old) (W.contents out.new))) }
     ensures shows { OnOk result (W.contents out.old ≡ Some [] → IfSome (W.contents out.new) (λ text.
         IsOkAnd (run_of_source (seen_source source.now) view.now.horizon)
-        (λ run. ShowsValues view.now run.design text))) }
-    ensures err { IfErr result (RunEndsBy (dump_in (simulated (seen_source source.now) view.now))
+        (λ run. ShowsValues (dump_view view.now) run.design text))) }
+    ensures err { IfErr result (RunEndsBy (dump_in (simulated (seen_source source.now) (dump_view view.now)))
         (W.contents out.old) (W.contents out.new)) }
     ensures memory { result ≡ Err Memory → MayWantMemory (seen_source source.now) view.now.horizon }
 {
-    sweep_with_progress(alloc, source, view, out, &mut Silent)
+    sweep_with_progress(alloc, source, &DumpView::of(view), out, &mut Silent)
 }
 
 /// Runs a source as [`sweep`] does, and tells how far the run is: after the events, and after each sweep,
 /// how many ticks are known of every net. These numbers rise, and end with all ticks of the run.
 ///
 /// # Errors
-/// As [`sweep`]; nothing is told of a source or a view that is refused.
+/// As [`sweep`], and behind its refusals [`SimFault::UnknownNet`], where no net has a name that is to be
+/// shown. Nothing is told of a source or a view that is refused.
 pub fn sweep_with_progress<W: Write, P: Progress>(
     alloc: Global,
     source: &Source<'_>,
-    view: &View<'_>,
+    view: &DumpView<'_>,
     out: &mut W,
     progress: &mut P,
 ) -> Result<(), SimFault>

@@ -9,7 +9,7 @@ ghost use Rattle.runs.specs.Windows.{most_told, next_width};
 pub(crate) const FIRST_WIDTH: u64 = 64;
 
 /// The most changes that a sweep over few nets should tell.
-const MOST_TOLD: u64 = 65_536;
+const MOST_TOLD: u64 = 40_960;
 
 /// The greatest width: longer than the longest run.
 const WIDEST: u64 = 16_777_216;

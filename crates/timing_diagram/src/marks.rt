@@ -12,9 +12,9 @@ fn is_steady(wave: &Waveform, first: u64, last: u64) -> bool
     ensures { result ≡ is_steady (value_at wave.now) first last }
 {
     let changes = wave.changes();
-    let due = changes.partition_point(|change| u64::from(change.tick) <= first);
+    let due = changes.partition_point(|change| change.tick <= first);
     match changes[due..].first() {
-        Some(change) => u64::from(change.tick) > last,
+        Some(change) => change.tick > last,
         None => true,
     }
 }

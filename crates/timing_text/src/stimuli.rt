@@ -49,7 +49,17 @@ pub fn read_stimuli(
         }
         changes.push(given.change)?;
     }
+    give_back(&mut stimuli);
     Ok(stimuli)
+}
+
+/// Gives back the memory that lists don't use.
+fn give_back(stimuli: &mut [Vec<Change>])
+    ensures { map (λ changes. changes.items) stimuli.new ≡ map (λ changes. changes.items) stimuli.old }
+{
+    for changes in stimuli.iter_mut() {
+        changes.shrink_to_fit();
+    }
 }
 
 /// No changes for each of so many nets.
@@ -65,7 +75,7 @@ fn no_changes(alloc: Global, nets: u32) -> Result<Vec<Vec<Change>>, AllocError>
 }
 
 /// Whether the tick is above that of the last change.
-fn is_after(tick: u32, changes: &[Change]) -> bool
+fn is_after(tick: u64, changes: &[Change]) -> bool
     ensures { result
         ≡ option_map_or (λ (last : Change). nat_lt last.tick tick) (slice_get changes.now (length changes.now - 1)) true }
 {
@@ -96,10 +106,7 @@ fn net_change(netlist: &Netlist, line: u64, code: &[u8]) -> Result<NetChange, St
     };
     Ok(NetChange {
         net,
-        change: Change {
-            tick: tick as u32,
-            value,
-        },
+        change: Change { tick, value },
     })
 }
 

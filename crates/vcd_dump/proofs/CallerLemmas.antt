@@ -4,5 +4,5 @@ pub use Rattle.vcd_dump.proofs.BytesLemmas.{AppendsPrefix-after, AppendsPrefix-e
 pub use Rattle.vcd_dump.proofs.GoingOut.{GoesOut-behind, GoesOut-broken, GoesOut-fault, GoesOut-next, GoesOut-sent, GoesOut-stopped, GoesOut-then}
 pub use Rattle.vcd_dump.proofs.ShownValues.{shown_value-dump_text}
 pub use Rattle.vcd_dump.proofs.Signals.{span_text-more}
-pub use Rattle.vcd_dump.proofs.Streams.{with_parts-none, with_parts-more, with_parts-can, stream_at-begun, stream_at-can, stream_at-spanned}
+pub use Rattle.vcd_dump.proofs.Streams.{with_parts-none, with_parts-more, with_parts-can, IsSpan-can, stream_at-begun, stream_at-span, stream_at-can, stream_at-spanned}
 pub use Rattle.vcd_dump.proofs.Wholes.{dump_text-nets}

@@ -8,7 +8,7 @@ use Rattle.logic3.specs.declared.change.Change.{Change}
 use Rattle.logic3.specs.Wave.{value_before, changes_between}
 use Rattle.logic3.proofs.CallerLemmas.{All-wave_of, AllPairs-Alternates, Contains-wave_of_iff, IsWave-wave_of, changes_between-split}
 use Rattle.vcd_dump.specs.declared.line.Line.{Line}
-use Rattle.vcd_dump.specs.Spans.{StreamView, begun, with_part, with_parts, span_lines, latest, spanned, IsPart, CanSpan, parts_of, stream_at}
+use Rattle.vcd_dump.specs.Spans.{StreamView, begun, with_part, with_parts, span_lines, latest, spanned, IsPart, IsSpan, CanSpan, parts_of, stream_at}
 use Rattle.vcd_dump.proofs.Gathered.{EachTick, EachLine, OfSpan-parts, span_lines-more, EachLine-span_lines, EachTick-span_lines, AllByRecursion-append, AllByRecursion-both, AllByRecursion-map}
 use Rattle.vcd_dump.proofs.Ordered.{latest-bounds, latest-least}
 
@@ -104,6 +104,11 @@ with_parts-can stream upto parts ahead within each proper =
       high = All-from_recursion (λ (line : Line). line.tick < upto) lines of_span.high;
     }
 
+-- so it can by those of a span
+pub IsSpan-can : (stream : StreamView) (upto : ℕ) (parts : List (List Change)) → IsSpan stream upto parts →
+    CanSpan (with_parts stream parts) upto
+IsSpan-can stream upto parts span = with_parts-can stream upto parts span.ahead span.within span.each span.proper
+
 -- ---- streams
 
 none_yet : (P : ℕ → Type 0) (signals : List (ℕ → Value)) → AllByRecursion (EachTick P) (parts_of signals 0 0)
@@ -158,12 +163,21 @@ proper (signal ∷ signals) from to = (IsPart-changes_between signal from to, pr
 pub IsPart-parts_of : (signals : List (ℕ → Value)) (from to : ℕ) → All (IsPart from to) (parts_of signals from to)
 IsPart-parts_of signals from to = All-from_recursion (IsPart from to) (parts_of signals from to) (proper signals from to)
 
+-- they are a span of it
+pub stream_at-span : (signals : List (ℕ → Value)) (horizon from to : ℕ) → from < to → to ≤ horizon + 1 →
+    IsSpan (stream_at signals horizon from) to (parts_of signals from to)
+stream_at-span signals horizon from to ahead within = record {
+  ahead = ahead;
+  within = within;
+  each = length-map signals (λ signal. changes_between signal from to);
+  proper = IsPart-parts_of signals from to;
+}
+
 -- it can go on
 pub stream_at-can : (signals : List (ℕ → Value)) (horizon from to : ℕ) → from < to → to ≤ horizon + 1 →
     CanSpan (with_parts (stream_at signals horizon from) (parts_of signals from to)) to
 stream_at-can signals horizon from to ahead within =
-    with_parts-can (stream_at signals horizon from) to (parts_of signals from to) ahead within
-    (length-map signals (λ signal. changes_between signal from to)) (IsPart-parts_of signals from to)
+    IsSpan-can (stream_at signals horizon from) to (parts_of signals from to) (stream_at-span signals horizon from to ahead within)
 
 -- ---- the latest time of all
 

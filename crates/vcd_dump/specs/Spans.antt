@@ -1,5 +1,5 @@
 -- The text of a dump a span of ticks at a time.
-use Rattle.std.specs.Prelude.{ℕ, ◌+◌, ◌-◌, ◌≤◌, ◌<◌, ◌≡◌, ◌==◌, max, Bool, false, if◌then◌else◌, List, [], ◌∷◌, ◌++◌, length, map, filter, flat_map, All, codes}
+use Rattle.std.specs.Prelude.{ℕ, ◌+◌, ◌-◌, ◌≤◌, ◌<◌, ◌≡◌, ◌==◌, max, Bool, false, if◌then◌else◌, List, [], ◌∷◌, ◌++◌, length, map, filter, flat_map, All, Vec, codes}
 use Rattle.std.specs.List.{enumerate_from, range_with_len}
 use Rattle.logic3.specs.declared.value.Value.{Value}
 use Rattle.logic3.specs.declared.value.Value.TheVariants.{Unknown}
@@ -149,6 +149,18 @@ pub record CanSpan (stream : StreamView) (upto : ℕ) : Type 0 where
   pub values : stream.written ≡ 0 → length (at_tick stream.lines 0) ≡ stream.nets
   pub low : All (λ (line : Line). stream.written ≤ line.tick) stream.lines
   pub high : All (λ (line : Line). line.tick < upto) stream.lines
+
+-- the changes of each shown net at the ticks that a stream hasn't written yet, up to but not including one
+pub record IsSpan (stream : StreamView) (upto : ℕ) (parts : List (List Change)) : Type 0 where
+  pub ahead : stream.written < upto
+  pub within : upto ≤ stream.horizon + 1
+  pub each : length parts ≡ stream.nets
+  pub proper : All (IsPart stream.written upto) parts
+
+module _ {A : Type 0} where
+  -- the changes that stand in each of some lists
+  abbrev pub changes_in : List (Vec Change A) → List (List Change)
+  changes_in parts = map (λ (part : Vec Change A). part.items) parts
 
 -- ---- spans of signals
 

@@ -6,7 +6,7 @@ ghost use Rattle.text_lines.specs.Text.{lines_of, words_of};
 ghost use Rattle.vcd_dump.specs.declared.unit.TimeUnit.{TimeUnit};
 ghost use Rattle.vcd_dump.specs.Codes.{code_at};
 ghost use Rattle.vcd_dump.specs.Dump.{dump_keywords, Trace, variables_of, declarations, dump_text};
-ghost use Rattle.vcd_dump.specs.Spans.{StreamView, begun, with_part, with_parts, spanned, span_text, IsPart, CanSpan, parts_of, stream_at, shown_signals, whole_text};
+ghost use Rattle.vcd_dump.specs.Spans.{StreamView, begun, with_part, with_parts, spanned, span_text, IsPart, IsSpan, CanSpan, parts_of, stream_at, shown_signals, whole_text};
 ghost use Rattle.vcd_dump.specs.Shown.{dump_tokens, IsReadable, Shows};
 
 /// The identifier codes of distinct places differ.
@@ -40,6 +40,8 @@ pub fn parts_are_given()
     ensures first { (stream : StreamView) → stream.given ≡ 0 → stream.lines ≡ [] → with_parts stream [] ≡ stream }
     ensures next { (stream : StreamView) (parts : List (List Change)) (part : List Change) → stream.failed ≡ false →
         with_part (with_parts stream parts) part ≡ with_parts stream (parts ++ part ∷ []) }
+    ensures span { (stream : StreamView) (upto : ℕ) (parts : List (List Change)) → IsSpan stream upto parts →
+        CanSpan (with_parts stream parts) upto }
     ensures can { (stream : StreamView) (upto : ℕ) (parts : List (List Change)) →
         stream.written < upto → upto ≤ stream.horizon + 1 → length parts ≡ stream.nets →
         All (IsPart stream.written upto) parts → CanSpan (with_parts stream parts) upto }
@@ -50,6 +52,8 @@ pub fn parts_are_given()
 pub fn spans_make_the_dump()
     ensures begins { (signals : List (ℕ → Value)) (horizon : ℕ) →
         begun (length signals) horizon ≡ stream_at signals horizon 0 }
+    ensures spans { (signals : List (ℕ → Value)) (horizon from to : ℕ) → from < to → to ≤ horizon + 1 →
+        IsSpan (stream_at signals horizon from) to (parts_of signals from to) }
     ensures can { (signals : List (ℕ → Value)) (horizon from to : ℕ) → from < to → to ≤ horizon + 1 →
         CanSpan (with_parts (stream_at signals horizon from) (parts_of signals from to)) to }
     ensures goes_on { (signals : List (ℕ → Value)) (horizon from to : ℕ) → from < to →

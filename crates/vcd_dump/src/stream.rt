@@ -3,11 +3,11 @@ ghost use Rattle.std.specs.Io.KnownBytes.{Appends, Keeps};
 ghost use Rattle.vcd_dump.specs.Bytes.{AppendsPrefix};
 ghost use Rattle.vcd_dump.specs.Dump.{declarations};
 ghost use Rattle.vcd_dump.specs.Traces.{named};
-ghost use Rattle.vcd_dump.specs.Spans.{begun, with_part, spanned, lines_text, last_text, CanSpan};
+ghost use Rattle.vcd_dump.specs.Spans.{begun, with_part, with_parts, spanned, lines_text, span_text, last_text, changes_in, IsSpan, CanSpan};
 
 use crate::dumper::write_declarations;
 use crate::fault::DumpFault;
-use crate::line::{Line, gather, sort_lines};
+use crate::line::{Line, gather, gather_parts, sort_lines};
 use crate::unit::TimeUnit;
 use crate::writer::{write_last_time, write_span};
 use design::Design;
@@ -17,8 +17,11 @@ use std::io::Write;
 use std::marker::Model;
 use timing_text::Horizon;
 
-/// A dump that is written a span of ticks at a time: [`begin`](Self::begin), for each span a
-/// [`part`](Self::part) of each shown net and a [`span`](Self::span), and [`finish`](Self::finish).
+/// A dump that is written a span of ticks at a time: [`begin`](Self::begin), a [`span`](Self::span) for
+/// each, and [`finish`](Self::finish).
+///
+/// A span's changes may also be given net by net, by a [`part`](Self::part) for each, and
+/// [`write_parts`](Self::write_parts) then writes it: so who has them net by net needs one list at a time.
 ///
 /// Text goes out in pieces of some 64 KiB, and at the end of each call. A call that answers a fault
 /// wrote a prefix of its text; the stream has failed then, writes nothing more, and answers
@@ -99,6 +102,55 @@ impl Stream {
         self.written
     }
 
+    /// Writes the lines of the ticks up to but not including one: the parts are the changes in them of
+    /// each shown net, in order. What was given by [`part`](Self::part) before plays no part.
+    ///
+    /// It takes time for the changes, and none for ticks at which nothing happens.
+    ///
+    /// # Errors
+    /// [`DumpFault::Failed`] where the stream has failed, else as [`begin`](Self::begin); the stream has
+    /// failed then.
+    pub fn span<W: Write>(
+        &mut self,
+        out: &mut W,
+        upto: u64,
+        parts: &[Vec<Change>],
+    ) -> Result<(), DumpFault>
+        requires { self.old.failed ≡ false → IsSpan self.old upto (changes_in parts.now) }
+        ensures stream { OnOk result
+            (self.new ≡ spanned (with_parts self.old (changes_in parts.now)) upto) }
+        ensures ok { OnOk result (Appends (W.contents out.old) (W.contents out.new)
+            (span_text self.old.written upto (changes_in parts.now))) }
+        ensures err { OnErr result (AppendsPrefix (W.contents out.old) (W.contents out.new)
+            (span_text self.old.written upto (changes_in parts.now))) }
+        ensures fails { OnErr result (self.new.failed ≡ true) }
+        ensures failed { self.old.failed ≡ true →
+            (result ≡ Err DumpFault.Failed) × Keeps (W.contents out.old) (W.contents out.new) }
+        ensures only { result ≡ Err DumpFault.Failed → self.old.failed ≡ true }
+    {
+        self.take_parts(parts)?;
+        self.write_parts(out, upto)
+    }
+
+    // Takes the changes of each shown net, in place of what was given so far.
+    fn take_parts(&mut self, parts: &[Vec<Change>]) -> Result<(), DumpFault>
+        ensures stream { OnOk result (self.new ≡ with_parts self.old (changes_in parts.now)) }
+        ensures running { OnOk result (self.old.failed ≡ false) }
+        ensures fails { OnErr result (self.new.failed ≡ true) }
+        ensures failed { self.old.failed ≡ true → result ≡ Err DumpFault.Failed }
+        ensures fault { self.old.failed ≡ false → IfErr result (λ fault. fault ≡ DumpFault.Memory) }
+    {
+        if self.failed {
+            return Err(DumpFault::Failed);
+        }
+        self.failed = true;
+        self.lines.clear();
+        gather_parts(&mut self.lines, self.written, parts)?;
+        self.given = parts.len();
+        self.failed = false;
+        Ok(())
+    }
+
     /// Gives the changes of the next shown net at the ticks that weren't written yet, those of the
     /// next span alone. Nothing is written.
     ///
@@ -129,7 +181,7 @@ impl Stream {
     ///
     /// # Errors
     /// [`DumpFault::Failed`] where the stream has failed, else as [`begin`](Self::begin).
-    pub fn span<W: Write>(&mut self, out: &mut W, upto: u64) -> Result<(), DumpFault>
+    pub fn write_parts<W: Write>(&mut self, out: &mut W, upto: u64) -> Result<(), DumpFault>
         requires { self.old.failed ≡ false → CanSpan self.old upto }
         ensures stream { OnOk result (self.new ≡ spanned self.old upto) }
         ensures ok { OnOk result (Appends (W.contents out.old) (W.contents out.new)

@@ -27,7 +27,7 @@ fn write_lines<W: Write>(
 {
     let mut before = time;
     for line in lines {
-        let tick = u64::from(line.tick);
+        let tick = line.tick;
         push_time_after(text, before, tick)?;
         push_change(text, line.value, line.place)?;
         send_long(out, text)?;

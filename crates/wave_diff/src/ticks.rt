@@ -25,9 +25,9 @@ fn change_after(wave: &Waveform, tick: u64) -> Option<u64>
     ensures steady { (at : ℕ) → tick ≤ at → IsBefore at result → value_at wave.now at ≡ value_at wave.now tick }
 {
     let changes = wave.changes();
-    let due = changes.partition_point(|change| u64::from(change.tick) <= tick);
+    let due = changes.partition_point(|change| change.tick <= tick);
     if due < changes.len() {
-        Some(u64::from(changes[due].tick))
+        Some(changes[due].tick)
     } else {
         None
     }

@@ -1,23 +1,13 @@
 //! The log of one net.
 ghost use Rattle.std.specs.Prelude.{◌≡◌, ◌-◌, ◌<◌, ◌≤◌, ◌^◌, length, Some, slice_get, OnOk, OnErr, IfSome, OnSome, IfNone};
 ghost use Rattle.std.specs.Option.{option_map};
-ghost use Rattle.cmb_channels.specs.declared.logs.log.Entry.{Entry};
-ghost use Rattle.cmb_channels.specs.Packing.{Fits};
-ghost use Rattle.cmb_channels.specs.Logs.{past, empty_log, written, trimmed, read_at};
+ghost use Rattle.cmb_channels.specs.Logs.{EntryView, past, empty_log, written, trimmed, read_at};
 
+use crate::logs::entry::Entry;
 use crate::message::Message;
-use crate::packed::Packed;
 use std::alloc::{AllocError, Global};
 use std::collections::VecDeque;
 use std::marker::Model;
-
-/// A message that some pin hasn't taken yet, in eight bytes.
-#[derive(Debug, Drop)]
-pub struct Entry {
-    message: Packed,
-    // How many pins haven't taken it.
-    left: u32,
-}
 
 /// What a net sent, as far as some pin that it feeds hasn't taken it.
 #[derive(Debug, Drop)]
@@ -68,16 +58,12 @@ impl Log {
     ///
     /// An `AllocError` changes nothing.
     pub fn write(&mut self, message: Message) -> Result<(), AllocError>
-        requires { Fits message }
         ensures ok { OnOk result (self.new ≡ written message self.old) }
         ensures err { OnErr result (self.new ≡ self.old) }
         ensures memory { OnErr result (0 < self.old.readers) }
     {
         if self.readers > 0 {
-            self.entries.push_back(Entry {
-                message: Packed::of(message),
-                left: self.readers,
-            })?;
+            self.entries.push_back(Entry::new(message, self.readers))?;
         }
         Ok(())
     }
@@ -85,14 +71,13 @@ impl Log {
     /// The first message that a pin hasn't taken that has taken so many. Takes no memory.
     pub fn read(&mut self, count: u64) -> Option<Message>
         requires { IfSome (slice_get self.old.entries (past self.old.cut count)) (λ entry. 0 < entry.left) }
-        ensures message { result ≡ option_map (λ (entry : Entry). entry.message) (slice_get self.old.entries (past self.old.cut count)) }
+        ensures message { result ≡ option_map (λ (entry : EntryView). entry.message) (slice_get self.old.entries (past self.old.cut count)) }
         ensures some { OnSome result (self.new ≡ read_at (past self.old.cut count) self.old) }
         ensures none { IfNone result (self.new ≡ self.old) }
         ensures few { length self.old.entries < 2 ^ 63 }
     {
         let entry = self.entries.get_mut(count.wrapping_sub(self.cut) as usize)?;
-        entry.left -= 1;
-        let message = entry.message.message();
+        let message = entry.take();
         self.trim();
         Some(message)
     }
@@ -102,7 +87,7 @@ impl Log {
         ensures { self.new ≡ trimmed self.old self.old.entries }
     {
         match self.entries.front() {
-            Some(entry) if entry.left == 0 => {}
+            Some(entry) if entry.left() == 0 => {}
             _ => return,
         }
         self.entries.pop_front();

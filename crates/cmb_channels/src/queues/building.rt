@@ -5,7 +5,7 @@ ghost use Rattle.design.specs.Pins.{sources_of, all_fed};
 ghost use Rattle.cmb_channels.specs.Channels.{pins_in};
 ghost use Rattle.cmb_channels.specs.Waiting.{lists_in};
 
-use crate::packed::Packed;
+use crate::message::Message;
 use design::Design;
 use std::alloc::{AllocError, Global};
 use std::collections::VecDeque;
@@ -25,7 +25,7 @@ pub(super) fn fed_pins(alloc: Global, design: &Design) -> Result<Vec<Vec<u32>>, 
 }
 
 /// An empty queue for each of so many pins.
-pub(super) fn empty_queues(alloc: Global, pins: u32) -> Result<Vec<VecDeque<Packed>>, AllocError>
+pub(super) fn empty_queues(alloc: Global, pins: u32) -> Result<Vec<VecDeque<Message>>, AllocError>
     ensures { IfOk result (λ queues. lists_in queues.items ≡ replicate pins []) }
 {
     let mut queues = Vec::with_capacity(alloc, pins as usize)?;

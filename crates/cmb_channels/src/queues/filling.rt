@@ -1,11 +1,9 @@
 //! A message into the queues of many pins: room in all of them first, and then the message.
 ghost use Rattle.std.specs.Prelude.{◌≡◌, ◌<◌, vec_len, All, OnOk};
 ghost use Rattle.logic3.specs.Rising.{Rises};
-ghost use Rattle.cmb_channels.specs.Packing.{Fits};
 ghost use Rattle.cmb_channels.specs.Waiting.{appended, lists_in, HasRoom};
 
 use crate::message::Message;
-use crate::packed::Packed;
 use std::alloc::AllocError;
 use std::collections::VecDeque;
 
@@ -13,7 +11,7 @@ use std::collections::VecDeque;
 ///
 /// An `AllocError` leaves some of them without.
 pub(super) fn reserve_places(
-    queues: &mut Vec<VecDeque<Packed>>,
+    queues: &mut Vec<VecDeque<Message>>,
     pins: &[u32],
 ) -> Result<(), AllocError>
     requires { All (λ pin. pin < vec_len queues.old) pins.now }
@@ -27,14 +25,13 @@ pub(super) fn reserve_places(
 }
 
 /// Puts a message at the end of the queue of each of these pins.
-pub(super) fn push_at_all(queues: &mut Vec<VecDeque<Packed>>, pins: &[u32], message: Message)
-    requires fits { Fits message }
+pub(super) fn push_at_all(queues: &mut Vec<VecDeque<Message>>, pins: &[u32], message: Message)
     requires rising { Rises pins.now }
     requires exist { All (λ pin. pin < vec_len queues.old) pins.now }
     requires room { All (HasRoom queues.old.items) pins.now }
     ensures { lists_in queues.new.items ≡ appended message pins.now (lists_in queues.old.items) }
 {
     for pin in pins {
-        queues[*pin as usize].push_back_reserved(Packed::of(message));
+        queues[*pin as usize].push_back_reserved(message);
     }
 }

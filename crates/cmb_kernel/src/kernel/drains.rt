@@ -1,4 +1,4 @@
-ghost use Rattle.std.specs.Prelude.{◌≡◌, ◌≢◌, ◌<◌, ◌≤◌, ◌++◌, false, if◌then◌else◌, length, [], Err, IfErr, OnOk, OnErr};
+ghost use Rattle.std.specs.Prelude.{◌≡◌, ◌≢◌, ◌<◌, ◌≤◌, ◌++◌, false, if◌then◌else◌, length, [], Err, IfOk, IfErr, OnOk, OnErr};
 ghost use Rattle.logic3.specs.Wave.{changes_between};
 ghost use Rattle.design.specs.Equations.{value_of};
 ghost use Rattle.cmb_kernel.specs.State.{frontier_at, floor_at, least_frontier};
@@ -23,13 +23,39 @@ impl<'d, F: Fabric> Kernel<'d, F> {
     }
 
     /// Takes out a net's changes from its floor up to but not including a tick up to which every net is
-    /// known, and adds them in order to the end of a list. That tick is the net's floor from then on, and
-    /// what it showed before is forgotten.
+    /// known, and returns them in order. That tick is the net's floor from then on, and what it showed
+    /// before is forgotten.
     ///
     /// # Errors
-    /// [`KernelFault::Failed`] and [`KernelFault::Memory`]; nothing changed. The kernel hasn't failed by
-    /// this want of memory.
-    pub fn drain_below(
+    /// [`KernelFault::Failed`] and [`KernelFault::Memory`]; nothing changed. The kernel hasn't failed if
+    /// this allocation fails.
+    pub fn drain_below(&mut self, net: u32, bound: u64) -> Result<Vec<Change>, KernelFault>
+        requires net { net < length self.old.circuit }
+        requires above { self.old.failed ≡ false → floor_at self.old.state net ≤ bound }
+        requires known { self.old.failed ≡ false → bound ≤ least_frontier self.old.end self.old.state }
+        ensures changes { IfOk result (λ changes. changes.items ≡
+            changes_between (value_of self.old.circuit net) (floor_at self.old.state net) bound) }
+        ensures ok { OnOk result (self.new ≡ record self.old { state = after_drain self.old.state net bound }) }
+        ensures floor { OnOk result (floor_at self.new.state net ≡ bound) }
+        ensures err { OnErr result (self.new ≡ self.old) }
+        ensures fault { IfErr result (λ fault.
+            fault ≡ (if self.old.failed then KernelFault.Failed else KernelFault.Memory)) }
+        ensures running { OnOk result (self.old.failed ≡ false) }
+        ensures memory { result ≡ Err KernelFault.Memory →
+            changes_between (value_of self.old.circuit net) (floor_at self.old.state net) bound ≢ [] }
+        ensures sound { self.new.failed ≡ false → IsSound self.new.circuit self.new.end self.new.state }
+    {
+        let mut changes = Vec::new(*self.news.allocator());
+        self.drain_below_into(net, bound, &mut changes)?;
+        Ok(changes)
+    }
+
+    /// Drains as [`drain_below`](Self::drain_below) does, and adds the changes in order to the end of a list:
+    /// so a list serves many drains.
+    ///
+    /// # Errors
+    /// As of `drain_below`; the list stays as it was, too.
+    pub fn drain_below_into(
         &mut self,
         net: u32,
         bound: u64,
@@ -52,7 +78,7 @@ impl<'d, F: Fabric> Kernel<'d, F> {
         ensures sound { self.new.failed ≡ false → IsSound self.new.circuit self.new.end self.new.state }
     {
         self.check_running()?;
-        self.processes.drain_below(net, bound, changes)?;
+        self.processes.drain_below_into(net, bound, changes)?;
         Ok(())
     }
 }

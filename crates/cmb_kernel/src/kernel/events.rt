@@ -1,8 +1,7 @@
-ghost use Rattle.std.specs.Prelude.{◌≡◌, ◌<◌, true, false, None, All, length, Err, IfOk, OnOk, OnErr};
+ghost use Rattle.std.specs.Prelude.{◌≡◌, ◌<◌, true, false, None, length, Err, IfOk, OnOk, OnErr};
 ghost use Rattle.design.specs.Circuit.{IsCircuit, pin_count};
 ghost use Rattle.design.specs.Pins.{net_of_pin, place_of_pin};
 ghost use Rattle.cmb_channels.specs.Lists.{sent};
-ghost use Rattle.cmb_channels.specs.Packing.{Fits};
 ghost use Rattle.cmb_events.specs.declared.event.Event.TheVariants.{Deliver, Advance};
 ghost use Rattle.cmb_kernel.specs.declared.fault.KernelFault.TheVariants.{Memory};
 ghost use Rattle.cmb_kernel.specs.Step.{step, steps};
@@ -141,7 +140,7 @@ impl<'d, F: Fabric> Kernel<'d, F> {
     {
         // So it stays where the event is broken off.
         self.failed = true;
-        self.processes.advance(net, &mut self.news)?;
+        self.processes.advance_into(net, &mut self.news)?;
         send_all(&mut self.fabric, net, self.news.as_slice())?;
         self.counts.add_event(self.news.as_slice());
         self.failed = false;
@@ -151,8 +150,7 @@ impl<'d, F: Fabric> Kernel<'d, F> {
 
 /// Sends messages of a net in order. None takes no memory.
 fn send_all<F: Fabric>(fabric: &mut F, net: u32, messages: &[Message]) -> Result<(), AllocError>
-    requires net { net < F.nets fabric.old }
-    requires fit { All Fits messages.now }
+    requires { net < F.nets fabric.old }
     ensures lists { OnOk result (F.lists fabric.new ≡ sent net messages.now (F.sources fabric.old) (F.lists fabric.old)) }
     ensures sources { F.sources fabric.new ≡ F.sources fabric.old }
     ensures nets { F.nets fabric.new ≡ F.nets fabric.old }

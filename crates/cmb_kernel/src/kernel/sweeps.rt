@@ -81,8 +81,9 @@ impl<'d, F: Fabric> Kernel<'d, F> {
         ensures err { OnErr result (self.new.failed ≡ true) }
         ensures sound { OnOk result (IsSound self.new.circuit self.new.end self.new.state) }
     {
-        let pin = self.design.pin(net, place);
+        prove!(net < self.design.nets());
         let place = place as u32;
+        let pin = self.design.pin(net, place);
         while self.received_there(net, place) < tick && self.waiting(pin) > 0 {
             self.deliver_there(pin, net, place)?;
         }

@@ -16,7 +16,7 @@ static SIGNALS: [&[u8]; 4] = [
     b"00000000000000",
 ];
 
-fn value_at(changes: &[Change], tick: u32) -> u8 {
+fn value_at(changes: &[Change], tick: u64) -> u8 {
     let mut value = b'x';
     for change in changes {
         if change.tick <= tick {

@@ -2,6 +2,7 @@ use Rattle.std.proofs.Common.{Err, refl, sym, ap, subst, ◌∙◌}
 use Rattle.std.proofs.lemmas.Result.{err_from_is_err_and}
 use Rattle.prepared_runs.specs.declared.view.View.{View}
 use Rattle.prepared_runs.specs.Source.{MayWantMemory, seen_source}
+use Rattle.prepared_runs.specs.Views.{dump_view}
 use Rattle.deck_text.specs.Seen.{seen_sections}
 use Rattle.runs.specs.Simulated.{simulated}
 use Rattle.decks.proofs.Decks.{DeckMayWantMemory-sections, deck_of_text-Memory, Sim-Memory, simulated_deck-run, DeckEndsBy-Sim, DeckEndsBy-bad_text, IsOkAnd-Sim}
@@ -15,13 +16,13 @@ returns-in_err-sections-clause-err g c =
 pub returns-in_err-simulate-clause-err : goal.returns-in_err-simulate-clause-err
 returns-in_err-simulate-clause-err g c =
     let p = err_from_is_err_and c.from_residual-in_err-simulate.result c.from_residual-in_err-simulate.ensures.1 in
-    let is = simulated_deck-run c.args.text.now _ _ _ (sym c.in_ok-sections.ensures) c.run_of-view.ensures.source c.run_of-view.ensures.view in
+    let is = simulated_deck-run c.args.text.now _ _ _ (sym c.in_ok-sections.ensures) c.run_of.ensures.source c.run_of.ensures.view in
     rw (p.1, p.2) (DeckEndsBy-Sim _ _ _ _ _ is c.in_err-simulate.ensures.err)
 
 pub returns-clause-ok : goal.returns-clause-ok
 returns-clause-ok g c =
-    rw (simulated_deck-run c.args.text.now _ _ _ (sym c.in_ok-sections.ensures) c.run_of-view.ensures.source c.run_of-view.ensures.view)
-    (IsOkAnd-Sim (simulated (seen_source c.run_of-view.result.0) c.run_of-view.result.1) _ c.in_ok-simulate.ensures.ok)
+    rw (simulated_deck-run c.args.text.now _ _ _ (sym c.in_ok-sections.ensures) c.run_of.ensures.source c.run_of.ensures.view)
+    (IsOkAnd-Sim (simulated (seen_source c.run_of.result.0) (dump_view c.run_of.result.1)) _ c.in_ok-simulate.ensures.ok)
 
 pub returns-in_err-sections-clause-memory : goal.returns-in_err-sections-clause-memory
 returns-in_err-sections-clause-memory g c =
@@ -33,6 +34,6 @@ returns-in_err-simulate-clause-memory g c = λ wanting.
     let p = err_from_is_err_and c.from_residual-in_err-simulate.result c.from_residual-in_err-simulate.ensures.1 in
     let found = seen_sections c.in_ok-sections.sections in
     DeckMayWantMemory-sections c.args.text.now found (sym c.in_ok-sections.ensures)
-    (subst (λ s. MayWantMemory s found.horizon) c.run_of-view.ensures.source
-    (subst (λ (v : View). MayWantMemory (seen_source c.run_of-view.result.0) v.horizon) c.run_of-view.ensures.view
+    (subst (λ s. MayWantMemory s found.horizon) c.run_of.ensures.source
+    (subst (λ (v : View). MayWantMemory (seen_source c.run_of.result.0) v.horizon) c.run_of.ensures.view
     (c.in_err-simulate.ensures.memory (Sim-Memory _ _ _ (p.1 ∙ ap Err p.2) refl wanting))))

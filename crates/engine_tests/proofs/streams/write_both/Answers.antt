@@ -22,8 +22,8 @@ had_not_failed : {A : Type 0} (failed : Bool) (answer : Result A DumpFault) (don
 had_not_failed true answer done is stops = let fault = stops refl in absurd (cc)
 had_not_failed false answer done is stops = refl
 
-pub span-requires : goal.span-requires
-span-requires g c = λ _.
+pub write_parts-requires : goal.write_parts-requires
+write_parts-requires g c = λ _.
     let stream = c.args.stream.now in
     let parts = c.args.first.now ∷ c.args.second.now ∷ [] in
     let runs = had_not_failed stream.failed c.part.result _ c.in_ok-part.was c.part.ensures.failed in

@@ -1,6 +1,8 @@
 use Rattle.std.proofs.Common.{◌≡◌, ◌+◌, ◌<◌, Some, length, option_map, slice_get, sym, subst, ap, ◌∙◌, arith}
+use Rattle.std.proofs.lemmas.Option.{same_Some}
 use Rattle.design.specs.Circuit.{Net, pin_count}
 use Rattle.design.specs.Pins.{first_pin}
+use Rattle.design.proofs.CallerLemmas.{place_limit}
 use Rattle.kernel_uses.proofs.Takes.{HeardSome, get_within, heard_all, heard_more, own_pin}
 use Rattle.kernel_uses.proofs.work_lists.hear_all.Goals as goal
 use Rattle.kernel_uses.proofs.work_lists.hear_all.Goals.{After-pins_of-place-end}
@@ -16,6 +18,17 @@ pins g c =
     let same : Some ((found.0).pins) ≡ Some c.pins_of-place-end.result.now =
     sym (ap (option_map (λ (n : Net). n.pins)) here) ∙ c.pins_of-place-end.ensures in
     cc
+
+pub overflow_cast-place : goal.overflow_cast-place
+overflow_cast-place g c =
+    let at = goal.at.overflow_cast-place g c in
+    let found = there g at.After-pins_of-place-end in
+    let long = pins g at.After-pins_of-place-end in
+    let known = subst (λ circuit. c.args.net < length circuit) (sym c.design-design.ensures) c.requires.net in
+    let small = place_limit c.design-design.result.now c.nets.ensures.well_formed c.args.net c.loop-place.place known
+    (λ n is. let same = same_Some n found.0 (sym is ∙ ap (λ circuit. slice_get circuit c.args.net) c.design-design.ensures ∙ found.1) in
+    omega (arith, c.loop-place-test.true, long, ap (λ (m : Net). length m.pins) same)) in
+    omega arith
 
 pub loop-place-preserved : goal.loop-place-preserved
 loop-place-preserved g c =

@@ -1,20 +1,26 @@
-use Rattle.std.proofs.Common.{inl, inr}
-use Rattle.nullsim.proofs.CountsLine.{OrderDone-outcome}
+use Rattle.std.proofs.Common.{inl, inr, refl}
+use Rattle.orders.proofs.CallerLemmas.{IsAnswer-read}
+use Rattle.orders.specs.OrderAnswer.{IsAnswer, IsAnswerTo}
+use Rattle.nullsim.proofs.CountsLine.{Answered-weaker}
 use Rattle.nullsim.proofs.commander.answer_order.Goals as goal
 
+-- what is the answer over the texts that were read is that to the order
 pub returns-in-Ok-clause-told : goal.returns-in-Ok-clause-told
 returns-in-Ok-clause-told g c =
-    inl (
-      g.E.Write.contents c.carry_out.new.err,
-      c.in-Ok.ensures.told,
-      OrderDone-outcome (g.T.Texts.known c.args.texts.now) c.args.order.now _ _ c.in-Ok.outcome _ c.in-Ok.ensures.ok c.in-Ok.ensures.read
-          c.tell_outcome.ensures.told c.tell_outcome.ensures.status,
+    let known = g.T.Texts.known c.args.texts.now in
+    let order = c.args.order.now in
+    inr (
+      c.in-Ok.ensures.read,
+      Answered-weaker (IsAnswerTo order c.in-Ok.read) (IsAnswer known order) (IsAnswer-read known order c.in-Ok.read c.in-Ok.ensures.ok) c.args.progress order
+          (record { readings = g.T.Texts.readings c.args.texts.now; out = g.W.Write.contents c.args.out.now; err = g.E.Write.contents c.args.err.now })
+          (record {
+            readings = g.T.Texts.readings c.read.new.texts;
+            out = g.W.Write.contents c.answer_read.new.out;
+            err = g.E.Write.contents c.answer_read.new.err;
+          })
+          c.answer_read.result c.answer_read.ensures.told,
     )
 
 pub returns-in-Err-clause-told : goal.returns-in-Err-clause-told
 returns-in-Err-clause-told g c =
-    inr (
-      g.E.Write.contents c.carry_out.new.err,
-      c.in-Err.ensures.told_until,
-      (c.in-Err.fault, c.in-Err.ensures.stopped, c.in-Err.ensures.err, rw (← c.side.ensures, ← c.text_names.ensures) c.report.ensures),
-    )
+    inl (c.in-Err.unread, c.in-Err.ensures.err, refl, rw (← c.side.ensures, ← c.text_names.ensures) c.report.ensures)

@@ -1,4 +1,19 @@
+use Rattle.std.proofs.Common.{◌≡◌, List, ℕ, Option, None, Some, IfSome, Bor, inl, inr, option_map, refl}
 use Rattle.nullsim.proofs.verbose.answer_verbosely.Goals as goal
 
-pub returns-clause-told : goal.returns-clause-told
-returns-clause-told g c = rw (← c.keep.ensures.known, ← c.keep.ensures.readings) c.answer_kept.ensures.told
+-- what holds of the words that are handed on holds of them as they are seen
+seen : (words : Option (Bor (List ℕ))) (P : List ℕ → Type 0) → IfSome words (λ words. P words.now) → IfSome (option_map (λ words. words.now) words) P
+seen None P holds = tt
+seen (Some words) P holds = holds
+
+pub returns-in-Ok-clause-told : goal.returns-in-Ok-clause-told
+returns-in-Ok-clause-told g c = inr (c.in-Ok.read, c.in-Ok.ensures.ok, c.in-Ok.ensures.read, c.answer_read.ensures.told)
+
+pub returns-in-Err-clause-told : goal.returns-in-Err-clause-told
+returns-in-Err-clause-told g c =
+    inl (
+      c.in-Err.fault,
+      c.in-Err.ensures.err,
+      refl,
+      (_, seen c.reason.result (λ words. IfSome (g.T.Texts.said c.read.new.texts) (λ all. words ≡ all)) c.reason.ensures, c.report_verbosely.ensures.told),
+    )

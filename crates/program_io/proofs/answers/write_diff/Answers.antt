@@ -2,20 +2,19 @@ use Rattle.std.proofs.lemmas.Result.{err_from_is_err_and}
 use Rattle.netlist.specs.Names.{seen_names}
 use Rattle.prepared_runs.specs.Source.{seen_source}
 use Rattle.program_io.specs.Answers.{IsAnswerOfDiff, compared}
-use Rattle.program_io.proofs.AnswerEnds.{AnswerEndsBy-text, AnswerEndsBy-twin, GoesOut-text, IsDiffAnswer-done, IsDiffAnswer-refused, WriteEndsBy-no_read, fault_of_run-no_read}
+use Rattle.program_io.proofs.AnswerEnds.{AnswerEndsBy-diff, AnswerEndsBy-text, GoesOut-text, IsDiffAnswer-done, IsDiffAnswer-refused, WriteEndsBy-no_read, fault_of_diff-no_read}
 use Rattle.program_io.proofs.answers.write_diff.Goals as goal
 
 pub returns-in_err-answer-clause-err : goal.returns-in_err-answer-clause-err
 returns-in_err-answer-clause-err g c =
     let p = err_from_is_err_and c.from_residual.result c.from_residual.ensures.1 in
-    rw (p.1, p.2) (AnswerEndsBy-twin (IsAnswerOfDiff (seen_source c.args.first.now) (seen_source c.args.second.now) (seen_names c.args.names.now) c.args.ticks) _ _ c.in_err-answer.field-0.0
+    rw (p.1, p.2) (AnswerEndsBy-diff (IsAnswerOfDiff (seen_source c.args.first.now) (seen_source c.args.second.now) (seen_names c.args.names.now) c.args.ticks) _ _ c.in_err-answer.field-0.0
     (IsDiffAnswer-refused _) c.in_err-answer.ensures.err)
 
 pub returns-in_err-answer-clause-no_read : goal.returns-in_err-answer-clause-no_read
 returns-in_err-answer-clause-no_read g c =
     let p = err_from_is_err_and c.from_residual.result c.from_residual.ensures.1 in
-    let fault = c.in_err-answer.field-0.0 in
-    rw (p.1, p.2) (fault_of_run-no_read fault.side fault.fault)
+    rw (p.1, p.2) (fault_of_diff-no_read c.in_err-answer.field-0.0)
 
 pub returns-in_err-write_text-clause-err : goal.returns-in_err-write_text-clause-err
 returns-in_err-write_text-clause-err g c =

@@ -1,16 +1,14 @@
 use Rattle.std.proofs.lemmas.Result.{err_from_is_err_and}
 use Rattle.std.proofs.Common.{Ok, Err, refl}
-use Rattle.circuit_texts.proofs.CallerLemmas.{IsInfoAnswer-unwritten}
 use Rattle.program_io.specs.Answers.{IsAnswerOfInfo, just}
-use Rattle.program_io.proofs.AnswerEnds.{AnswerEndsBy-text, AnswerEndsBy-unwritten, GoesOut-text, WriteEndsBy-no_read, fault_of_run-no_read}
+use Rattle.program_io.proofs.AnswerEnds.{AnswerEndsBy-bench, AnswerEndsBy-text, GoesOut-text, WriteEndsBy-no_read, fault_of_run-no_read}
 use Rattle.program_io.proofs.answers.write_info.Goals as goal
 
 pub returns-in_err-text-clause-err : goal.returns-in_err-text-clause-err
 returns-in_err-text-clause-err g c =
     let p = err_from_is_err_and c.from_residual.result c.from_residual.ensures.1 in
     let fault = c.in_err-text.field-0.0 in
-    rw (p.1, p.2) (AnswerEndsBy-unwritten (IsAnswerOfInfo c.args.bench.now) _ fault
-    (λ failed same. IsInfoAnswer-unwritten failed c.args.bench.now (rw same at (c.in_err-text.ensures.info (λ memory. (cc)))))
+    rw (p.1, p.2) (AnswerEndsBy-bench (IsAnswerOfInfo c.args.bench.now) _ fault
     (λ other. (Err fault, c.in_err-text.ensures.info (λ same. other (cc)), refl)))
 
 pub returns-in_err-text-clause-no_read : goal.returns-in_err-text-clause-no_read

@@ -1,4 +1,6 @@
-use Rattle.std.proofs.Common.{◌≡◌, IfSome, refl, ap, subst, ◌∙◌}
+use Rattle.std.proofs.Common.{◌≡◌, IfSome, length, refl, sym, ap, subst, ◌∙◌, arith}
+use Rattle.std.proofs.lemmas.Bool.Decides.{nat_tests}
+use Rattle.std.proofs.lemmas.List.{nil_from_length}
 use Rattle.netlist.specs.Netlist.{NetlistView}
 use Rattle.fanin_cone.specs.Extract.{IsDesignOfCones}
 use Rattle.prepared_runs.specs.Source.{signals_of}
@@ -30,3 +32,8 @@ returns-clause-same c =
           ap (signals_of c.in-Some.design.circuit) (shown at)
           ∙ signals_alone c.args.run.design c.in-Some.design c.args.nets.items c.requires.there (part at);
     }
+
+pub returns-clause-schedule : goal.returns-clause-schedule
+returns-clause-schedule c =
+    let none : length c.events.result.now ≡ 0 = grind (arith, nat_tests) in
+    c.empty.ensures ∙ sym (nil_from_length c.args.run.schedule (ap length (sym c.events.ensures) ∙ none))

@@ -11,8 +11,8 @@ loop-net-init c = record {
   stays = λ net drained. drained;
 }
 
-pub drain_below-requires-clause-known : goal.drain_below-requires-clause-known
-drain_below-requires-clause-known c = λ _.
+pub drain_below_into-requires-clause-known : goal.drain_below_into-requires-clause-known
+drain_below_into-requires-clause-known c = λ _.
     let same = least_same c.args.kernel.now c.loop-net.kernel c.loop-net.invariant.drains in
     omega (arith, same, c.requires.known)
 
@@ -23,14 +23,14 @@ loop-net-preserved c =
     let net = get_or c.args.nets.now i 0 in
     let inside : i < length c.args.nets.now = omega arith in
     let so_far = c.loop-net.invariant in
-    let runs = ap (λ (k : KernelView). k.failed) c.in_ok-drain_below.ensures.ok ∙ c.in_ok-drain_below.ensures.running in
-    let drain : IsDrain c.loop-net.kernel c.drain_below.new.self net c.args.bound = record {
-      goes = c.in_ok-drain_below.ensures.ok;
-      floor = c.in_ok-drain_below.ensures.floor;
-      sound = c.in_ok-drain_below.ensures.sound runs;
+    let runs = ap (λ (k : KernelView). k.failed) c.in_ok-drain_below_into.ensures.ok ∙ c.in_ok-drain_below_into.ensures.running in
+    let drain : IsDrain c.loop-net.kernel c.drain_below_into.new.self net c.args.bound = record {
+      goes = c.in_ok-drain_below_into.ensures.ok;
+      floor = c.in_ok-drain_below_into.ensures.floor;
+      sound = c.in_ok-drain_below_into.ensures.sound runs;
     } in
     record {
-      drains = DrainsTo-trans start c.loop-net.kernel c.drain_below.new.self so_far.drains (DrainsTo-drain drain);
+      drains = DrainsTo-trans start c.loop-net.kernel c.drain_below_into.new.self so_far.drains (DrainsTo-drain drain);
       floors = EachFloor-drain drain so_far.floors;
       drained = drained_more drain c.args.nets.now i inside refl so_far.drained;
       stays = λ other before. stays_drained drain other (so_far.stays other before);

@@ -17,8 +17,8 @@ loop-net-init c = record {
   stream = sym c.requires.none_yet;
 }
 
-pub drain_below-requires-clause-known : goal.drain_below-requires-clause-known
-drain_below-requires-clause-known c = λ _.
+pub drain_below_into-requires-clause-known : goal.drain_below_into-requires-clause-known
+drain_below_into-requires-clause-known c = λ _.
     let same = least_same c.args.kernel.now c.loop-net.kernel c.loop-net.invariant.drains in
     omega (arith, same, c.requires.known)
 
@@ -44,24 +44,24 @@ loop-net-preserved c =
     let net = get_or c.args.nets.now i 0 in
     let inside : i < length c.args.nets.now = omega arith in
     let so_far = c.loop-net.invariant in
-    let runs = ap (λ (k : KernelView). k.failed) c.in_ok-drain_below.ensures.ok ∙ c.in_ok-drain_below.ensures.running in
-    let drain : IsDrain c.loop-net.kernel c.drain_below.new.self net c.args.bound = record {
-      goes = c.in_ok-drain_below.ensures.ok;
-      floor = c.in_ok-drain_below.ensures.floor;
-      sound = c.in_ok-drain_below.ensures.sound runs;
+    let runs = ap (λ (k : KernelView). k.failed) c.in_ok-drain_below_into.ensures.ok ∙ c.in_ok-drain_below_into.ensures.running in
+    let drain : IsDrain c.loop-net.kernel c.drain_below_into.new.self net c.args.bound = record {
+      goes = c.in_ok-drain_below_into.ensures.ok;
+      floor = c.in_ok-drain_below_into.ensures.floor;
+      sound = c.in_ok-drain_below_into.ensures.sound runs;
     } in
     let taken = changes_between (value_of c.loop-net.kernel.circuit net) (floor_at c.loop-net.kernel.state net) c.args.bound in
     let untouched = so_far.others net (λ k h. c.requires.once k i 0 h inside) in
     let parts = map (λ n. changes_between (value_of start.circuit n) (floor_at start.state n) c.args.bound) (take i c.args.nets.now) in
-    let more = parts_more start c.loop-net.kernel c.args.nets.now i c.args.bound parts c.drain_below.new.changes.items inside so_far.drains untouched
-    (c.in_ok-drain_below.ensures.changes ∙ ap (λ cs. cs ++ taken) c.clear.ensures.items) refl in
+    let more = parts_more start c.loop-net.kernel c.args.nets.now i c.args.bound parts c.drain_below_into.new.changes.items inside so_far.drains untouched
+    (c.in_ok-drain_below_into.ensures.changes ∙ ap (λ cs. cs ++ taken) c.clear.ensures.items) refl in
     record {
-      drains = DrainsTo-trans start c.loop-net.kernel c.drain_below.new.self so_far.drains (DrainsTo-drain drain);
+      drains = DrainsTo-trans start c.loop-net.kernel c.drain_below_into.new.self so_far.drains (DrainsTo-drain drain);
       floors = EachFloor-drain drain so_far.floors;
       drained = drained_more drain c.args.nets.now i inside refl so_far.drained;
       others = others_after drain start c.args.nets.now i refl so_far.others;
       stream = c.in_ok-part.ensures.stream
           ∙ (λ k. with_part (so_far.stream k) (c.as_slice.ensures.value k))
-          ∙ with_parts-more c.args.stream.now parts c.drain_below.new.changes.items c.requires.streams
+          ∙ with_parts-more c.args.stream.now parts c.drain_below_into.new.changes.items c.requires.streams
           ∙ ap (with_parts c.args.stream.now) more;
     }

@@ -50,11 +50,11 @@ pub forget_below-requires-clause-known : goal.forget_below-requires-clause-known
 forget_below-requires-clause-known g c =
     omega (arith, c.requires.known, least_same c.args.kernel.now c.give_parts.new.kernel c.in_ok-give_parts.ensures.drains)
 
-pub span-requires : goal.span-requires
-span-requires g c = λ running.
+pub write_parts-requires : goal.write_parts-requires
+write_parts-requires g c = λ running.
     let values = values_of c.args.kernel.now.circuit c.args.nets.now in
     let newer : c.args.stream.now.written < c.args.known = omega (arith, c.requires.ahead, c.written.ensures, c.if-written-known.false) in
-    subst (λ (s : StreamView). CanSpan s c.args.known) (sym (given_is g (goal.at.span-requires g c).In_ok-give_parts))
+    subst (λ (s : StreamView). CanSpan s c.args.known) (sym (given_is g (goal.at.write_parts-requires g c).In_ok-give_parts))
     (stream_at-can values c.args.stream.now.horizon c.args.stream.now.written c.args.known newer c.requires.end)
 
 text_is : (g : Over) (c : In_ok-give_parts g) →
@@ -63,14 +63,14 @@ text_is : (g : Over) (c : In_ok-give_parts g) →
     (parts_of (values_of c.args.kernel.now.circuit c.args.nets.now) c.args.stream.now.written c.args.known)
 text_is g c = ap (λ (s : StreamView). lines_text s.written c.args.known s.lines) (given_is g c)
 
-pub returns-in_err-span-clause-err : goal.returns-in_err-span-clause-err
-returns-in_err-span-clause-err g c =
-    let p = err_from_is_err_and c.from_residual-in_err-span.result c.from_residual-in_err-span.ensures.1 in
-    let given = given_is g (goal.at.returns-in_err-span-clause-err g c).In_ok-give_parts in
+pub returns-in_err-write_parts-clause-err : goal.returns-in_err-write_parts-clause-err
+returns-in_err-write_parts-clause-err g c =
+    let p = err_from_is_err_and c.from_residual-in_err-write_parts.result c.from_residual-in_err-write_parts.ensures.1 in
+    let given = given_is g (goal.at.returns-in_err-write_parts-clause-err g c).In_ok-give_parts in
     let fresh : c.give_parts.new.stream.failed ≡ false = ap (λ (s : StreamView). s.failed) given in
-    let first : c.in_err-span.field-0.0 ≢ Failed = λ same. let told = c.in_err-span.ensures.only (ap Err same) in (cc) in
+    let first : c.in_err-write_parts.field-0.0 ≢ Failed = λ same. let told = c.in_err-write_parts.ensures.only (ap Err same) in (cc) in
     rw (p.1, p.2)
-    (BreaksOff-dump _ _ _ _ first (subst (AppendsPrefix _ _) (text_is g (goal.at.returns-in_err-span-clause-err g c).In_ok-give_parts) c.in_err-span.ensures.err))
+    (BreaksOff-dump _ _ _ _ first (subst (AppendsPrefix _ _) (text_is g (goal.at.returns-in_err-write_parts-clause-err g c).In_ok-give_parts) c.in_err-write_parts.ensures.err))
 
 pub returns-clause-drains : goal.returns-clause-drains
 returns-clause-drains g c =
@@ -89,8 +89,8 @@ returns-clause-floors g c = λ net below.
 pub returns-clause-stream : goal.returns-clause-stream
 returns-clause-stream g c =
     let values = values_of c.args.kernel.now.circuit c.args.nets.now in
-    c.in_ok-span.ensures.stream ∙ ap (λ s. spanned s c.args.known) (given_is g (goal.at.returns-clause-stream g c).In_ok-give_parts)
+    c.in_ok-write_parts.ensures.stream ∙ ap (λ s. spanned s c.args.known) (given_is g (goal.at.returns-clause-stream g c).In_ok-give_parts)
     ∙ stream_at-spanned values c.args.stream.now.horizon c.args.stream.now.written c.args.known c.requires.ahead
 
 pub returns-clause-ok : goal.returns-clause-ok
-returns-clause-ok g c = subst (Appends _ _) (text_is g (goal.at.returns-clause-ok g c).In_ok-give_parts) c.in_ok-span.ensures.ok
+returns-clause-ok g c = subst (Appends _ _) (text_is g (goal.at.returns-clause-ok g c).In_ok-give_parts) c.in_ok-write_parts.ensures.ok

@@ -1,4 +1,4 @@
-use Rattle.std.proofs.Common.{rules, leb, ◌∙◌, sym, ap, subst, Some, None, nat_lt}
+use Rattle.std.proofs.Common.{rules, leb, sym, subst, Some, None}
 use Rattle.std.proofs.lemmas.List.Sorted.{IsPartitionPoint-from_clause, IsPartitionedBy-leb}
 use Rattle.logic3.specs.declared.change.Change.{Change}
 use Rattle.logic3.specs.Rising.{TicksRise}
@@ -14,7 +14,7 @@ returns-in-Some c =
     let parted = IsPartitionedBy-leb (λ (change : Change). change.tick) _ c.args.first (RisesBy-ascends (λ (change : Change). change.tick) _ rises) in
     let point = IsPartitionPoint-from_clause (λ (change : Change). leb change.tick c.args.first) _ _ c.partition_point-due.ensures.partitioned parted (λ a r q k. search rules) in
     let next = steady-found c.args.wave.now c.changes-changes.result.now c.args.first c.args.last c.partition_point-due.result (Some c.in-Some.change.now) same rise c.partition_point-due.ensures.bound point c.in-Some.ensures.value in
-    ap (λ tick. nat_lt c.args.last tick) c.from.ensures ∙ sym next
+    sym next
 
 pub returns-in-None : goal.returns-in-None
 returns-in-None c =

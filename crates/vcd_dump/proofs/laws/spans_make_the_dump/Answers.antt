@@ -1,11 +1,14 @@
 use Rattle.std.proofs.Common.{arith}
 use Rattle.vcd_dump.proofs.Signals.{span_text-more}
-use Rattle.vcd_dump.proofs.Streams.{stream_at-begun, stream_at-can, stream_at-spanned}
+use Rattle.vcd_dump.proofs.Streams.{stream_at-begun, stream_at-span, stream_at-can, stream_at-spanned}
 use Rattle.vcd_dump.proofs.Wholes.{dump_text-whole}
 use Rattle.vcd_dump.proofs.laws.spans_make_the_dump.Goals as goal
 
 pub returns-clause-begins : goal.returns-clause-begins
 returns-clause-begins c = stream_at-begun
+
+pub returns-clause-spans : goal.returns-clause-spans
+returns-clause-spans c = stream_at-span
 
 pub returns-clause-can : goal.returns-clause-can
 returns-clause-can c = stream_at-can

@@ -44,11 +44,11 @@ returns-in_err-send_long-clause-err g c =
     let held = g.W.Write.contents in
     let lines = c.args.lines.now in
     let index = c.loop-line.line-index in
-    let tick = c.from-tick.result in
+    let tick = (line_at lines index).tick in
     let rest = written_text tick (drop (index + 1) lines) in
     let piece = c.push_change.new.line.items in
     let is = pushed c.loop-line.before index tick lines c.loop-line.text.items c.push_time_after.new.line.items piece (omega arith)
-    c.from-tick.ensures c.in_ok-push_time_after.ensures c.in_ok-push_change.ensures in
+    refl c.in_ok-push_time_after.ensures c.in_ok-push_change.ensures in
     OnErr_always c.from_residual-in_err-send_long.result
     (GoesOut-fault (held c.args.out.now) (held c.loop-line.out) (held c.send_long.new.out) _ piece rest
     (subst (GoesOut _ _ _) is c.loop-line.invariant.text) c.in_err-send_long.ensures.err)
@@ -58,14 +58,13 @@ loop-line-preserved g c =
     let held = g.W.Write.contents in
     let lines = c.args.lines.now in
     let index = c.loop-line.line-index in
-    let tick = c.from-tick.result in
+    let tick = (line_at lines index).tick in
     let rest = written_text tick (drop (index + 1) lines) in
     let piece = c.push_change.new.line.items in
     let is = pushed c.loop-line.before index tick lines c.loop-line.text.items c.push_time_after.new.line.items piece (omega arith)
-    c.from-tick.ensures c.in_ok-push_time_after.ensures c.in_ok-push_change.ensures in
+    refl c.in_ok-push_time_after.ensures c.in_ok-push_change.ensures in
     record {
-      last = ap (λ at. last_tick at (drop (index + 1) lines)) c.from-tick.ensures
-          ∙ sym (ap (last_tick c.loop-line.before) (next_line lines index (omega arith))) ∙ c.loop-line.invariant.last;
+      last = sym (ap (last_tick c.loop-line.before) (next_line lines index (omega arith))) ∙ c.loop-line.invariant.last;
       text = GoesOut-then (held c.args.out.now) (held c.loop-line.out) (held c.send_long.new.out) _ piece c.send_long.new.text.items rest
           (subst (GoesOut _ _ _) is c.loop-line.invariant.text) c.in_ok-send_long.ensures.ok;
     }

@@ -13,7 +13,7 @@ use Rattle.cmb_channels.proofs.logs.LogsFabric.send.Goals.{After-index_mut, In_o
 log_at : (c : After-index_mut) → slice_get c.self.inside.logs.items c.args.net ≡ Some c.index_mut.result.now
 log_at c =
     slice_get_read c.self.inside.logs.items _ c.args.net _ refl
-    (omega (arith, c.requires.net, ap (λ (channels : Channels). channels.nets) c.self.view_is)) c.index_mut.ensures.value
+    (omega (arith, c.requires, ap (λ (channels : Channels). channels.nets) c.self.view_is)) c.index_mut.ensures.value
 
 lists : (c : In_ok-write) → slice_get c.self.inside.logs.items c.args.net ≡ Some c.index_mut.result.now →
     unread_lists (slice_set c.self.inside.logs.items c.args.net c.write.new.self) c.self.inside.sources.items c.self.inside.counts.items

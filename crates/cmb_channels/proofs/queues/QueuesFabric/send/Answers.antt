@@ -19,7 +19,7 @@ fed c =
     let nets = ap (λ (channels : Channels). channels.nets) c.self.view_is in
     let long = length-map c.self.inside.fed.items (λ pins. pins.items) in
     c.as_slice-pins.ensures.value
-    ∙ stored_pins c.self.inside.fed.items _ c.args.net _ _ c.self.invariant (omega (arith, c.requires.net, nets, long)) c.index.ensures
+    ∙ stored_pins c.self.inside.fed.items _ c.args.net _ _ c.self.invariant (omega (arith, c.requires, nets, long)) c.index.ensures
 
 -- there is a source for each queue
 long : (c : After-as_slice-pins) → length (sources c) ≡ length c.self.inside.queues.items

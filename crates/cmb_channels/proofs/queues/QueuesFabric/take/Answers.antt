@@ -1,4 +1,4 @@
-use Rattle.std.proofs.Common.{◌≡◌, ◌<◌, ◌++◌, [], length, drop, Some, slice_index_or, slice_set, ap, sym, ◌∙◌, arith}
+use Rattle.std.proofs.Common.{◌≡◌, ◌<◌, ◌++◌, [], length, drop, slice_index_or, slice_set, ap, sym, ◌∙◌, arith}
 use Rattle.std.specs.Option.{option_to_list}
 use Rattle.std.proofs.lemmas.List.{length-map, get_or-set_same}
 use Rattle.cmb_channels.specs.Channels.{Channels}
@@ -36,20 +36,8 @@ lists c =
     (c.pop_front.ensures.rest ∙ ap (drop 1) (sym (waiting c)))
     ∙ ap (λ (channels : Channels). slice_set channels.lists c.args.pin (drop 1 (slice_index_or c.args.self.now.lists c.args.pin []))) c.self.view_is
 
-pub returns-in_err-message-clause-front : goal.returns-in_err-message-clause-front
-returns-in_err-message-clause-front c =
-    front (goal.at.returns-in_err-message-clause-front c).After-pop_front
-    ∙ ap (λ taken. option_to_list taken ++ slice_index_or (lists_in (slice_set c.self.inside.queues.items c.args.pin c.pop_front.new.self)) c.args.pin [])
-    (c.in_err-message.was ∙ sym c.from_residual.ensures)
-
-pub returns-in_err-message-clause-lists : goal.returns-in_err-message-clause-lists
-returns-in_err-message-clause-lists c = lists (goal.at.returns-in_err-message-clause-lists c).After-pop_front
-
 pub returns-clause-front : goal.returns-clause-front
-returns-clause-front c =
-    front (goal.at.returns-clause-front c).After-pop_front
-    ∙ ap (λ taken. option_to_list taken ++ slice_index_or (lists_in (slice_set c.self.inside.queues.items c.args.pin c.pop_front.new.self)) c.args.pin [])
-    (c.in_ok-message.was ∙ ap Some (sym c.message.ensures))
+returns-clause-front c = front (goal.at.returns-clause-front c).After-pop_front
 
 pub returns-clause-lists : goal.returns-clause-lists
 returns-clause-lists c = lists (goal.at.returns-clause-lists c).After-pop_front

@@ -1,4 +1,4 @@
-use Rattle.std.proofs.Common.{◌≡◌, ◌+◌, ◌++◌, [], ◌∷◌, drop, slice_index_or, ap, sym, subst, ◌∙◌, arith}
+use Rattle.std.proofs.Common.{◌+◌, drop, slice_index_or, ap, sym, ◌∙◌, arith}
 use Rattle.std.proofs.lemmas.List.{length-set, drop_more}
 use Rattle.cmb_channels.specs.Waiting.{appended, lists_in}
 use Rattle.cmb_channels.proofs.WaitingLemmas.{lists_in-push, HasRoom-set_other}
@@ -15,7 +15,7 @@ loop-pin-preserved c =
           ap (appended c.args.message (drop (at + 1) pins))
           (lists_in-push queues (slice_index_or pins at 0) c.args.message c.index_mut.result.now c.push_back_reserved.new.self
           (omega (arith, exists, c.loop-pin.invariant.same_length, c.args.queues.now.ok.0)) c.index_mut.ensures.value
-          (subst (λ m. c.push_back_reserved.new.self.items ≡ c.index_mut.result.now.items ++ m ∷ []) c.of.ensures c.push_back_reserved.ensures.items))
+          c.push_back_reserved.ensures.items)
           ∙ ap (λ left. appended c.args.message left (lists_in queues)) (sym (drop_more pins at 0 c.loop-pin-test.true))
           ∙ c.loop-pin.invariant.rest;
       same_length = length-set queues (slice_index_or pins at 0) c.push_back_reserved.new.self ∙ c.loop-pin.invariant.same_length;

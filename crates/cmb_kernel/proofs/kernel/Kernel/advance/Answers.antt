@@ -1,60 +1,52 @@
-use Rattle.std.proofs.Common.{◌≡◌, true, ◌==◌, not, All, length, Some, slice_get, refl, ap, ◌∙◌, sym, subst, ◌+◌, ◌<◌}
+use Rattle.std.proofs.Common.{◌≡◌, true, ◌==◌, not, length, Some, slice_get, refl, ap, ◌∙◌, sym, subst, ◌+◌, ◌<◌}
 use Rattle.cmb_events.specs.declared.event.Event.TheVariants.{Advance}
-use Rattle.cmb_channels.specs.Packing.{Fits}
 use Rattle.logic3.proofs.CallerLemmas.{OnErr_always}
 use Rattle.gate_process.specs.Step.{ProcessView}
 use Rattle.cmb_kernel.proofs.Running.{process_below, process_at, runs_at, goes_on}
-use Rattle.cmb_kernel.proofs.Applied.{IsApplied, few_messages, news_fit, farther_useful, telling_useful, net_advanced}
+use Rattle.cmb_kernel.proofs.Applied.{IsApplied, few_messages, farther_useful, telling_useful, net_advanced}
 use Rattle.cmb_kernel.specs.Running.{state_of, IsRunning}
 use Rattle.cmb_kernel.specs.Useful.{is_useful}
 use Rattle.cmb_kernel.proofs.kernel.Kernel.advance.Given.{Over}
 use Rattle.cmb_kernel.proofs.kernel.Kernel.advance.Goals as goal
-use Rattle.cmb_kernel.proofs.kernel.Kernel.advance.Goals.{After-advance, After-add_event}
+use Rattle.cmb_kernel.proofs.kernel.Kernel.advance.Goals.{After-advance_into, After-add_event}
 
 -- the kernel ran before
-all : (g : Over) (c : After-advance g) → IsRunning c.self.inside.design.now c.self.inside.end c.self.inside.processes
+all : (g : Over) (c : After-advance_into g) → IsRunning c.self.inside.design.now c.self.inside.end c.self.inside.processes
     (g.F.Fabric.sources c.self.inside.fabric) (g.F.Fabric.nets c.self.inside.fabric)
     (state_of c.self.inside.processes (g.F.Fabric.lists c.self.inside.fabric) c.self.inside.counts)
 all g c = c.self.invariant (rw (← c.self.view_is) at c.requires.running)
 
-below : (g : Over) (c : After-advance g) → c.args.net < length c.self.inside.design.now.circuit
+below : (g : Over) (c : After-advance_into g) → c.args.net < length c.self.inside.design.now.circuit
 below g c = rw (← c.self.view_is) at c.requires.exists
 
 -- the process that advances
-process : (g : Over) (c : After-advance g) → (process : ProcessView) × (slice_get c.self.inside.processes c.args.net ≡ Some process)
+process : (g : Over) (c : After-advance_into g) → (process : ProcessView) × (slice_get c.self.inside.processes c.args.net ≡ Some process)
 process g c = process_at (all g c) c.args.net (below g c)
 
-pub advance-requires-clause-net : goal.advance-requires-clause-net
-advance-requires-clause-net g c =
+pub advance_into-requires-clause-net : goal.advance_into-requires-clause-net
+advance_into-requires-clause-net g c =
     let all = c.self.invariant (rw (← c.self.view_is) at c.requires.running) in
     process_below all c.args.net (rw (← c.self.view_is) at c.requires.exists)
 
-pub advance-requires-clause-running : goal.advance-requires-clause-running
-advance-requires-clause-running g c = λ process at.
+pub advance_into-requires-clause-running : goal.advance_into-requires-clause-running
+advance_into-requires-clause-running g c = λ process at.
     let all = c.self.invariant (rw (← c.self.view_is) at c.requires.running) in
     (runs_at all c.args.net process at).runs
 
 pub add_event-requires : goal.add_event-requires
 add_event-requires g c =
-    let at = (goal.at.add_event-requires g c).After-advance in
+    let at = (goal.at.add_event-requires g c).After-advance_into in
     let mover = process g at in
     subst (λ (ms : _). c.self.inside.counts.changes + c.self.inside.counts.nulls + length ms < 18_446_744_073_709_551_616)
-    (sym (c.as_slice-2.ensures.value ∙ c.in_ok-advance.ensures.news mover.0 mover.1))
+    (sym (c.as_slice-2.ensures.value ∙ c.in_ok-advance_into.ensures.news mover.0 mover.1))
     (few_messages (all g at) c.args.net mover.0 mover.1)
-
-pub send_all-requires-clause-fit : goal.send_all-requires-clause-fit
-send_all-requires-clause-fit g c =
-    let at = (goal.at.send_all-requires-clause-fit g c).After-advance in
-    let mover = process g at in
-    subst (All Fits) (sym (c.as_slice.ensures.value ∙ c.in_ok-advance.ensures.news mover.0 mover.1))
-    (news_fit (all g at) c.args.net mover.0 mover.1)
 
 -- what the event makes of the parts
 applied : (g : Over) (c : After-add_event g) →
-    IsApplied c.self.inside.design.now c.self.inside.end c.advance.new.self
+    IsApplied c.self.inside.design.now c.self.inside.end c.advance_into.new.self
     (g.F.Fabric.sources c.send_all.new.fabric) (g.F.Fabric.nets c.send_all.new.fabric) (g.F.Fabric.lists c.send_all.new.fabric)
     c.add_event.new.self (state_of c.self.inside.processes (g.F.Fabric.lists c.self.inside.fabric) c.self.inside.counts)
-    (Advance c.args.net) (not (length c.advance.new.messages.items == 0))
+    (Advance c.args.net) (not (length c.advance_into.new.messages.items == 0))
 applied g c =
     let all = c.self.invariant (rw (← c.self.view_is) at c.requires.running) in
     let below = rw (← c.self.view_is) at c.requires.exists in
@@ -66,8 +58,8 @@ applied g c =
       c.in_ok-send_all.ensures.nets,
       c.as_slice.ensures.value,
       c.as_slice-2.ensures.value,
-      c.in_ok-advance.ensures.ok mover.0 mover.1,
-      c.in_ok-advance.ensures.news mover.0 mover.1,
+      c.in_ok-advance_into.ensures.ok mover.0 mover.1,
+      c.in_ok-advance_into.ensures.news mover.0 mover.1,
     )
     (net_advanced all c.args.net mover.0 below mover.1)
 
@@ -75,21 +67,21 @@ pub invariant_of-self-2 : goal.invariant_of-self-2
 invariant_of-self-2 g c = λ _. (applied g (goal.at.invariant_of-self-2 g c).After-add_event).all
 
 -- memory is taken only where the frontier rises, and where there is something to tell
-pub returns-in_err-advance-clause-memory : goal.returns-in_err-advance-clause-memory
-returns-in_err-advance-clause-memory g c =
-    let at = (goal.at.returns-in_err-advance-clause-memory g c).After-advance in
+pub returns-in_err-advance_into-clause-memory : goal.returns-in_err-advance_into-clause-memory
+returns-in_err-advance_into-clause-memory g c =
+    let at = (goal.at.returns-in_err-advance_into-clause-memory g c).After-advance_into in
     let mover = process g at in
     let useful : is_useful c.args.self.now.state (Advance c.args.net) ≡ true = rw (← c.self.view_is)
-    (farther_useful (all g at) c.args.net mover.0 mover.1 (c.in_err-advance.ensures.memory mover.0 mover.1)) in
+    (farther_useful (all g at) c.args.net mover.0 mover.1 (c.in_err-advance_into.ensures.memory mover.0 mover.1)) in
     OnErr_always _ useful
 
 pub returns-in_err-send_all-clause-memory : goal.returns-in_err-send_all-clause-memory
 returns-in_err-send_all-clause-memory g c =
-    let at = (goal.at.returns-in_err-send_all-clause-memory g c).After-advance in
+    let at = (goal.at.returns-in_err-send_all-clause-memory g c).After-advance_into in
     let mover = process g at in
     let useful : is_useful c.args.self.now.state (Advance c.args.net) ≡ true = rw (← c.self.view_is)
     (telling_useful (all g at) c.args.net mover.0 (below g at) mover.1
-    (subst (λ (ms : _). 0 < length ms) (c.as_slice.ensures.value ∙ c.in_ok-advance.ensures.news mover.0 mover.1) c.in_err-send_all.ensures.memory)) in
+    (subst (λ (ms : _). 0 < length ms) (c.as_slice.ensures.value ∙ c.in_ok-advance_into.ensures.news mover.0 mover.1) c.in_err-send_all.ensures.memory)) in
     OnErr_always _ useful
 
 pub returns-clause-useful : goal.returns-clause-useful

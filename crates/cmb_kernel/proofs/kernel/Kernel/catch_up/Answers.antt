@@ -1,5 +1,8 @@
-use Rattle.std.proofs.Common.{◌≡◌, ◌+◌, ap, sym, subst, ◌∙◌, arith}
+use Rattle.std.proofs.Common.{◌≡◌, ◌+◌, ◌<◌, length, slice_get, ap, sym, subst, ◌∙◌, arith}
+use Rattle.std.specs.Option.{ForSome}
+use Rattle.design.specs.Circuit.{Net}
 use Rattle.design.specs.Pins.{first_pin, net_of_pin, place_of_pin}
+use Rattle.design.proofs.CallerLemmas.{place_limit}
 use Rattle.cmb_kernel.specs.State.{KernelView, received_at}
 use Rattle.cmb_kernel.specs.Sweeps.{caught_up}
 use Rattle.cmb_kernel.proofs.SweepLoops.{caught_up_here, knows_enough}
@@ -17,6 +20,14 @@ there g c =
     c.pin-pin.ensures.pin ∙ ap (λ (r : KernelView). first_pin r.circuit c.args.net + c.args.place) c.self.view_is in
     subst (λ circuit. (c.args.net ≡ net_of_pin circuit c.pin-pin.result) × (c.args.place ≡ place_of_pin circuit c.pin-pin.result)) (sym same)
     (pin_there c.args.self.now.circuit c.args.net c.args.place c.pin-pin.result c.requires.net c.requires.place pin)
+
+pub overflow_cast-place : goal.overflow_cast-place
+overflow_cast-place g c =
+    let known = subst (λ (r : KernelView). c.args.net < length r.circuit) (sym c.self.view_is) c.requires.net in
+    let inside = subst (λ (r : KernelView). ForSome (slice_get r.circuit c.args.net) (λ (n : Net). c.args.place < length n.pins)) (sym c.self.view_is)
+    c.requires.place in
+    let small = place_limit _ c.nets.ensures.well_formed c.args.net c.args.place known inside in
+    omega arith
 
 pub deliver_there-requires-clause-net : goal.deliver_there-requires-clause-net
 deliver_there-requires-clause-net g c = (there g (goal.at.deliver_there-requires-clause-net g c).After-received_there).0

@@ -18,9 +18,6 @@ within c = pin_within c.args.self.now.circuit c.args.net c.args.place c.requires
 limit : (c : After-index) → pin_count c.args.self.now.circuit ≤ 1_000_000
 limit c = pin_limit c.args.self.now (well_formed c.self.invariant c.self.view_is)
 
-pub overflow_cast-result : goal.overflow_cast-result
-overflow_cast-result c = let known = (goal.at.overflow_cast-result c).After-index in omega (arith, within known, limit known)
-
 pub overflow_add-result : goal.overflow_add-result
 overflow_add-result c =
     let known = (goal.at.overflow_add-result c).After-index in omega (arith, first_is known, within known, limit known)

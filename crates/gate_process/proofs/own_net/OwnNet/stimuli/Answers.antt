@@ -1,14 +1,7 @@
-use Rattle.std.proofs.Common.{ap, ◌∙◌, append-nil}
+use Rattle.std.proofs.Common.{ap, ◌∙◌}
 use Rattle.logic3.specs.declared.value.Value.TheVariants.{Unknown}
 use Rattle.design.specs.Circuit.{Net}
-use Rattle.gate_process.proofs.Delayed.{delayed_changes, undelayed}
 use Rattle.gate_process.proofs.own_net.OwnNet.stimuli.Goals as goal
 
 pub returns : goal.returns
-returns c =
-    let own = ap (λ (net : Net). net.stimuli) c.self.view_is in
-    c.new.ensures
-    ∙ (λ i. record {
-      before = Unknown;
-      changes = (ap (delayed_changes 0) (append-nil c.self.inside.stimuli.now) ∙ undelayed c.self.inside.stimuli.now ∙ own) i;
-    })
+returns c = c.stimuli.ensures ∙ ap (λ (net : Net). record { before = Unknown; changes = net.stimuli }) c.self.view_is

@@ -3,8 +3,8 @@ use Rattle.logic3.proofs.CallerLemmas.{AllPairs-Alternates}
 use Rattle.gate_process.proofs.Passed.{rise_with}
 use Rattle.gate_process.proofs.received.Received.cursor.Goals as goal
 
-pub new-requires : goal.new-requires
-new-requires c =
+pub received-requires-clause-rise : goal.received-requires-clause-rise
+received-requires-clause-rise c =
     rw c.as_slice.ensures
     (rise_with c.self.inside.changes c.self.inside.frontier Unknown
     (AllPairs-Alternates c.self.inside.before 0 c.self.inside.changes c.self.invariant.known.wave) c.self.invariant.known.past)

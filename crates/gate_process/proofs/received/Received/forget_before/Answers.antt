@@ -10,23 +10,23 @@ known : goal.After-drop_front → Knowledge
 known c = record { wave = record { before = c.self.inside.before; changes = c.self.inside.changes }; frontier = c.self.inside.frontier }
 
 left : goal.After-drop_front → Knowledge
-left c = record { wave = record { before = c.last_value-self-inside.result; changes = c.drop_front.new.self }; frontier = c.self.inside.frontier }
+left c = record { wave = record { before = c.last_kept-self-inside.result; changes = c.drop_front.new.self }; frontier = c.self.inside.frontier }
 
-cut : (c : goal.After-drop_front) → IsCut c.args.tick c.self.inside.changes c.due_below-early.result
+cut : (c : goal.After-drop_front) → IsCut c.args.tick c.self.inside.changes c.kept_below-early.result
 cut c =
     let rise = AllPairs-Alternates c.self.inside.before 0 c.self.inside.changes c.self.invariant.known.wave in
-    let count = c.due_below-early.ensures.count ∙ ap (due_below c.args.tick) c.as_slice-changes.ensures in
+    let count = c.kept_below-early.ensures.count ∙ ap (due_below c.args.tick) c.as_slice-changes.ensures in
     rw count (early_cut c.self.inside.changes c.args.tick rise)
 
 forgot : (c : goal.After-drop_front) → left c ≡ forgetting c.args.tick (known c)
 unfolding known left
 forgot c =
-    let inside : c.due_below-early.result ≤ length c.self.inside.changes =
-    rw c.as_slice-changes.ensures at c.due_below-early.ensures.within in
-    let last = c.last_value-self-inside.ensures
-    ∙ ap (λ cs. value_in_the_end c.self.inside.before (take c.due_below-early.result cs)) c.as_slice-changes.ensures in
+    let inside : c.kept_below-early.result ≤ length c.self.inside.changes =
+    rw c.as_slice-changes.ensures at c.kept_below-early.ensures.within in
+    let last = c.last_kept-self-inside.ensures
+    ∙ ap (λ cs. value_in_the_end c.self.inside.before (take c.kept_below-early.result cs)) c.as_slice-changes.ensures in
     (λ i. record { wave = record { before = last i; changes = c.drop_front.ensures i }; frontier = c.self.inside.frontier })
-    ∙ forgets (known c) c.args.tick c.due_below-early.result c.self.invariant.known inside (cut c)
+    ∙ forgets (known c) c.args.tick c.kept_below-early.result c.self.invariant.known inside (cut c)
     (λ start. ap (λ (k : Knowledge). k.wave.before) c.self.view_is ∙ c.requires start)
 
 pub invariant_of-self : goal.invariant_of-self
@@ -46,7 +46,7 @@ returns-then-early-eq0 c =
     let rise = AllPairs-Alternates c.self.inside.before 0 c.self.inside.changes c.self.invariant.known.wave in
     let none = c.if-early-eq0.true in
     let count : 0 ≡ due_below c.args.tick c.self.inside.changes =
-    sym none ∙ c.due_below-early.ensures.count ∙ ap (due_below c.args.tick) c.as_slice-changes.ensures in
+    sym none ∙ c.kept_below-early.ensures.count ∙ ap (due_below c.args.tick) c.as_slice-changes.ensures in
     let cut : IsCut c.args.tick c.self.inside.changes 0 =
     subst (IsCut c.args.tick c.self.inside.changes) (sym count) (early_cut c.self.inside.changes c.args.tick rise) in
     sym c.self.view_is

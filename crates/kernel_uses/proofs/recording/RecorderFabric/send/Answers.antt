@@ -23,7 +23,7 @@ more g c =
     let one_each = c.self.invariant.one_each in
     let long = length-messages_in c.self.inside.history.items in
     messages_more c.self.inside.history.items c.args.net c.args.message c.index_mut-history.result.now c.push_reserved.new.self
-    (omega (arith, c.requires.net, nets, one_each, long)) c.index_mut-history.ensures.value
+    (omega (arith, c.requires, nets, one_each, long)) c.index_mut-history.ensures.value
     (c.push_reserved.ensures.items ∙ ap (λ items. items ++ c.args.message ∷ []) c.reserve.ensures.items)
 
 pub invariant_of-self : goal.invariant_of-self
@@ -48,7 +48,7 @@ pub invariant_of-self-2 : goal.invariant_of-self-2
 invariant_of-self-2 g c =
     let nets = ap (λ (r : Recorded). r.nets) c.self.view_is in
     record_same c.in_ok-send.ensures.ok c.send.ensures.sources c.send.ensures.nets (more g (goal.at.invariant_of-self-2 g c).After-push_reserved)
-    (record_more _ _ _ _ c.self.invariant c.args.net c.args.message (omega (arith, c.requires.net, nets)))
+    (record_more _ _ _ _ c.self.invariant c.args.net c.args.message (omega (arith, c.requires, nets)))
 
 pub returns-clause-history : goal.returns-clause-history
 returns-clause-history g c =

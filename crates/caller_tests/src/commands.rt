@@ -1,0 +1,154 @@
+//! The program with arguments, over texts of a caller's own, and writers that know nothing of faults.
+use nullsim::{ReadFault, Texts, command};
+use std::alloc::{AllocError, Global};
+use std::process::Abort;
+use std::test::Fail;
+use worked_examples::dumps::{INVERTER_DUMP, OUTPUTS_DUMP};
+use worked_examples::{S27_BENCH, S27_STIMULI};
+
+/// A text with its name.
+type Named = (&'static str, &'static [u8]);
+
+static FILES: [Named; 6] = [
+    ("inv.bench", b"INPUT(a)\nOUTPUT(y)\ny = NOT(a)\n"),
+    ("inv.stim", b"0 a 0\n3 a 1\n"),
+    ("bad.sched", b"deliver y 1\n"),
+    (
+        "one.bench",
+        b"INPUT(a)\nOUTPUT(y)\ny = NOT(a)\nINPUT(b)\nz = AND(a, b)\n",
+    ),
+    ("s27.bench", S27_BENCH),
+    ("s27.stim", S27_STIMULI),
+];
+
+/// Texts by name, with nothing else to say of them.
+#[derive(Drop)]
+struct Map {
+    alloc: Global,
+    texts: &'static [Named],
+}
+
+impl Texts for Map {
+    fn text(&mut self, name: &str) -> Result<Vec<u8>, ReadFault> {
+        match self.texts.iter().find(|named| named.0 == name) {
+            Some(named) => Ok(Vec::from_slice(self.alloc, named.1)?),
+            None => Err(ReadFault::Read),
+        }
+    }
+}
+
+fn words_of(alloc: Global, line: &str) -> Result<Vec<String>, AllocError> {
+    let mut words: Vec<String> = Vec::new(alloc);
+    for word in line.split_whitespace() {
+        words.push(word.to_string(alloc)?)?;
+    }
+    Ok(words)
+}
+
+// A command line, its status, what goes to standard output, and what to standard error.
+type Row = (&'static str, u8, &'static [u8], &'static [u8]);
+
+static ROWS: [Row; 10] = [
+    (
+        "run --bench inv.bench --stimuli inv.stim --horizon 5 --counts",
+        0,
+        INVERTER_DUMP,
+        b"events 7 changes 4 nulls 3 rounds 2\n",
+    ),
+    (
+        "run --bench inv.bench --stimuli inv.stim --horizon 5 --show outputs --unit ps",
+        0,
+        OUTPUTS_DUMP,
+        b"",
+    ),
+    (
+        "plain --bench inv.bench --stimuli inv.stim --horizon 5 --show all --unit ns",
+        0,
+        INVERTER_DUMP,
+        b"",
+    ),
+    (
+        "cone --bench one.bench y",
+        0,
+        b"INPUT(a)\ny = NOT(a)\nOUTPUT(y)\n",
+        b"",
+    ),
+    (
+        "twin --first inv.bench --first-stimuli inv.stim --second one.bench --second-stimuli inv.stim --net y --horizon 5",
+        0,
+        b"agree yes\nfirst 1 1\nfirst 4 0\nsecond 1 1\nsecond 4 0\n",
+        b"",
+    ),
+    (
+        "check --bench s27.bench --stimuli s27.stim --horizon 35",
+        0,
+        b"nets 17\npins 21\nsame 17\n",
+        b"",
+    ),
+    (
+        "run --bench inv.bench --schedule bad.sched --horizon 5",
+        1,
+        b"",
+        b"bad.sched:1: BadPin\n",
+    ),
+    (
+        "run --bench none.bench --schedule bad.sched --horizon 5 --delay 0",
+        3,
+        b"",
+        b"none.bench:0: Read\n",
+    ),
+    (
+        "plain --bench inv.bench --horizon 10000001",
+        1,
+        b"",
+        b"options:0: BadHorizon\n",
+    ),
+    (
+        "twin --first inv.bench --second one.bench --net z --horizon 5",
+        1,
+        b"",
+        b"inv.bench:0: UnknownNet\n",
+    ),
+];
+
+#[test]
+fn answers(rt: HostRuntime) -> Result<(), Fail> {
+    for &(line, wanted, dump, told) in &ROWS {
+        let words: Vec<String> = words_of(rt.alloc(), line)?;
+        let mut texts = Map {
+            alloc: rt.alloc(),
+            texts: FILES.as_slice(),
+        };
+        let mut out: Vec<u8> = Vec::new(rt.alloc());
+        let mut err: Vec<u8> = Vec::new(rt.alloc());
+        let status: u8 = command(rt.alloc(), &words, &mut texts, &mut out, &mut err);
+        assert_eq!(rt; status, wanted, "at {line}");
+        assert!(rt; out.as_slice() == dump, "at {line}");
+        assert!(rt; err.as_slice() == told, "at {line}");
+    }
+    Ok(())
+}
+
+// Wrong arguments: nothing is read, and nothing goes to standard output.
+#[test]
+fn usage(rt: HostRuntime) -> Result<(), Fail> {
+    for line in [
+        "run --bench none.bench",
+        "run --bench none.bench --horizon 5 --show y",
+        "run --bench none.bench --horizon 5 --show all --show all",
+        "run --bench none.bench --horizon 5 --schedule none.sched --picks 1",
+        "cone --bench none.bench",
+    ] {
+        let words: Vec<String> = words_of(rt.alloc(), line)?;
+        let mut texts = Map {
+            alloc: rt.alloc(),
+            texts: FILES.as_slice(),
+        };
+        let mut out: Vec<u8> = Vec::new(rt.alloc());
+        let mut err: Vec<u8> = Vec::new(rt.alloc());
+        let status: u8 = command(rt.alloc(), &words, &mut texts, &mut out, &mut err);
+        assert_eq!(rt; status, 2, "at {line}");
+        assert!(rt; out.is_empty() && !err.is_empty(), "at {line}");
+    }
+    Ok(())
+}

@@ -1,0 +1,47 @@
+//! Each public item by the path that callers name it by, and each call in the form that they write, with all types
+//! written out, over worked examples. What compiles here compiles for a caller, and what is answered is what the
+//! examples say.
+#![tactic(auto)]
+
+#[cfg(test)]
+mod channels;
+#[cfg(test)]
+mod circuits;
+#[cfg(test)]
+mod commands;
+#[cfg(test)]
+mod cones;
+#[cfg(test)]
+mod decks;
+#[cfg(test)]
+mod designs;
+#[cfg(test)]
+mod drains;
+#[cfg(test)]
+mod dumps;
+#[cfg(test)]
+mod events;
+#[cfg(test)]
+mod faults;
+#[cfg(test)]
+mod kernels;
+#[cfg(test)]
+mod laws;
+#[cfg(test)]
+mod netlists;
+#[cfg(test)]
+mod processes;
+#[cfg(test)]
+mod refusing;
+#[cfg(test)]
+mod runs;
+#[cfg(test)]
+mod schedules;
+#[cfg(test)]
+mod streams;
+#[cfg(test)]
+mod twins;
+#[cfg(test)]
+mod values;
+#[cfg(test)]
+mod waveforms;

@@ -1,0 +1,58 @@
+ghost use Rattle.std.specs.Prelude.{◌≡◌};
+ghost use Rattle.circuit_texts.specs.declared.driven_fault.DrivenFault.TheVariants.{Setting};
+ghost use Rattle.circuit_texts.specs.Driven.{driven_of_bench, driven_of_drives};
+
+use bench_text::BenchFault;
+use drawn_stimuli::DriveFault;
+use thiserror::Error;
+use timing_text::OptionFault;
+
+/// Why there is no stimulus text for a netlist.
+///
+/// The first fault decides: the horizon, the netlist, what is to drive its inputs. A want of memory of
+/// any layer is [`Memory`](Self::Memory).
+#[derive(Clone, Copy, Debug, PartialEq, Eq, Error)]
+pub enum DrivenFault {
+    /// The horizon is refused.
+    #[error("{0}")]
+    Setting(OptionFault),
+    /// The netlist is refused.
+    #[error("{0}")]
+    Bench(BenchFault),
+    /// What is to drive the inputs is refused.
+    #[error("{0}")]
+    Drives(DriveFault),
+    /// A growth was refused.
+    #[error("Memory")]
+    Memory,
+}
+
+impl From<OptionFault> for DrivenFault {
+    ghost from_gives = { λ fault e. e ≡ Setting fault };
+
+    fn from(fault: OptionFault) -> DrivenFault {
+        DrivenFault::Setting(fault)
+    }
+}
+
+impl From<BenchFault> for DrivenFault {
+    ghost from_gives = { λ fault e. e ≡ driven_of_bench fault };
+
+    fn from(fault: BenchFault) -> DrivenFault {
+        match fault {
+            BenchFault::Memory => DrivenFault::Memory,
+            other => DrivenFault::Bench(other),
+        }
+    }
+}
+
+impl From<DriveFault> for DrivenFault {
+    ghost from_gives = { λ fault e. e ≡ driven_of_drives fault };
+
+    fn from(fault: DriveFault) -> DrivenFault {
+        match fault {
+            DriveFault::Memory => DrivenFault::Memory,
+            other => DrivenFault::Drives(other),
+        }
+    }
+}

@@ -1,0 +1,45 @@
+ghost use Rattle.std.specs.Prelude.{◌≡◌};
+ghost use Rattle.plain_runs.specs.declared.diagram_fault.DiagramFault.TheVariants as of;
+ghost use Rattle.prepared_runs.specs.declared.fault.SimFault.TheVariants.{Setting};
+
+use prepared_runs::SimFault;
+use thiserror::Error;
+use timing_diagram::ColumnsFault;
+use timing_text::OptionFault;
+
+/// Why the timing diagram of a run ended early.
+///
+/// The horizon and the ticks that are to be drawn come before all else.
+#[derive(Clone, Copy, Debug, PartialEq, Eq, Error)]
+pub enum DiagramFault {
+    /// The ticks can't be drawn.
+    #[error("{0}")]
+    Columns(ColumnsFault),
+    /// The run is refused, its horizon among its settings; or the diagram broke off.
+    #[error("{0}")]
+    Run(SimFault),
+}
+
+impl From<OptionFault> for DiagramFault {
+    ghost from_gives = { λ fault e. e ≡ of.Run (Setting fault) };
+
+    fn from(fault: OptionFault) -> DiagramFault {
+        DiagramFault::Run(SimFault::Setting(fault))
+    }
+}
+
+impl From<ColumnsFault> for DiagramFault {
+    ghost from_gives = { λ fault e. e ≡ of.Columns fault };
+
+    fn from(fault: ColumnsFault) -> DiagramFault {
+        DiagramFault::Columns(fault)
+    }
+}
+
+impl From<SimFault> for DiagramFault {
+    ghost from_gives = { λ fault e. e ≡ of.Run fault };
+
+    fn from(fault: SimFault) -> DiagramFault {
+        DiagramFault::Run(fault)
+    }
+}
