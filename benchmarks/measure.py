@@ -75,8 +75,8 @@ def cells_with_counts(words, folder, runs):
 
 
 def cells_with_names(words, folder, runs, names):
-    """The cells of runs with `--show` and these names of nets: their cost."""
-    measured = [run_once([*words, "--show", names], folder, "shown.vcd") for _ in range(runs)]
+    """The cells of runs with `--nets` and these names of nets: their cost."""
+    measured = [run_once([*words, "--nets", names], folder, "shown.vcd") for _ in range(runs)]
     return least([cost for cost, _ in measured]).cells()
 
 
@@ -98,8 +98,8 @@ def measure(name, words, folder):
         row += cells_beside_vvp(folder, circuit.horizon, least(nullsim), least(vvp))
     if words.counts:
         row += cells_with_counts(nullsim_words, folder, words.runs)
-    if words.show:
-        row += cells_with_names(nullsim_words, folder, words.runs, words.show)
+    if words.nets:
+        row += cells_with_names(nullsim_words, folder, words.runs, words.nets)
     return row
 
 
@@ -110,7 +110,7 @@ def table_row(cells):
 
 def print_table(words):
     """Measures circuit after circuit, and prints each row as soon as it is there."""
-    columns = COLUMNS + VVP_COLUMNS * words.vvp + COUNTS_COLUMNS * words.counts + SHOWN_COLUMNS * bool(words.show)
+    columns = COLUMNS + VVP_COLUMNS * words.vvp + COUNTS_COLUMNS * words.counts + SHOWN_COLUMNS * bool(words.nets)
     print(table_row(columns))
     print(table_row(["---"] * len(columns)), flush=True)
     for name in words.circuits or circuits.CIRCUITS:
@@ -127,7 +127,7 @@ def read_words():
     parser.add_argument("--program", type=Path, default=PROGRAM, metavar="FILE", help="the program (the built one)")
     parser.add_argument("--alone", dest="vvp", action="store_false", help="leave vvp out")
     parser.add_argument("--counts", action="store_true", help="measure `nullsim run --counts` too")
-    parser.add_argument("--show", metavar="NAMES", help="measure `nullsim run --show NAMES` too")
+    parser.add_argument("--nets", metavar="NAMES", help="measure `nullsim run --nets NAMES` too")
     parser.add_argument("--folder", type=Path, metavar="FOLDER", help="where texts and dumps go for a while")
     words = parser.parse_args()
     unknown = [name for name in words.circuits if name not in circuits.CIRCUITS]

@@ -1,10 +1,10 @@
 """The texts of a circuit: those that `nullsim run` reads, and the same circuit as Verilog.
 
-The Verilog shows what `docs/DEFINITIONS.md` says that the nets show:
+The Verilog shows what the defining equations give the nets (`docs/GLOSSARY.md`):
 - A gate of delay 1 is a primitive. A slower one is a process that assigns with a delay, since a primitive
   swallows pulses that are shorter than its delay.
-- Inputs change by nonblocking assignments, which come behind the start of all processes at tick 0.
-- A flip-flop samples behind all changes of the tick: the clock waits for a nonblocking assignment to
+- Inputs change by nonblocking assignments, which come after the start of all processes at tick 0.
+- A flip-flop samples after all changes of the tick: the clock waits for a nonblocking assignment to
   take effect, and then for another, and nothing else is left to change by then.
 """
 

@@ -4,7 +4,7 @@
 The probes of memory (crates/memory_probes) and each command of nullsim are run once for each request for
 memory that they make, without it; then nullsim is run over faulty streams and files, over texts that are
 cut off or changed at random, and over texts and circuits as large as they may be. Last come the answers in
-`cases/`, the examples of `explain`, products of a multiplier, the commands and pictures of the pages, and the script
+`cases/`, the examples of `explain`, products of a multiplier, the commands, pictures and prose of the pages, and the script
 that builds and starts the program. The last line is 'N passed, M failed', over all of these.
 
     check.py [--random COUNT] [--seed FIRST]    how many circuits and decks are changed at random, and by which seeds
@@ -42,7 +42,7 @@ def commands() -> list[tuple[list, bytes, int]]:
         ([*streams.RUN, "--schedule", "none.schedule"], b"", 3),
         ("run --bench hazard.bench --stimuli hazard.stimuli --horizon 8 --schedule hazard.schedule".split(), b"", 0),
         ("run --bench latch.bench --stimuli latch.stimuli --horizon 5 --counts".split(), b"", 0),
-        ("run --bench clocks.bench --delays clocks.delays --horizon 40 --show next,fast".split(), b"", 0),
+        ("run --bench clocks.bench --delays clocks.delays --horizon 40 --nets next,fast".split(), b"", 0),
         ("plain --bench pulse.bench --delays pulse.delays --stimuli pulse.stimuli --horizon 22".split(), b"", 0),
         (streams.HELP, b"", 0),
         (["run", "--help"], b"", 0),

@@ -1,5 +1,5 @@
-"""The pages hold what the program prints: the commands that stand in them, the pictures beside them, and a trace
-that was reckoned from the definitions by another program. What they show of a source stands in it."""
+"""The pages hold what the program prints: the commands in them, the pictures beside them, and a trace that another
+program computed from the definitions. What they show of a source is in that file. `prose` says how they read."""
 import re
 import shutil
 import subprocess
@@ -7,6 +7,7 @@ from pathlib import Path
 from typing import Callable
 from xml.etree import ElementTree
 
+import prose
 from programs import EXAMPLES, ROOT, SECONDS, run
 
 # Stored answers, each with the words that it is the answer to.
@@ -16,10 +17,10 @@ STORED = {
     "examples/s27.trace": "trace --bench s27.bench --stimuli s27.stimuli --horizon 35",
 }
 
-# Commands in a page, and the text right behind them, if there is one.
+# Commands in a page, and the text right after them, if any.
 EXAMPLE = re.compile(r"^```sh\n(.*?)^```$(?:\n\n^```text\n(.*?)^```$)?", re.MULTILINE | re.DOTALL)
 
-# A part of a source in a page: its first line names the file, and a line of two dots stands for what is left out.
+# A part of a source in a page: its first line names the file, and a line of two dots is what is left out.
 SHOWN_SOURCE = re.compile(r"^```rust\n// (\S+)\n(.*?)^```$", re.MULTILINE | re.DOTALL)
 LEFT_OUT = re.compile(r"^ *\.\.\n", re.MULTILINE)
 
@@ -35,14 +36,14 @@ def stored_fault(program: Path, stored: Path, words: str) -> str | None:
 
 
 def examples_of(page: str) -> list[tuple[str, str | None]]:
-    """The commands of nullsim in a page, each block with the text behind it. The set-up is left out."""
+    """The commands of nullsim in a page, each block with the text after it. The set-up is left out."""
     found = [(example[1], example[2]) for example in EXAMPLE.finditer(page)]
     return [(commands, shown) for commands, shown in found if "./nullsim" in commands and ".ci/run" not in commands]
 
 
 def example_fault(program: Path, commands: str, shown: str | None, folder: str) -> str | None:
-    """What is wrong with commands of a page: what they print is the text behind them, line for line, in which notes may
-    stand to the right. Where there is none they end with status 0."""
+    """What is wrong with commands of a page: they print the text after them, line for line, which may have notes to the
+    right. If there is none, they end with status 0."""
     given = "set -e\n" + commands.replace("./nullsim", str(program))
     ended = subprocess.run(["bash", "-c", given], cwd=folder, stdout=subprocess.PIPE, stderr=subprocess.STDOUT,
                            timeout=SECONDS, check=False, text=True)
@@ -50,38 +51,40 @@ def example_fault(program: Path, commands: str, shown: str | None, folder: str) 
         return None if ended.returncode == 0 else f"it ended with {ended.returncode} and {ended.stdout!r}"
     printed, lines = ended.stdout.splitlines(), shown.splitlines()
     if len(printed) != len(lines):
-        return f"{len(lines)} lines stand behind it, and it prints {len(printed)}"
+        return f"{len(lines)} lines are after it, and it prints {len(printed)}"
     for one, line in zip(printed, lines):
         if line != one and not line.startswith(f"{one}  "):
-            return f"{line!r} stands there, and it prints {one!r}"
+            return f"{line!r} is there, and it prints {one!r}"
     return None
 
 
 def source_fault(source: Path, shown: str) -> str | None:
-    """What is wrong with a part of a source that a page shows: its lines stand in the file, in this order."""
+    """What is wrong with a part of a source that a page shows: its lines are in the file, in this order."""
     text, place = "\n" + source.read_text(encoding="utf-8"), 0
     for part in LEFT_OUT.split(shown):
         begins = text.find("\n" + part, place)
         if begins < 0:
-            return f"{part.splitlines()[0]!r} and the lines behind it don't stand there so"
+            return f"{part.splitlines()[0]!r} and the lines after it aren't there in this way"
         place = begins + len(part)
     return None
 
 
-# What the tables of faults in docs/FORMATS.md are of, by the headings above them, as `explain` calls it.
+# The pages that have tables of faults.
+FAULT_PAGES = ("docs/FORMATS.md", "docs/COMMANDS.md")
+# What these tables are of, by the headings above them, as `explain` calls it.
 SUBJECTS = {
     "Faults": "a .bench text", "The delay text": "a delay text", "The stimulus text": "a stimulus text",
     "The schedule text": "a schedule text", "The deck": "a deck", "Settings": "the settings",
     "`draw`": "the columns of draw", "`stimuli`": "the drives of stimuli", "`diff`": "the ticks of diff",
 }
-# Faults that the page names outside its tables.
+# Faults that the pages name outside their tables.
 UNTABLED = {"nets asked for by name": {"UnknownNet"}, "reading and writing": {"Read", "Write", "WroteNothing"}}
-# Want of memory stands in tables of several texts, and is explained once, since its line names no text.
+# `Memory` is in the tables of several texts, and is explained once, since its line names no text.
 MEMORY = "reading and writing"
 
 
 def names_in_page(page: str) -> dict[str, set[str]]:
-    """The faults in the tables of a page, by what they are of."""
+    """The faults in the tables of the pages, by what they are of."""
     found = {subject: set(names) for subject, names in UNTABLED.items()}
     heading, of_faults, column = "", False, 0
     for line in page.splitlines():
@@ -99,30 +102,36 @@ def names_in_page(page: str) -> dict[str, set[str]]:
 
 
 def names_fault(program: Path) -> str | None:
-    """What is wrong with the names that `explain` lists: they are those of the page, each once."""
+    """What is wrong with the names that `explain` lists: they are those of the pages, each once."""
     listed = {}
     for line in run([program, "explain"]).out.decode().splitlines():
         subject, names = line.split(": ")
         listed[subject] = names.split()
-    page = names_in_page((ROOT / "docs/FORMATS.md").read_text(encoding="utf-8"))
-    for subject in page.keys() | listed.keys():
-        if sorted(page.get(subject, [])) != sorted(listed.get(subject, [])):
-            return f"{subject}: {sorted(page.get(subject, []))} in the page, {sorted(listed.get(subject, []))} explained"
+    pages = names_in_page("\n".join(prose.text_of(ROOT / page) for page in FAULT_PAGES))
+    for subject in pages.keys() | listed.keys():
+        if sorted(pages.get(subject, [])) != sorted(listed.get(subject, [])):
+            return f"{subject}: {sorted(pages.get(subject, []))} in the pages, {sorted(listed.get(subject, []))} explained"
     return None
 
 
+def cases_of(program: Path, page: Path, folder: str) -> list[tuple[str, Callable[[], str | None]]]:
+    """Each example of a page and each part of a source in it, with its check."""
+    found, text = [], prose.text_of(page)
+    for commands, shown in examples_of(text):
+        name = f"{prose.name_of(page)}, {commands.splitlines()[0]}"
+        found.append((name, lambda it=(program, commands, shown, folder): example_fault(*it)))
+    for source, shown in SHOWN_SOURCE.findall(text):
+        name = f"{prose.name_of(page)}, {source}: {shown.splitlines()[0]}"
+        found.append((name, lambda it=(ROOT / source, shown): source_fault(*it)))
+    return found
+
+
 def cases(program: Path, folder: str) -> list[tuple[str, Callable[[], str | None]]]:
-    """Each stored answer, each example of a page and each part of a source in one, with its check."""
+    """Each stored answer, each example of a page and each part of a source in one, with its check; and how pages read."""
     found = [(name, lambda it=(program, ROOT / name, words): stored_fault(*it)) for name, words in STORED.items()]
     found.append(("the names that explain lists", lambda: names_fault(program)))
     there = Path(folder, "pages")
     shutil.copytree(EXAMPLES, there / "examples")
-    for page in [ROOT / "README.md", *sorted((ROOT / "docs").glob("*.md"))]:
-        text = page.read_text(encoding="utf-8")
-        for commands, shown in examples_of(text):
-            name = f"{page.relative_to(ROOT)}, {commands.splitlines()[0]}"
-            found.append((name, lambda it=(program, commands, shown, str(there)): example_fault(*it)))
-        for source, shown in SHOWN_SOURCE.findall(text):
-            name = f"{page.relative_to(ROOT)}, {source}: {shown.splitlines()[0]}"
-            found.append((name, lambda it=(ROOT / source, shown): source_fault(*it)))
-    return found
+    for page in [ROOT / "README.md", *sorted((ROOT / "docs").glob("*.md")), EXAMPLES / "README.md"]:
+        found += cases_of(program, page, str(there))
+    return found + prose.cases()
