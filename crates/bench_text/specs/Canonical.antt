@@ -46,11 +46,11 @@ canonical_line (names_output name) = port_line (codes "OUTPUT") name
 abbrev pub canonical_lines : List Statement → List ℕ
 canonical_lines statements = flat_map (λ said. canonical_line said ++ codes "\n") statements
 
--- what defines a net
+-- the statement that defines a net
 abbrev pub net_statement : NetlistView → NetView → Statement
 net_statement netlist net = defines net.name net.part (map (name_at netlist) net.pins)
 
--- what names an output
+-- the statement that names an output
 abbrev pub output_statement : NetlistView → ℕ → Statement
 output_statement netlist output = names_output (name_at netlist output)
 

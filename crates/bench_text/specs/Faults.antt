@@ -1,9 +1,9 @@
--- What a fault tells: its name and its line.
+-- The name and the line of a fault.
 use Rattle.std.specs.Prelude.{ℕ, List, codes}
 use Rattle.bench_text.specs.declared.fault.BenchFault.{BenchFault}
 use Rattle.bench_text.specs.declared.fault.BenchFault.TheVariants.{TooLong, BadByte, BadLine, NameTooLong, UnknownGate, BadArity, DefinedTwice, Undefined, NoNets, TooMany, Memory}
 
--- the line that a fault names, and 0 for one without a line
+-- the line of a fault, or 0 for one without a line
 abbrev pub line_of : BenchFault → ℕ
 line_of (BadByte line) = line
 line_of (BadLine line) = line

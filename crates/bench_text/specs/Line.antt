@@ -65,7 +65,7 @@ keywords =
     ∷ (codes "XOR", Gate Xor) ∷ (codes "XNOR", Gate Xnor) ∷ (codes "NOT", Gate Not) ∷ (codes "BUF", Gate Buf)
     ∷ (codes "DFF", Flop) ∷ (codes "INV", Gate Not) ∷ (codes "BUFF", Gate Buf) ∷ []
 
--- the part beside the first word of a table that a text is, in any case of its letters
+-- the part next to the first word of a table that equals a text, in any case of its letters
 abbrev pub part_in : List (List ℕ × Part) → List ℕ → Option Part
 part_in table text = option_map (λ entry. entry.1) (find (λ entry. str_eq_ignore_ascii_case entry.0 text) table)
 
@@ -85,14 +85,14 @@ pub data Statement : Type 0 where
   defines : List ℕ → Part → List (List ℕ) → Statement
   names_output : List ℕ → Statement
 
--- what stands behind a list of names that may be written
+-- the result after a list of names, unless one of the names is refused
 abbrev pub with_names : {A : Type 0} → ℕ → List (List ℕ) → Result A BenchFault → Result A BenchFault
 with_names line names rest =
     if list_any is_dollar_name names then Err (BadLine line)
     else if list_any is_long_name names then Err (NameTooLong line)
     else rest
 
--- what a gate or a flip-flop with its pins is, or why it is none
+-- the definition of a gate or a flip-flop with its pins, or its fault
 abbrev pub definition_of : ℕ → List ℕ → List (List ℕ) → Option Part → Result Statement BenchFault
 definition_of line name pins None = Err (UnknownGate line)
 definition_of line name pins (Some part) =
@@ -107,12 +107,12 @@ statement_of_form line (Some (port keyword name)) =
 statement_of_form line (Some (assignment name keyword pins)) =
     with_names line (name ∷ pins) (definition_of line name pins (part_of keyword))
 
--- what the line of this number says, without its comment, or its first fault
+-- what the line with this number says, without its comment, or its first fault
 abbrev pub statement_of : ℕ → List ℕ → Result Statement BenchFault
 statement_of line code =
     if is_plain code then statement_of_form line (form_of (tokens_of code)) else Err (BadByte line)
 
--- the names are names, and the part may have so many pins
+-- the names are proper names, and the part may have this number of pins
 abbrev pub IsStatement : Statement → Type 0
 IsStatement (defines name part pins) = IsName name × All IsName pins × IsTrue (takes_pins part (length pins))
 IsStatement (names_output name) = IsName name

@@ -22,7 +22,7 @@ pub record Definition : Type 0 where
 abbrev pub numbered_statement : ℕ × List ℕ → Result (ℕ × Statement) BenchFault
 numbered_statement (line, code) = statement_of line code >>= λ said. Ok (line, said)
 
--- what the lines of a text say, by number, or the first fault of a line
+-- what the lines of a text say, each with its number, or the first fault of a line
 abbrev pub statements_of : List ℕ → Result (List (ℕ × Statement)) BenchFault
 statements_of text = fold_text (one_a_line numbered_statement) [] text
 
@@ -61,7 +61,7 @@ first_undefined names uses = find (λ (line, name). not (is_among names name)) u
 abbrev pub undefined_fault : List (List ℕ) → List (ℕ × List ℕ) → Option BenchFault
 undefined_fault names uses = option_map (λ (used : ℕ × List ℕ). Undefined used.0) (first_undefined names uses)
 
--- more nets than that, or more pins
+-- more nets, or more pins, than a netlist may have
 abbrev pub is_over_limit : ℕ → ℕ → Bool
 is_over_limit nets pins = nat_lt most_nets nets || nat_lt most_pins pins
 

@@ -1,4 +1,4 @@
--- The code's tokens and statements, which borrow the bytes of a line, as those of the definitions.
+-- The tokens and statements of the code, which borrow the bytes of a line, as those of the definitions.
 use Rattle.std.specs.Prelude.{ℕ, ◌&&◌, not, if◌then◌else◌, Bool, [], ◌∷◌, Option, Some, None}
 use Rattle.text_lines.specs.Text.{is_white}
 use Rattle.netlist.specs.Names.{seen_names}

@@ -6,11 +6,11 @@ use std::alloc::{AllocError, AllocFailed};
 use std::fmt;
 use thiserror::Error;
 
-/// Why a text is no netlist. Lines count from 1.
+/// Why a text isn't a netlist. Lines count from 1.
 ///
 /// The first faulty line decides, and within a line the order of these variants, from
 /// [`BadByte`](Self::BadByte) to [`BadArity`](Self::BadArity). The faults of the whole text come
-/// after those of every line, but for [`TooLong`](Self::TooLong), which comes before all else.
+/// after those of every line, except [`TooLong`](Self::TooLong), which comes before all others.
 #[derive(Clone, Copy, Debug, PartialEq, Eq, Error)]
 pub enum BenchFault {
     /// The text has more than 16,777,216 bytes.
@@ -21,24 +21,24 @@ pub enum BenchFault {
     BadLine { line: u64 },
     /// A net's name has more than 255 bytes.
     NameTooLong { line: u64 },
-    /// The gate word is no keyword.
+    /// The word for the gate isn't a keyword.
     UnknownGate { line: u64 },
-    /// The gate doesn't take so many pins.
+    /// The gate can't have this number of pins.
     BadArity { line: u64 },
-    /// The first line that defines a name which an earlier line defines.
+    /// The line defines a name that an earlier line defines.
     DefinedTwice { line: u64 },
-    /// The first line that uses, as a pin or an output, a name that no line defines.
+    /// The line uses, as a pin or an output, a name that no line defines.
     Undefined { line: u64 },
     /// No line defines a net.
     NoNets,
-    /// More than 100,000 nets, or more than 1,000,000 pins in all.
+    /// There are more than 100,000 nets, or more than 1,000,000 pins in all.
     TooMany,
-    /// A growth was refused.
+    /// An allocation failed.
     Memory,
 }
 
 impl BenchFault {
-    /// The line that the fault names, from 1, and 0 for a fault without a line.
+    /// Returns the line of the fault, from 1, or 0 for a fault without a line.
     pub fn line(&self) -> u64
         ensures { result ≡ line_of self.now }
     {
@@ -55,7 +55,7 @@ impl BenchFault {
         }
     }
 
-    /// The fault's name, which is its text.
+    /// Returns the fault's name, which is its text.
     pub fn name(&self) -> &'static str
         ensures { result.now ≡ name_of self.now }
     {

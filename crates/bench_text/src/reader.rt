@@ -16,7 +16,8 @@ use smallvec::SmallVec;
 use std::alloc::Global;
 use text_lines::{LONGEST_TEXT, code_lines};
 
-/// The netlist of a .bench text. One that is too long is refused before any memory is taken.
+/// Returns the netlist of a .bench text. A text that is too long is refused before anything is
+/// allocated.
 pub fn read(alloc: Global, text: &[u8]) -> Result<Netlist, BenchFault>
     ensures netlist { result ≢ Err Memory → result ≡ netlist_of text.now }
     ensures at_once { longest_text < length text.now → result ≡ Err TooLong }
@@ -28,7 +29,7 @@ pub fn read(alloc: Global, text: &[u8]) -> Result<Netlist, BenchFault>
     netlist(alloc, lines.as_slice())
 }
 
-/// What the lines of a text say, by number, or the first fault of a line.
+/// Returns what the lines of a text say, each with its number, or the first fault of a line.
 fn statements(alloc: Global, text: &[u8]) -> Result<Vec<(u64, Statement<'_>)>, BenchFault>
     ensures { result ≢ Err Memory →
         result_map_both (λ lines. seen_lines lines.items) (λ fault. fault) result ≡ statements_of text.now }
@@ -41,7 +42,7 @@ fn statements(alloc: Global, text: &[u8]) -> Result<Vec<(u64, Statement<'_>)>, B
     Ok(lines)
 }
 
-/// The netlist of what the lines of a text say, or what is wrong with them as a whole.
+/// Returns the netlist of what the lines of a text say, or what is wrong with them as a whole.
 fn netlist(alloc: Global, lines: &[(u64, Statement<'_>)]) -> Result<Netlist, BenchFault>
     requires few { length lines.now ≤ 2 ^ 32 }
     requires well_formed { All (λ (line : ℕ × TheStatement). IsStatement line.1) (seen_lines lines.now) }
@@ -59,7 +60,7 @@ fn netlist(alloc: Global, lines: &[(u64, Statement<'_>)]) -> Result<Netlist, Ben
     Ok(Netlist::new(names, nets, outputs))
 }
 
-/// The names that the lines define, in order, unless one is defined twice.
+/// Returns the names that the lines define, in order, unless one is defined twice.
 fn defined_names(alloc: Global, lines: &[(u64, Statement<'_>)]) -> Result<Names, BenchFault>
     requires { length lines.now ≤ 2 ^ 32 }
     ensures { result ≢ Err Memory →
@@ -86,8 +87,8 @@ struct Wiring {
     outputs: Vec<u32>,
 }
 
-/// The nets that the lines define and the outputs that they name, unless a line uses a name that
-/// is not among these.
+/// Returns the nets that the lines define and the outputs that they name, unless a line uses a name
+/// that is not among these.
 fn connected(
     alloc: Global,
     lines: &[(u64, Statement<'_>)],
@@ -112,7 +113,7 @@ fn connected(
     Ok(Wiring { nets, outputs })
 }
 
-/// The numbers of the names that a line has at its pins, unless one is not among these names.
+/// Returns the numbers of the names that a line has at its pins, unless one is not among these names.
 fn numbers_of(
     alloc: Global,
     line: u64,
@@ -132,14 +133,14 @@ fn numbers_of(
     Ok(numbers)
 }
 
-/// The number of a name that a line uses, unless it is not among these names.
+/// Returns the number of a name that a line uses, unless it is not among these names.
 fn number_of(line: u64, name: &[u8], names: &Names) -> Result<u32, BenchFault>
     ensures { result ≡ unless (undefined_fault names.now ((line, name.now) ∷ [])) (place_of names.now name.now) }
 {
     names.find(name).ok_or(BenchFault::Undefined { line })
 }
 
-/// Whether there are more nets, or more pins in all, than a netlist may have.
+/// Returns whether there are more nets, or more pins in all, than a netlist may have.
 fn is_over_limit(nets: &[Net]) -> bool
     ensures { result ≡ is_over_limit (length nets.now) (sum_by (λ (net : TheNet). length net.pins.items) nets.now) }
 {

@@ -30,7 +30,7 @@ pub(crate) enum Statement<'a> {
     },
 }
 
-/// How a line is written: `K ( W )`, or `W = K ( list )`.
+/// The form of a line: `K ( W )`, or `W = K ( list )`.
 #[derive(Drop)]
 enum Form<'a> {
     Port {
@@ -44,7 +44,8 @@ enum Form<'a> {
     },
 }
 
-/// What the line of this number says, or its first fault. `code` is the line without its comment.
+/// Returns what the line with this number says, or its first fault. `code` is the line without its
+/// comment.
 pub(crate) fn statement_of(
     alloc: Global,
     line: u64,
@@ -71,7 +72,7 @@ pub(crate) fn statement_of(
     }
 }
 
-/// What `keyword ( name )` says.
+/// Returns what `keyword ( name )` says.
 fn port<'a>(
     alloc: Global,
     line: u64,
@@ -96,7 +97,7 @@ fn port<'a>(
     }
 }
 
-/// What `name = keyword ( pins )` says.
+/// Returns what `name = keyword ( pins )` says.
 fn assignment<'a>(
     line: u64,
     name: &'a [u8],
@@ -110,7 +111,7 @@ fn assignment<'a>(
     definition_of(line, name, pins, part_of(keyword))
 }
 
-/// What a gate or a flip-flop with these pins is, or why it is none.
+/// Returns the definition of a gate or a flip-flop with these pins, or its fault.
 fn definition_of<'a>(
     line: u64,
     name: &'a [u8],
@@ -127,7 +128,7 @@ fn definition_of<'a>(
     }
 }
 
-/// The first fault of a line's names: one that begins with `$`, then one that is too long.
+/// Returns the first fault of a line's names: one that begins with `$`, then one that is too long.
 #[tactic(auto, using(crate::proofs::SeenNames::list_any_seen))]
 fn check_names(line: u64, name: &[u8], pins: &[&[u8]]) -> Result<(), BenchFault>
     ensures { result ≡ with_names line (name.now ∷ seen_names pins.now) (Ok tt) }
@@ -153,21 +154,21 @@ fn has_long_name(names: &[&[u8]]) -> bool
     names.iter().any(|name| is_long_name(name))
 }
 
-/// Whether a name begins with `$`.
+/// Returns whether a name begins with `$`.
 fn is_dollar_name(name: &[u8]) -> bool
     ensures { result ≡ is_dollar_name name.now }
 {
     name.first() == Some(&b'$')
 }
 
-/// Whether a name has more than 255 bytes.
+/// Returns whether a name has more than 255 bytes.
 fn is_long_name(name: &[u8]) -> bool
     ensures { result ≡ is_long_name name.now }
 {
     name.len() > 255
 }
 
-/// Whether a part may have so many pins.
+/// Returns whether a part may have this number of pins.
 fn takes_pins(part: Part, pins: usize) -> bool
     ensures { result ≡ takes_pins part pins }
 {
@@ -193,14 +194,15 @@ static KEYWORDS: [(&[u8], Part); 11] = [
     (b"BUFF", Part::Gate(GateKind::Buf)),
 ];
 
-/// The gate or flip-flop that a word means, in any case of its letters.
+/// Returns the gate or flip-flop that a word means, in any case of its letters.
 fn part_of(word: &[u8]) -> Option<Part>
     ensures { result ≡ part_of word.now }
 {
     part_in(&KEYWORDS, word)
 }
 
-/// The part beside the first word of a table that this word is, in any case of its letters.
+/// Returns the part next to the first word of a table that equals this word, in any case of its
+/// letters.
 fn part_in(table: &[(&[u8], Part)], word: &[u8]) -> Option<Part>
     ensures { result ≡ part_in (map (λ entry. (entry.0.now, entry.1)) table.now) word.now }
 {
@@ -212,14 +214,14 @@ fn part_in(table: &[(&[u8], Part)], word: &[u8]) -> Option<Part>
     None
 }
 
-/// Whether a word is this keyword, in any case of its letters.
+/// Returns whether a word is this keyword, in any case of its letters.
 fn is_keyword(keyword: &[u8], word: &[u8]) -> bool
     ensures { result ≡ str_eq_ignore_ascii_case keyword.now word.now }
 {
     keyword.eq_ignore_ascii_case(word)
 }
 
-/// The form of a line's tokens, if they have one.
+/// Returns the form of a line's tokens, if any.
 fn form_of<'a>(alloc: Global, mut tokens: Tokens<'a>) -> Result<Option<Form<'a>>, AllocError>
     ensures { IfOk result (λ form. option_map seen_form form ≡ form_of tokens.entry) }
 {
@@ -233,7 +235,7 @@ fn form_of<'a>(alloc: Global, mut tokens: Tokens<'a>) -> Result<Option<Form<'a>>
     }
 }
 
-/// The form `K ( W )`, where `K (` is read.
+/// Returns the form `K ( W )`, after `K (` has been read.
 fn port_after<'a>(keyword: &'a [u8], mut tokens: Tokens<'a>) -> Option<Form<'a>>
     ensures { option_map seen_form result ≡ form_of (word keyword.now ∷ left ∷ tokens.entry) }
 {
@@ -243,7 +245,7 @@ fn port_after<'a>(keyword: &'a [u8], mut tokens: Tokens<'a>) -> Option<Form<'a>>
     }
 }
 
-/// The form `W = K ( list )`, where `W =` is read.
+/// Returns the form `W = K ( list )`, after `W =` has been read.
 fn assignment_after<'a>(
     alloc: Global,
     name: &'a [u8],
@@ -262,7 +264,7 @@ fn assignment_after<'a>(
     }))
 }
 
-/// The names up to the closing mark: none, or with a comma between each two.
+/// Returns the names up to the closing mark: an empty list, or names with a comma between each two.
 fn names_of<'a>(alloc: Global, mut tokens: Tokens<'a>) -> Result<Option<Vec<&'a [u8]>>, AllocError>
     ensures { IfOk result (λ names. option_map (λ names. seen_names names.items) names ≡ names_of tokens.entry) }
 {
@@ -277,7 +279,7 @@ fn names_of<'a>(alloc: Global, mut tokens: Tokens<'a>) -> Result<Option<Vec<&'a 
     }
 }
 
-/// These names and those that follow them, each after a comma, up to the closing mark.
+/// Returns these names and those that follow them, each after a comma, up to the closing mark.
 fn more_names<'a>(
     mut names: Vec<&'a [u8]>,
     mut tokens: Tokens<'a>,

@@ -19,7 +19,7 @@ pub(crate) enum Token<'a> {
     Equals,
 }
 
-/// The tokens of a line that are left, in order.
+/// The remaining tokens of a line, in order.
 #[derive(Drop)]
 pub(crate) struct Tokens<'a> {
     code: &'a [u8],
@@ -34,7 +34,7 @@ impl<'a> Model for Tokens<'a> {
     ghost view = { λ t. tokens_of t.code.now };
 }
 
-/// The tokens of a line without its comment.
+/// Returns the tokens of a line without its comment.
 pub(crate) fn tokens_of(code: &[u8]) -> Tokens<'_>
     ensures { result ≡ tokens_of code.now }
 {
@@ -55,7 +55,7 @@ impl<'a> Iterator for Tokens<'a> {
     }
 }
 
-/// The first token, and the bytes after it.
+/// Returns the first token, and the bytes after it.
 fn split_token(code: &[u8]) -> Option<(Token<'_>, &[u8])>
     ensures { MatchOption result (tokens_of code.now ≡ [])
         (λ split. tokens_of code.now ≡ seen_token split.0 ∷ tokens_of split.1.now) }
@@ -71,7 +71,7 @@ fn split_token(code: &[u8]) -> Option<(Token<'_>, &[u8])>
     }
 }
 
-/// The bytes from the first on that isn't white space.
+/// Returns the bytes from the first one that isn't white space.
 fn past_white(code: &[u8]) -> &[u8]
     ensures tokens { tokens_of result.now ≡ tokens_of code.now }
     ensures begins { 0 < length result.now → is_white (slice_index result.now 0) ≡ false }
@@ -79,7 +79,7 @@ fn past_white(code: &[u8]) -> &[u8]
     &code[white_len(code)..]
 }
 
-/// How many bytes come before the first white space or mark.
+/// Returns the number of bytes before the first white space or mark.
 fn word_len(code: &[u8]) -> usize
     ensures value { result ≡ prefix_len is_word_byte code.now }
     ensures within { result ≤ length code.now }
@@ -89,7 +89,7 @@ fn word_len(code: &[u8]) -> usize
         .count()
 }
 
-/// The token that a mark is.
+/// Returns the token of a mark.
 fn mark<'a>(byte: u8) -> Option<Token<'a>>
     ensures { option_map seen_token result ≡ mark_of byte }
 {

@@ -13,11 +13,11 @@ use netlist::{Netlist, Part};
 use std::alloc::{AllocError, Global};
 use text_lines::LONGEST_TEXT;
 
-/// The canonical .bench text of a netlist, which [`read`](crate::read) reads back: a line for each
-/// net in order of number, `INPUT(a)` or `y = NAND(a, b)`, and then a line `OUTPUT(y)` for each
+/// Returns the canonical .bench text of a netlist, which [`read`](crate::read) reads back: a line for
+/// each net in order of number, `INPUT(a)` or `y = NAND(a, b)`, and then a line `OUTPUT(y)` for each
 /// output in order. Each line ends with a line feed.
 ///
-/// It is [`TooLong`](BenchFault::TooLong) where that text has more than 16,777,216 bytes.
+/// Returns [`TooLong`](BenchFault::TooLong) if that text has more than 16,777,216 bytes.
 pub fn write(alloc: Global, netlist: &Netlist) -> Result<Vec<u8>, BenchFault>
     ensures written { result ≢ Err Memory →
         result_map_both (λ text. text.items) (λ fault. fault) result ≡ within_limit (canonical netlist.now) }
@@ -58,7 +58,7 @@ fn push_outputs(text: &mut Vec<u8>, netlist: &Netlist) -> Result<(), BenchFault>
     Ok(())
 }
 
-/// Ends a line, unless that makes the text too long: it is so by this line alone.
+/// Ends a line, unless that makes the text too long.
 fn end_line(text: &mut Vec<u8>) -> Result<(), BenchFault>
     ensures { result ≢ Err Memory →
         result_map_both (λ done. text.new.items) (λ fault. fault) result ≡ within_limit (text.old.items ++ codes "\n") }
@@ -70,9 +70,9 @@ fn end_line(text: &mut Vec<u8>) -> Result<(), BenchFault>
     Ok(())
 }
 
-/// Adds the line that defines a net, as in the canonical text, but for its end.
+/// Adds the line that defines a net, as in the canonical text, without its line feed.
 ///
-/// An `AllocError` leaves the text with a first part of the line.
+/// After an `AllocError` a prefix of the line may have been added.
 pub fn push_statement(text: &mut Vec<u8>, netlist: &Netlist, net: u32) -> Result<(), AllocError>
     requires within { net < length netlist.now.nets }
     requires well_formed { IsNetlist netlist.now }
@@ -95,7 +95,7 @@ pub fn push_statement(text: &mut Vec<u8>, netlist: &Netlist, net: u32) -> Result
     }
 }
 
-/// Adds a line `K(W)`, but for its end.
+/// Adds a line `K(W)`, without its line feed.
 fn push_port(text: &mut Vec<u8>, keyword: &[u8], name: &[u8]) -> Result<(), AllocError>
     ensures { OnOk result (text.new.items ≡ text.old.items ++ port_line keyword.now name.now) }
 {
@@ -122,7 +122,7 @@ fn push_pins(text: &mut Vec<u8>, netlist: &Netlist, pins: &[u32]) -> Result<(), 
     Ok(())
 }
 
-/// The keyword of a part.
+/// Returns the keyword of a part.
 fn keyword_of(part: Part) -> &'static [u8]
     ensures { result.now ≡ keyword_of part }
 {

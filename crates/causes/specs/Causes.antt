@@ -1,4 +1,4 @@
--- The causes of a net's value at a tick, one behind the other.
+-- The causes of a net's value at a tick, in order.
 use Rattle.std.specs.Prelude.{ℕ, zero, suc, ◌+◌, ◌<◌, ◌≡◌, ◌==◌, ◌&&◌, List, [], ◌∷◌, ◌++◌, find, slice_get, Option, None, Some}
 use Rattle.std.specs.Option.{option_map_or}
 use Rattle.logic3.specs.declared.value.Value.{Value}
@@ -11,7 +11,7 @@ use Rattle.causes.specs.declared.cause.Reason.{Reason}
 use Rattle.causes.specs.declared.cause.Reason.TheVariants.{Pin, Loop}
 use Rattle.causes.specs.Reasons.{reason_of, source_of}
 
--- waveforms of all nets that go on past a tick
+-- waveforms of all nets at least up to a tick
 pub record ShowUpTo (circuit : Circuit) (tick : ℕ) (waves : List Wave) : Type 0 where
   pub to : ℕ
   pub past : tick < to
@@ -21,7 +21,7 @@ pub record ShowUpTo (circuit : Circuit) (tick : ℕ) (waves : List Wave) : Type 
 abbrev pub repeated : List Cause → ℕ → Value → Option Cause
 repeated causes net value = find (λ (cause : Cause). (cause.net == net) && is_same cause.value value) causes
 
--- why a net shows its value, behind other causes: a loop where one of them has the net with the same value
+-- why a net shows its value, after other causes: a loop if one of them has the net with the same value
 abbrev pub cause_behind : Circuit → List Cause → ℕ → ℕ → Cause
 cause_behind circuit causes net tick = record {
   net = net;
@@ -38,7 +38,7 @@ leads_by circuit _ net tick = None
 abbrev pub leads_to : Circuit → Cause → Option (ℕ × ℕ)
 leads_to circuit cause = leads_by circuit cause.reason cause.net cause.tick
 
--- causes one behind the other, at most so many, behind others
+-- causes in order, up to a number of them, after others
 abbrev pub causes_within : Circuit → ℕ → List Cause → Option (ℕ × ℕ) → List Cause
 causes_within circuit zero causes at = []
 causes_within circuit (suc count) causes None = []

@@ -11,7 +11,7 @@ use Rattle.logic3.specs.Value.{is_same}
 use Rattle.logic3.specs.Gate.{value_of_gate}
 use Rattle.design.specs.Samples.{source_tick}
 
--- the value of one pin that settles what a gate shows, whatever the others show
+-- the value of one pin that settles what a gate shows, for all values of the others
 abbrev pub controlling : GateKind → Option Value
 controlling And = Some Zero
 controlling Nand = Some Zero
@@ -26,7 +26,7 @@ controlling Buf = None
 abbrev pub if_shown : List Value → Value → Option Value
 if_shown values value = if list_any (is_same value) values then Some value else None
 
--- the value by which pins decide: X where the gate shows X, else the controlling one where some pin shows it
+-- the value by which pins decide: X if the gate shows X, else the controlling one if some pin shows it
 abbrev pub deciding_value : GateKind → List Value → Option Value
 deciding_value kind values =
     if is_same (value_of_gate kind values) Unknown then Some Unknown
@@ -47,21 +47,21 @@ abbrev pub deciding_place : GateKind → List Value → List ℕ → ℕ
 deciding_place kind values since =
     option_map_or (λ value. position_or_len (is_same value) values) (deciding_value kind values) (first_greatest since)
 
--- the tick from which on a signal shows what it shows at a tick
+-- the tick since which a signal shows what it shows at a tick
 abbrev pub since : (ℕ → Value) → ℕ → ℕ
 since signal zero = 0
 since signal (suc tick) = if is_same (signal (suc tick)) (signal tick) then since signal tick else suc tick
 
--- the same of a pin: its source's, later by the delay of its wire, and 0 before that is over
+-- the same of a pin: its source's tick plus the wire delay, and 0 before that is over
 abbrev pub pin_since : ℕ → (ℕ → Value) → ℕ → ℕ
 pin_since wire signal tick = option_map_or (λ at. since signal at + wire) (source_tick wire tick) 0
 
--- the same of the pins of these sources, each with its wire
+-- the same of the pins of these sources, each with its wire delay
 abbrev pub pins_since : (ℕ → ℕ → Value) → ℕ → List ℕ → List ℕ → List ℕ
 pins_since signals tick (pin ∷ pins) (wire ∷ wires) = pin_since wire (signals pin) tick ∷ pins_since signals tick pins wires
 pins_since signals tick _ _ = []
 
--- the tick of the last of the changes that is not after a tick, else the one before
+-- the tick of the last change that is not after a tick, else the one before
 abbrev pub tick_after : Option ℕ → List Change → ℕ → Option ℕ
 tick_after before [] tick = before
 tick_after before (change ∷ changes) tick =

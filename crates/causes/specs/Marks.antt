@@ -1,4 +1,4 @@
--- Marks for the nets that causes have with each value.
+-- Marks for the nets and values that occur in causes.
 use Rattle.std.specs.Prelude.{◌≡◌, ℕ, ◌+◌, ◌*◌, ◌<◌, List, Option, None, option_map, slice_index_or}
 use Rattle.logic3.specs.declared.value.Value.{Value}
 use Rattle.logic3.specs.declared.value.Value.TheVariants.{Zero, One, Unknown}

@@ -13,17 +13,17 @@ use Rattle.causes.specs.declared.cause.Reason.{Reason}
 use Rattle.causes.specs.declared.cause.Reason.TheVariants.{Pin, Stimulus, NoStimulus, BeforeDelay, BeforeFirstSample, BeforeWire}
 use Rattle.causes.specs.Deciding.{deciding_place, last_tick, pins_since}
 
--- the place of the pin that decides what a gate shows, where it looks at its pins at a tick
+-- the place of the pin that decides what a gate shows, if it reads its pins at a tick
 abbrev pub gate_place : GateKind → List ℕ → List ℕ → (ℕ → ℕ → Value) → ℕ → ℕ
 gate_place kind pins wires signals asked =
     deciding_place kind (values_at asked (pin_signals signals pins wires)) (pins_since signals asked pins wires)
 
--- a pin decides, by its place, where the net looks at its pins at a tick
+-- the pin at a place decides, if the net reads its pins at a tick
 abbrev pub pin_reason : List ℕ → ℕ → ℕ → Reason
 pin_reason wires asked place =
     option_map_or (λ at. Pin place) (source_tick (slice_index_or wires place 0) asked) (BeforeWire place)
 
--- why a gate shows its value, by the tick at which it looks at its pins
+-- why a gate shows its value, by the tick at which it reads its pins
 abbrev pub gate_reason : GateKind → List ℕ → List ℕ → (ℕ → ℕ → Value) → Option ℕ → Reason
 gate_reason kind pins wires signals asked =
     option_map_or (λ at. pin_reason wires at (gate_place kind pins wires signals at)) asked BeforeDelay
@@ -51,7 +51,7 @@ reason_at (Some net) signals tick = reason_of_part net.part net signals tick
 abbrev pub reason_of : Circuit → ℕ → ℕ → Reason
 reason_of circuit net tick = reason_at (slice_get circuit net) (value_of circuit) tick
 
--- what the pin at a place shows at the tick at which its net looks at its pins: a net and a tick
+-- what the pin at a place shows at the tick at which its net reads its pins: a net and a tick
 abbrev pub source_at : Net → ℕ → ℕ → Option (ℕ × ℕ)
 source_at net asked place =
     option_and_then (λ at. option_map (λ pin. (pin, at)) (slice_get net.pins place)) (source_tick (wire_at net place) asked)

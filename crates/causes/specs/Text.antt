@@ -1,4 +1,4 @@
--- Causes as text, a line each.
+-- Causes as text, one line each.
 use Rattle.std.specs.Prelude.{ℕ, List, [], ◌++◌, flat_map, codes, decimal, Option, None, Some, slice_get}
 use Rattle.std.specs.List.{zip}
 use Rattle.std.specs.Option.{option_map_or}
@@ -15,22 +15,22 @@ use Rattle.causes.specs.declared.cause.Reason.{Reason}
 use Rattle.causes.specs.declared.cause.Reason.TheVariants.{Pin, Stimulus, NoStimulus, BeforeDelay, BeforeFirstSample, BeforeWire, Loop}
 use Rattle.causes.specs.Causes.{causes_of}
 
--- a name at a tick, as `y@7`
+-- a name at a tick, such as `y@7`
 abbrev pub moment_text : List ℕ → ℕ → List ℕ
 moment_text name tick = name ++ codes "@" ++ decimal tick
 
--- what it shows there, as `y@7 = 1`
+-- what it shows there, such as `y@7 = 1`
 abbrev pub shown_text : List ℕ → ℕ → Value → List ℕ
 shown_text name tick value = moment_text name tick ++ codes " = " ++ value_text value
 
--- what a pin shows: its source at the tick of it that the pin shows, and `a = x` before the delay of its wire is over
+-- what a pin shows: its source at the tick of it that the pin shows, and `a = x` before its wire delay is over
 abbrev pub pin_text : DesignView → ℕ → ℕ × ℕ → List ℕ
 pin_text design asked (pin, wire) =
     codes ", "
     ++ option_map_or (λ at. shown_text (name_at design.netlist pin) at (value_of design.circuit pin at)) (source_tick wire asked)
     (name_at design.netlist pin ++ codes " = x")
 
--- what the pins of a net show at the tick at which it looks at them
+-- what the pins of a net show at the tick at which it reads them
 abbrev pub pins_text : DesignView → List ℕ → List ℕ → ℕ → List ℕ
 pins_text design pins wires asked = flat_map (pin_text design asked) (zip pins wires)
 
@@ -45,7 +45,7 @@ stimulus_text name value tick = codes ", stimulus " ++ decimal tick ++ codes " "
 abbrev pub loop_text : List ℕ → ℕ → List ℕ
 loop_text name tick = codes ", a loop: the same as " ++ moment_text name tick
 
--- why, behind the statement of the net
+-- the reason, after the statement of the net
 abbrev pub reason_text : DesignView → Cause → Reason → List ℕ
 reason_text design cause (Pin place) = looks_text design (slice_get design.circuit cause.net) cause.tick
 reason_text design cause (BeforeWire place) =

@@ -1,4 +1,4 @@
--- What causes have to be, one by one.
+-- The conditions on causes, one by one.
 use Rattle.std.specs.Prelude.{◌≡◌, ℕ, suc, List, length, take, slice_get, None, Some, option_map}
 use Rattle.design.specs.Circuit.{Circuit}
 use Rattle.causes.specs.declared.cause.Cause.{Cause}
@@ -8,8 +8,8 @@ use Rattle.causes.specs.Causes.{cause_behind, leads_to}
 abbrev pub moment_of : Cause → ℕ × ℕ
 moment_of cause = (cause.net, cause.tick)
 
--- causes of a net's value at a tick: the first is of the net at the tick, each is the cause behind those before it, each leads to
--- the next one, and the last one leads nowhere
+-- causes of a net's value at a tick: the first is of the net at the tick, each is the cause after those before it, each leads to
+-- the next one, and the last one leads to none
 pub record IsWhy (circuit : Circuit) (net tick : ℕ) (causes : List Cause) : Type 0 where
   pub first : option_map moment_of (slice_get causes 0) ≡ Some (net, tick)
   pub each : (place : ℕ) (cause : Cause) → slice_get causes place ≡ Some cause →

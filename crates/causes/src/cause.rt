@@ -14,7 +14,7 @@ pub struct Cause {
 pub enum Reason {
     /// The pin at this place among the net's pins decides: the next cause is that of its source.
     Pin(usize),
-    /// The input's last stimulus up to the tick came at this tick.
+    /// The input's last stimulus up to the tick is at this tick.
     Stimulus(u64),
     /// The input has no stimulus up to the tick.
     NoStimulus,
@@ -22,7 +22,7 @@ pub enum Reason {
     BeforeDelay,
     /// The flip-flop's first sample doesn't show yet.
     BeforeFirstSample,
-    /// The pin at this place decides, and the delay of its wire isn't over.
+    /// The pin at this place decides, and its wire delay isn't over.
     BeforeWire(usize),
     /// An earlier cause, at this tick, has the same net with the same value.
     Loop(u64),

@@ -8,7 +8,8 @@ ghost use Rattle.causes.specs.Deciding.{controlling, deciding_place, deciding_va
 
 use logic3::{Change, GateKind, Value, gate};
 
-/// The value that decides what a gate of this kind shows as soon as one pin has it, if there is one.
+/// Returns the controlling value of a kind of gate, if any: one pin with it decides what the gate
+/// shows.
 fn controlling(kind: GateKind) -> Option<Value>
     ensures { result ≡ controlling kind }
 {
@@ -19,14 +20,14 @@ fn controlling(kind: GateKind) -> Option<Value>
     }
 }
 
-/// The place of the first pin that shows a value; how many pins there are, where none does.
+/// Returns the place of the first pin that shows a value, or the number of pins if none does.
 fn place_of(values: &[Value], value: Value) -> usize
     ensures { result ≡ position_or_len (is_same value) values.now }
 {
     values.iter().take_while(|shown| value != **shown).count()
 }
 
-/// The value of the pins that decide, if it is by their value that they do.
+/// Returns the value by which pins decide, if they decide by their value.
 fn deciding_value(kind: GateKind, values: &[Value]) -> Option<Value>
     requires { HasArity kind (length values.now) }
     ensures { result ≡ deciding_value kind values.now }
@@ -42,7 +43,7 @@ fn deciding_value(kind: GateKind, values: &[Value]) -> Option<Value>
     }
 }
 
-/// The greatest of these ticks; 0 where there are none.
+/// Returns the greatest of these ticks; 0 if there are none.
 fn greatest(ticks: &[u64]) -> u64
     ensures { result ≡ greatest ticks.now }
 {
@@ -55,14 +56,15 @@ fn greatest(ticks: &[u64]) -> u64
     top
 }
 
-/// The place of the first tick that is this one; how many there are, where none is.
+/// Returns the place of the first tick that equals this one, or the number of ticks if none does.
 fn place_of_tick(ticks: &[u64], tick: u64) -> usize
     ensures { result ≡ position_or_len (λ other. other == tick) ticks.now }
 {
     ticks.iter().take_while(|other| **other != tick).count()
 }
 
-/// The place of the pin that decides what a gate shows, from what the pins show and since when.
+/// Returns the place of the pin that decides what a gate shows, from what the pins show and since
+/// when.
 pub fn deciding_place(kind: GateKind, values: &[Value], since: &[u64]) -> usize
     requires arity { HasArity kind (length values.now) }
     requires each { length since.now ≡ length values.now }
@@ -75,7 +77,7 @@ pub fn deciding_place(kind: GateKind, values: &[Value], since: &[u64]) -> usize
     }
 }
 
-/// The tick of the last of the changes that is not after a tick, if there is one.
+/// Returns the tick of the last change that is not after a tick, if any.
 ///
 /// Takes logarithmic time.
 pub fn last_tick(changes: &[Change], tick: u64) -> Option<u64>

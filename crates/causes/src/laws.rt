@@ -10,18 +10,18 @@ ghost use Rattle.causes.specs.declared.cause.Cause.{Cause};
 ghost use Rattle.causes.specs.Deciding.{controlling, deciding_place, deciding_value};
 ghost use Rattle.causes.specs.Why.{IsWhy};
 
-/// The first cause is that of the net's value at the tick, each one is the cause of its net's value
-/// behind those before it and leads to the next one, and the last one leads nowhere. Where a cause leads
-/// is a net at an earlier tick.
+/// The first cause is that of the net's value at the tick. Each one is the cause of its net's value
+/// after those before it and leads to the next one, and the last one leads to none. A cause leads to a
+/// net at an earlier tick.
 pub fn causes_lead_on()
     ensures why { (circuit : Circuit) (net tick : ℕ) → IsCircuit circuit → IsWhy circuit net tick (causes_of circuit net tick) }
     ensures earlier { (circuit : Circuit) (cause : Cause) (from : ℕ × ℕ) → IsCircuit circuit → leads_to circuit cause ≡ Some from →
         (from.0 < length circuit) × (from.1 < cause.tick) }
 {}
 
-/// Where a gate shows X, the pin that decides shows X. Where a pin shows the value that controls a gate,
-/// the gate shows what it shows whatever the other pins show. Where no pin decides by its value, none
-/// changed later than the one that decides.
+/// If a gate shows X, the pin that decides shows X. If a pin shows the controlling value of a gate, the
+/// gate shows the same for all values of the other pins. If no pin decides by its value, none changed
+/// later than the one that decides.
 pub fn pins_that_decide()
     ensures unknown { (kind : GateKind) (values : List Value) (since : List ℕ) → HasArity kind (length values) →
         value_of_gate kind values ≡ Unknown → slice_get values (deciding_place kind values since) ≡ Some Unknown }

@@ -8,7 +8,7 @@ use design::plain::read_pins;
 use logic3::{Value, Waveform};
 use std::alloc::{AllocError, Global};
 
-/// The tick from which on a net shows what it shows at a tick.
+/// Returns the tick since which a net shows what it shows at a tick.
 fn since(waves: &[Waveform], net: u32, tick: u64) -> u64
     requires { net < length waves.now }
     ensures since { result ≡ since (signals_in waves.now net) tick }
@@ -17,7 +17,7 @@ fn since(waves: &[Waveform], net: u32, tick: u64) -> u64
     last_tick(waves[net as usize].changes(), tick).unwrap_or(0)
 }
 
-/// The tick from which on a pin shows what it shows at a tick; 0 before the delay of its wire is over.
+/// Returns the tick since which a pin shows what it shows at a tick; 0 before its wire delay is over.
 fn pin_since(waves: &[Waveform], pin: u32, wire: u32, tick: u64) -> u64
     requires { pin < length waves.now }
     ensures { result ≡ pin_since wire (signals_in waves.now pin) tick }
@@ -28,7 +28,7 @@ fn pin_since(waves: &[Waveform], pin: u32, wire: u32, tick: u64) -> u64
     }
 }
 
-/// What pins show at a tick.
+/// Returns what pins show at a tick.
 pub fn pin_values(
     alloc: Global,
     waves: &[Waveform],
@@ -45,7 +45,7 @@ pub fn pin_values(
     Ok(values)
 }
 
-/// The ticks from which on pins show what they show at a tick.
+/// Returns the ticks since which pins show what they show at a tick.
 pub fn pins_since(
     alloc: Global,
     waves: &[Waveform],

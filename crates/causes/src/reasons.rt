@@ -1,4 +1,4 @@
-//! Why a net shows its value at a tick, and where that leads.
+//! Why a net shows its value at a tick, and the net and tick that this leads to.
 ghost use Rattle.std.specs.Prelude.{◌≡◌, ◌<◌, length, slice_get, All, IfOk};
 ghost use Rattle.logic3.specs.Gate.{HasArity};
 ghost use Rattle.logic3.specs.Rising.{TicksRise};
@@ -15,7 +15,7 @@ use logic3::{Change, GateKind, Waveform};
 use netlist::Part;
 use std::alloc::{AllocError, Global};
 
-/// Why a net shows its value at a tick, by its equation.
+/// Returns why a net shows its value at a tick, by its equation.
 pub fn reason_at(
     alloc: Global,
     design: &Design,
@@ -39,7 +39,7 @@ pub fn reason_at(
     }
 }
 
-/// The last stimulus up to the tick.
+/// Returns the last stimulus up to the tick, or that there is none.
 fn input_reason(stimuli: &[Change], tick: u64) -> Reason
     requires { TicksRise stimuli.now }
     ensures { result ≡ input_reason stimuli.now tick }
@@ -50,7 +50,7 @@ fn input_reason(stimuli: &[Change], tick: u64) -> Reason
     }
 }
 
-/// The pin that decides, once the gate looks at its pins.
+/// Returns the pin that decides, or that the delay isn't over.
 fn gate_reason(
     alloc: Global,
     waves: &[Waveform],
@@ -76,7 +76,7 @@ fn gate_reason(
     ))
 }
 
-/// The only pin, once the first sample shows.
+/// Returns the only pin, or that the first sample doesn't show yet.
 fn flop_reason(wires: &[u32], asked: Option<u64>) -> Reason
     requires { length wires.now ≡ 1 }
     ensures { result ≡ flop_reason wires.now asked }
@@ -87,7 +87,8 @@ fn flop_reason(wires: &[u32], asked: Option<u64>) -> Reason
     }
 }
 
-/// The pin at a place, or its wire, where the net looks at its pins at a tick.
+/// Returns the pin at a place, or that its wire delay isn't over, for a net that reads its pins at a
+/// tick.
 fn pin_reason(wires: &[u32], asked: u64, place: usize) -> Reason
     requires { place < length wires.now }
     ensures { result ≡ pin_reason wires.now asked place }
@@ -99,7 +100,8 @@ fn pin_reason(wires: &[u32], asked: u64, place: usize) -> Reason
     }
 }
 
-/// Where a cause leads: the source of the pin that decides, and the tick of it that the pin shows.
+/// Returns where a cause leads: the source of the pin that decides, and the tick of it that the pin
+/// shows.
 pub fn leads_to(design: &Design, cause: Cause) -> Option<(u32, u64)>
     requires formed { IsDesign design.now }
     requires is_net { cause.net < length design.now.circuit }
@@ -111,7 +113,7 @@ pub fn leads_to(design: &Design, cause: Cause) -> Option<(u32, u64)>
     }
 }
 
-/// What the pin at a place shows where a net looks at its pins for a tick: a net and a tick.
+/// Returns what the pin at a place shows at the asked tick of a net: a net and a tick.
 pub fn source_of(design: &Design, net: u32, tick: u64, place: usize) -> Option<(u32, u64)>
     requires formed { IsDesign design.now }
     requires is_net { net < length design.now.circuit }

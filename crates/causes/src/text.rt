@@ -1,4 +1,4 @@
-//! Causes as text, a line each.
+//! Causes as text, one line each.
 ghost use Rattle.std.specs.Prelude.{◌≡◌, ◌<◌, ◌++◌, length, decimal, slice_get, All, IfOk, OnOk};
 ghost use Rattle.design.specs.Design.{IsDesign};
 ghost use Rattle.causes.specs.Causes.{ShowUpTo};
@@ -13,15 +13,15 @@ use itoa::Buffer;
 use logic3::{Value, Waveform};
 use std::alloc::{AllocError, Global};
 
-/// Why a net has its value at a tick, as [`why`] tells, a line for each cause: what the net shows at
-/// which tick, its statement, and what its pins show where it looks at them, or why it needs no other
-/// cause. So `y@7 = 1: y = NAND(a, b), a@6 = 0, b@6 = x`, and behind it
+/// Returns why a net has its value at a tick, by [`why`], with a line for each cause: what the net
+/// shows at which tick, its statement, and what its pins show when it reads them, or why it needs no
+/// other cause. An example is `y@7 = 1: y = NAND(a, b), a@6 = 0, b@6 = x`, and after it
 /// `a@6 = 0: INPUT(a), stimulus 5 a 0`.
 ///
-/// The waveforms are those of all nets, in order, and go on at least to the tick.
+/// The waveforms are those of all nets, in order, at least up to the tick.
 ///
 /// # Errors
-/// An `AllocError` where a growth was refused.
+/// `AllocError` if an allocation fails.
 pub fn why_text(
     alloc: Global,
     design: &Design,
@@ -106,7 +106,7 @@ fn push_stimulus(text: &mut Vec<u8>, name: &[u8], value: Value, tick: u64) -> Re
     Ok(())
 }
 
-/// Adds what a loop leads back to.
+/// Adds the net and tick that a loop leads back to.
 fn push_loop(text: &mut Vec<u8>, name: &[u8], tick: u64) -> Result<(), AllocError>
     ensures { OnOk result (text.new.items ≡ text.old.items ++ loop_text name.now tick) }
 {
@@ -115,7 +115,7 @@ fn push_loop(text: &mut Vec<u8>, name: &[u8], tick: u64) -> Result<(), AllocErro
     Ok(())
 }
 
-/// Adds what the pins of a net show at the tick at which it looks at them.
+/// Adds what the pins of a net show at the tick at which it reads them.
 fn push_looks(
     text: &mut Vec<u8>,
     design: &Design,
@@ -189,7 +189,7 @@ fn push_pin(
     Ok(())
 }
 
-/// Adds what a net of a name shows at a tick.
+/// Adds what a net with a name shows at a tick.
 fn push_shown(text: &mut Vec<u8>, name: &[u8], tick: u64, value: Value) -> Result<(), AllocError>
     ensures { OnOk result (text.new.items ≡ text.old.items ++ shown_text name.now tick value) }
 {

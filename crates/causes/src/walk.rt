@@ -1,4 +1,4 @@
-//! The walk from a net and a tick back to what needs no other cause.
+//! The walk from a net and a tick back to a cause that needs no other.
 ghost use Rattle.std.specs.Prelude.{◌≡◌, ◌<◌, ◌≤◌, ◌*◌, ◌+◌, List, length, replicate, IfOk, None};
 ghost use Rattle.design.specs.Design.{IsDesign};
 ghost use Rattle.causes.specs.declared.cause.Cause.{Cause};
@@ -12,18 +12,18 @@ use design::plain::shown;
 use logic3::{Value, Waveform};
 use std::alloc::{AllocError, Global};
 
-/// Why a net has its value at a tick: a cause for the net at the tick, and behind each one that
+/// Returns why a net has its value at a tick: a cause for the net at the tick, and after each one that
 /// names a pin the cause of what that pin shows, down to one that needs no other.
 ///
-/// Of a gate that shows X the first pin with X decides, and of one that a pin controls (a 0 of AND
-/// and NAND, a 1 of OR and NOR) the first such pin; else the first of the pins that changed last.
-/// Ticks fall from cause to cause. No net comes with one value twice but in the last cause, which then
-/// says so: there are at most three times as many causes as nets, and one.
+/// If a gate shows X, the first pin with X decides. Else, if some pin has the controlling value (0 for
+/// AND and NAND, 1 for OR and NOR), the first such pin decides; else the first of the pins that
+/// changed last. Ticks decrease from cause to cause. A net has the same value in two causes only if
+/// the last cause is a `Loop`, so there are at most three times as many causes as nets, plus one.
 ///
-/// The waveforms are those of all nets, in order, and go on at least to the tick.
+/// The waveforms are those of all nets, in order, at least up to the tick.
 ///
 /// # Errors
-/// An `AllocError` where a growth was refused.
+/// `AllocError` if an allocation fails.
 pub fn why(
     alloc: Global,
     design: &Design,
@@ -49,7 +49,7 @@ pub fn why(
     Ok(causes)
 }
 
-/// Marks for all nets and values, before any cause.
+/// Returns the marks for all nets and values, before any cause.
 fn no_marks(alloc: Global, design: &Design) -> Result<Vec<Option<u64>>, AllocError>
     ensures marks { IfOk result (λ marks. marks.items ≡ replicate (3 * length design.now.circuit) None) }
     ensures well_formed { IsDesign design.now }
@@ -57,7 +57,7 @@ fn no_marks(alloc: Global, design: &Design) -> Result<Vec<Option<u64>>, AllocErr
     vec![in alloc; None; 3 * design.nets() as usize]
 }
 
-/// The place of the mark of a net with a value.
+/// Returns the place of the mark of a net with a value.
 fn mark_place(net: u32, value: Value) -> usize
     ensures { result ≡ mark_place net value }
 {
@@ -69,7 +69,7 @@ fn mark_place(net: u32, value: Value) -> usize
         }
 }
 
-/// The cause of a net's value behind those that are marked.
+/// Returns the cause of a net's value after those that are marked.
 fn cause_behind(
     alloc: Global,
     design: &Design,

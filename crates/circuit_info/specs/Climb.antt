@@ -10,7 +10,7 @@ use Rattle.circuit_info.specs.Loops.{HasLevel, IsWalk}
 abbrev pub is_known : NetlistView → List ℕ → ℕ → Bool
 is_known netlist levels net = not (is_gate_at netlist net && (level_at levels net == 0))
 
--- how many gates have a level
+-- the number of gates that have a level
 abbrev pub levelled : List ℕ → ℕ
 levelled levels = count_by (λ level. not (level == 0)) levels
 
@@ -52,7 +52,7 @@ pub record KnowsLevels (netlist : NetlistView) (levels : List ℕ) : Type 0 wher
   pub size : length levels ≡ length netlist.nets
   pub known : (net : ℕ) → IsTrue (is_known netlist levels net) ↔ HasLevel netlist net
 
--- a walk from the first of these nets over nets that have no level, each once, which leads on to the second
+-- a walk from the first of these nets over nets without a level, each once, that reaches the second
 pub record IsWay (netlist : NetlistView) (start : ℕ) (passed : List Bool) (way : List ℕ) (net : ℕ) : Type 0 where
   pub size : length passed ≡ length netlist.nets
   pub without : HasLevel netlist net → ⊥
@@ -61,7 +61,7 @@ pub record IsWay (netlist : NetlistView) (start : ℕ) (passed : List Bool) (way
   pub once : AllPairs (λ (earlier later : ℕ). earlier ≢ later) way
   pub passed_so : (other : ℕ) → IsTrue (is_seen passed other) ↔ Contains way other
 
--- what is left of a way from this net on
+-- the rest of a way, from this net on
 pub record IsRestFrom (way : List ℕ) (net : ℕ) (nets : List ℕ) : Type 0 where
   pub place : ℕ
   pub within : place < length way

@@ -1,4 +1,4 @@
--- What is counted of a netlist.
+-- Counts of a netlist.
 use Rattle.std.specs.Prelude.{◌≡◌, ℕ, ◌<◌, ◌≤◌, ◌==◌, List, length, map, count_by, slice_index_or}
 use Rattle.logic3.specs.declared.gates.GateKind.TheVariants.{And, Nand, Or, Nor, Xor, Xnor, Not, Buf}
 use Rattle.netlist.specs.declared.part.Part.{Part}
@@ -6,7 +6,7 @@ use Rattle.netlist.specs.declared.part.Part.TheVariants.{Input, Gate, Flop}
 use Rattle.netlist.specs.Netlist.{NetView, NetlistView, all_pins}
 use Rattle.netlist.specs.Part.{is_gate}
 
--- a number for each part, no two alike
+-- a distinct number for each part
 abbrev pub part_code : Part → ℕ
 part_code Input = 0
 part_code (Gate And) = 1
@@ -19,23 +19,23 @@ part_code (Gate Not) = 7
 part_code (Gate Buf) = 8
 part_code Flop = 9
 
--- how many nets this part drives
+-- the number of nets that this part drives
 abbrev pub part_count : NetlistView → Part → ℕ
 part_count netlist part = count_by (λ (net : NetView). part_code net.part == part_code part) netlist.nets
 
--- how many nets gates drive
+-- the number of nets that gates drive
 abbrev pub gate_count : NetlistView → ℕ
 gate_count netlist = count_by (λ (net : NetView). is_gate net.part) netlist.nets
 
--- for each net how many pins it has
+-- the number of pins of each net
 abbrev pub fan_ins : NetlistView → List ℕ
 fan_ins netlist = map (λ (net : NetView). length net.pins) netlist.nets
 
--- at how many pins a net stands
+-- the number of pins that a net feeds
 abbrev pub fan_out : NetlistView → ℕ → ℕ
 fan_out netlist net = count_by (λ pin. pin == net) (all_pins netlist.nets)
 
--- for each net at how many pins it stands
+-- the number of pins that each net feeds
 pub record IsFanOuts (netlist : NetlistView) (counts : List ℕ) : Type 0 where
   pub size : length counts ≡ length netlist.nets
   pub each : (net : ℕ) → net < length netlist.nets → slice_index_or counts net 0 ≡ fan_out netlist net

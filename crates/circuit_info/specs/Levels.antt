@@ -10,7 +10,7 @@ is_gate_at netlist net = is_gate (net_at netlist net).part
 abbrev pub pins_at : NetlistView → ℕ → List ℕ
 pins_at netlist net = (net_at netlist net).pins
 
--- the greatest of some numbers; 0 where there are none
+-- the greatest of some numbers; 0 if there are none
 abbrev pub greatest : List ℕ → ℕ
 greatest [] = 0
 greatest (n ∷ numbers) = max n (greatest numbers)

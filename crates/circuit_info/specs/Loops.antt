@@ -1,11 +1,11 @@
--- Which nets have levels, and the loop that is named where some have none.
+-- Which nets have levels, and the loop that is named if some have none.
 use Rattle.std.specs.Prelude.{◌≡◌, ◌≢◌, ℕ, ◌+◌, ◌-◌, ◌<◌, false, IsTrue, List, ◌++◌, length, take, slice_index_or, All, AllPairs, Contains}
 use Rattle.netlist.specs.Netlist.{NetlistView}
 use Rattle.circuit_info.specs.declared.levels.Depths.{Depths}
 use Rattle.circuit_info.specs.declared.levels.Depths.TheVariants.{Levels, Loop}
 use Rattle.circuit_info.specs.Levels.{is_gate_at, pins_at, IsLevelling}
 
--- an input or a flip-flop has a level, and so has a gate where the nets at all of its pins have one
+-- an input or a flip-flop has a level, and so has a gate if the nets at all of its pins have one
 pub data HasLevel (netlist : NetlistView) : ℕ → Type 0 where
   at_source : (net : ℕ) → is_gate_at netlist net ≡ false → HasLevel netlist net
   above_pins : (net : ℕ) → IsTrue (is_gate_at netlist net) → ((pin : ℕ) → Contains (pins_at netlist net) pin → HasLevel netlist pin) →
@@ -16,7 +16,7 @@ pub record IsLeastWithout (netlist : NetlistView) (net : ℕ) : Type 0 where
   pub without : HasLevel netlist net → ⊥
   pub least : (other : ℕ) → other < net → HasLevel netlist other
 
--- on from a net to the net at the first of its pins that has no level
+-- a step from a net to the net at the first of its pins that has no level
 pub record LeadsOn (netlist : NetlistView) (net next : ℕ) : Type 0 where
   pub place : ℕ
   pub within : place < length (pins_at netlist net)
@@ -24,12 +24,12 @@ pub record LeadsOn (netlist : NetlistView) (net next : ℕ) : Type 0 where
   pub without : HasLevel netlist next → ⊥
   pub first : All (HasLevel netlist) (take place (pins_at netlist net))
 
--- each net but the last leads on to the next one
+-- there is such a step from each net to the next one
 abbrev pub IsWalk : NetlistView → List ℕ → Type 0
 IsWalk netlist nets = (place : ℕ) → place + 1 < length nets →
     LeadsOn netlist (slice_index_or nets place 0) (slice_index_or nets (place + 1) 0)
 
--- the walk from the least net that has no level, until a net comes again: the nets from that one on, behind the way to it
+-- the walk from the least net without a level, until a net repeats: the nets from that one on, after the way to it
 pub record IsNamedLoop (netlist : NetlistView) (nets : List ℕ) : Type 0 where
   pub way : List ℕ
   pub some : 0 < length nets

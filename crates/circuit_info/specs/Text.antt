@@ -1,4 +1,4 @@
--- What is told of a circuit, line for line.
+-- The text that describes a circuit, line by line.
 use Rattle.std.specs.Prelude.{◌≡◌, ℕ, List, ◌++◌, codes, decimal, length, slice_index_or}
 use Rattle.std.specs.List.{flat_map}
 use Rattle.logic3.specs.declared.gates.GateKind.TheVariants.{And, Nand, Or, Nor, Xor, Xnor, Not, Buf}
@@ -14,11 +14,11 @@ use Rattle.circuit_info.specs.Loops.{IsNamedLoop}
 abbrev pub count_line : List ℕ → ℕ → List ℕ
 count_line word count = word ++ codes " " ++ decimal count ++ codes "\n"
 
--- a word, and how many nets a part drives
+-- a word, and the number of nets that a part drives
 abbrev pub part_line : NetlistView → List ℕ → Part → List ℕ
 part_line netlist word part = count_line word (part_count netlist part)
 
--- how many nets and pins there are, and what of them is no gate
+-- the numbers of nets, pins, inputs, outputs and flip-flops
 abbrev pub size_lines : NetlistView → List ℕ
 size_lines netlist =
     count_line (codes "nets") (length netlist.nets)
@@ -27,7 +27,7 @@ size_lines netlist =
     ++ count_line (codes "outputs") (length netlist.outputs)
     ++ part_line netlist (codes "flip-flops") Flop
 
--- how many gates there are, in all and of each kind
+-- the number of gates, in all and of each kind
 abbrev pub gate_lines : NetlistView → List ℕ
 gate_lines netlist =
     count_line (codes "gates") (gate_count netlist)
@@ -50,12 +50,12 @@ pub record IsGreatestLine (netlist : NetlistView) (word numbers line : List ℕ)
 abbrev pub loop_line : NetlistView → List ℕ → List ℕ
 loop_line netlist nets = codes "loop" ++ names_behind netlist nets ++ codes "\n"
 
--- the greatest level, or where some net has none the named loop
+-- the greatest level, or the named loop if some net has no level
 pub data IsDepthLine (netlist : NetlistView) (line : List ℕ) : Type 0 where
   by_levels : (levels : List ℕ) → IsLevelling netlist levels → line ≡ count_line (codes "levels") (greatest levels) → IsDepthLine netlist line
   by_loop : (nets : List ℕ) → IsNamedLoop netlist nets → line ≡ loop_line netlist nets → IsDepthLine netlist line
 
--- the name of a net that no output hangs on
+-- the name of a net that no output depends on
 abbrev pub unobserved_line : List ℕ → List ℕ
 unobserved_line name = codes "unobserved " ++ name ++ codes "\n"
 
@@ -63,7 +63,7 @@ unobserved_line name = codes "unobserved " ++ name ++ codes "\n"
 abbrev pub unobserved_lines : NetlistView → List ℕ → List ℕ
 unobserved_lines netlist nets = flat_map (λ net. unobserved_line (name_at netlist net)) nets
 
--- what is told of a netlist, of whose nets these are unobserved
+-- the text that describes a netlist with these unobserved nets
 pub record IsInfoText (netlist : NetlistView) (unobserved text : List ℕ) : Type 0 where
   pub fan_outs : List ℕ
   pub fan_in_line : List ℕ
@@ -75,7 +75,7 @@ pub record IsInfoText (netlist : NetlistView) (unobserved text : List ℕ) : Typ
   pub depth : IsDepthLine netlist depth_line
   pub lines : text ≡ size_lines netlist ++ gate_lines netlist ++ fan_in_line ++ fan_out_line ++ depth_line ++ unobserved_lines netlist unobserved
 
--- a line for which this holds stands behind the text
+-- a line for which this holds has been added to the text
 pub record AddsLine (P : List ℕ → Type 0) (old new : List ℕ) : Type 0 where
   pub line : List ℕ
   pub holds : P line

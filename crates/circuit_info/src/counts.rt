@@ -1,4 +1,4 @@
-//! What is counted of a netlist's nets and pins.
+//! Counts of a netlist's nets and pins.
 ghost use Rattle.std.specs.Prelude.{◌≡◌, ◌<◌, length, IfOk};
 ghost use Rattle.circuit_info.specs.Counts.{fan_ins, gate_count, part_code, part_count, IsFanOuts, IsFirstGreatest};
 
@@ -6,7 +6,7 @@ use logic3::GateKind;
 use netlist::{Netlist, Part};
 use std::alloc::{AllocError, Global};
 
-/// How many nets this part drives: 0 to 100,000.
+/// Returns the number of nets that this part drives: 0 to 100,000.
 pub fn part_count(netlist: &Netlist, part: Part) -> u32
     ensures { result ≡ part_count netlist.now part }
 {
@@ -19,7 +19,7 @@ pub fn part_count(netlist: &Netlist, part: Part) -> u32
     count
 }
 
-/// How many nets gates drive: 0 to 100,000.
+/// Returns the number of nets that gates drive: 0 to 100,000.
 pub fn gate_count(netlist: &Netlist) -> u32
     ensures { result ≡ gate_count netlist.now }
 {
@@ -32,7 +32,7 @@ pub fn gate_count(netlist: &Netlist) -> u32
     gates
 }
 
-/// A number for each part, no two alike.
+/// Returns a distinct number for each part.
 fn part_code(part: Part) -> u8
     ensures { result ≡ part_code part }
 {
@@ -50,10 +50,10 @@ fn part_code(part: Part) -> u8
     }
 }
 
-/// For each net how many pins it has, in order.
+/// Returns the number of pins of each net, in order.
 ///
 /// # Errors
-/// An `AllocError` where a growth was refused.
+/// `AllocError` if an allocation fails.
 pub fn fan_ins(alloc: Global, netlist: &Netlist) -> Result<Vec<usize>, AllocError>
     ensures { IfOk result (λ counts. counts.items ≡ fan_ins netlist.now) }
 {
@@ -64,12 +64,12 @@ pub fn fan_ins(alloc: Global, netlist: &Netlist) -> Result<Vec<usize>, AllocErro
     Ok(counts)
 }
 
-/// For each net at how many pins it stands, in order; a net that stands at two pins of one net counts twice.
+/// Returns the number of pins that each net feeds, in order. Two pins of one gate count twice.
 ///
 /// Takes time and memory in proportion to the nets and pins.
 ///
 /// # Errors
-/// An `AllocError` where a growth was refused.
+/// `AllocError` if an allocation fails.
 pub fn fan_outs(alloc: Global, netlist: &Netlist) -> Result<Vec<usize>, AllocError>
     ensures { IfOk result (λ counts. IsFanOuts netlist.now counts.items) }
 {
@@ -81,7 +81,7 @@ pub fn fan_outs(alloc: Global, netlist: &Netlist) -> Result<Vec<usize>, AllocErr
     Ok(counts)
 }
 
-/// The first place of the greatest of these numbers. There is at least one.
+/// Returns the first place of the greatest of these numbers. There is at least one.
 pub fn first_greatest(numbers: &[usize]) -> usize
     requires { 0 < length numbers.now }
     ensures { IsFirstGreatest numbers.now result }

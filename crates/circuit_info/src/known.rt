@@ -1,10 +1,10 @@
-//! Which levels are known while they are looked for.
+//! Which levels are known during the walk.
 ghost use Rattle.std.specs.Prelude.{◌≡◌, ◌<◌, false, length, slice_index_or, All};
 ghost use Rattle.circuit_info.specs.Climb.{is_known, KnownBefore};
 
 use netlist::Netlist;
 
-/// Whether the level of a net is known: a gate whose level isn't has 0.
+/// Returns whether the level of a net is known. A gate whose level isn't known has 0.
 pub(crate) fn is_known(netlist: &Netlist, net: u32, levels: &[u32]) -> bool
     requires size { length levels.now ≡ length netlist.now.nets }
     requires net { net < length netlist.now.nets }
@@ -13,7 +13,8 @@ pub(crate) fn is_known(netlist: &Netlist, net: u32, levels: &[u32]) -> bool
     !(netlist.part(net).is_gate() && levels[net as usize] == 0)
 }
 
-/// The first place, from one on, of a pin whose level isn't known; past the last pin where all are.
+/// Returns the first place, from one on, of a pin whose level isn't known, or a place past the last pin if
+/// all are known.
 pub(crate) fn first_unknown(netlist: &Netlist, pins: &[u32], from: usize, levels: &[u32]) -> usize
     requires size { length levels.now ≡ length netlist.now.nets }
     requires pins { All (λ pin. pin < length netlist.now.nets) pins.now }

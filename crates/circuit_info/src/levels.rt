@@ -1,8 +1,8 @@
-//! How many gates stand one behind the other, and the loop that is named where some have no level.
+//! The levels of gates, and the loop that is named if some gates have no level.
 //!
-//! A walk goes from gates back over their pins, as deep as it can, and gives a gate its level once it knows those of all
-//! its pins. Where it comes to a gate that it entered before and that has no level yet, none of the gates of its path has
-//! a level, and it leaves them all. It keeps its path in a list of its own, so that long chains of gates take no stack.
+//! A depth-first walk goes from gates back over their pins, and gives a gate its level once it knows those of all its
+//! pins. If it reaches a gate that it entered before and that has no level yet, none of the gates on its path has a
+//! level, and it leaves them all. It keeps its path in a list, so that long chains of gates need no stack.
 ghost use Rattle.std.specs.Prelude.{◌≡◌, ℕ, ◌+◌, ◌<◌, ◌≤◌, [], ◌∷◌, ◌++◌, length, map, set, true, All, IfOk, OnOk};
 ghost use Rattle.netlist.specs.Netlist.{IsNetlist};
 ghost use Rattle.netlist.specs.Marks.{KeepsSeen};
@@ -15,24 +15,24 @@ use crate::loops::{least_without, named_loop};
 use netlist::Netlist;
 use std::alloc::{AllocError, Global};
 
-/// How gates stand behind each other.
+/// The levels of nets, or a loop of gates.
 #[derive(Debug, Drop)]
 pub enum Depths {
     /// The level of each net, in order: 0 for inputs and flip-flops, and for a gate one more than the highest level of
     /// the nets at its pins.
     Levels(Vec<u32>),
-    /// The numbers of gates that form a loop, each once: each has the next one at a pin, and the last one the first. Where
-    /// there are several loops, it is the one that this walk comes to: go from the least net that has no level, each time
-    /// on to the net at the first of its pins that has none, until a net comes again; the loop begins at that one.
+    /// The numbers of gates that form a loop, each once: each has the next one at a pin, and the last one the first. If
+    /// there are several loops, it is the one that this walk reaches: start at the least net without a level, go each
+    /// time to the net at the first pin without one, and stop when a net repeats. The loop begins at that net.
     Loop(Vec<u32>),
 }
 
-/// The levels of a netlist's nets, or else the named loop of its gates, in which no flip-flop stands.
+/// Returns the levels of a netlist's nets, or the named loop of its gates. A loop contains no flip-flop.
 ///
 /// Takes time and memory in proportion to the nets and pins.
 ///
 /// # Errors
-/// An `AllocError` where a growth was refused.
+/// `AllocError` if an allocation fails.
 pub fn levels_of(alloc: Global, netlist: &Netlist) -> Result<Depths, AllocError>
     ensures { IfOk result (IsDepths netlist.now) }
 {
@@ -51,7 +51,7 @@ pub fn levels_of(alloc: Global, netlist: &Netlist) -> Result<Depths, AllocError>
     }
 }
 
-/// The greatest of these numbers; 0 where there are none.
+/// Returns the greatest of these numbers; 0 if there are none.
 pub fn greatest(numbers: &[u32]) -> u32
     ensures { result ≡ greatest numbers.now }
 {
@@ -83,7 +83,7 @@ struct Walk {
 }
 
 impl Walk {
-    /// Goes on from each gate.
+    /// Walks from each gate.
     fn climb_all(&mut self, netlist: &Netlist) -> Result<(), AllocError>
         requires climb { IsClimb netlist.now self.old.levels.items self.old.seen.items self.old.path.items }
         requires path { self.old.path.items ≡ [] }
@@ -99,7 +99,7 @@ impl Walk {
         Ok(())
     }
 
-    /// Goes to a gate.
+    /// Enters a gate.
     fn enter(&mut self, net: u32) -> Result<(), AllocError>
         requires { net < length self.old.seen.items }
         ensures seen { OnOk result (self.new.seen.items ≡ set self.old.seen.items net true) }
@@ -114,7 +114,7 @@ impl Walk {
         Ok(())
     }
 
-    /// Goes on until all gates of the path have their levels, or it is sure that they have none.
+    /// Walks on until all gates of the path have their levels, or are known to have none.
     fn climb(&mut self, netlist: &Netlist) -> Result<(), AllocError>
         requires formed { IsNetlist netlist.now }
         requires climb { IsClimb netlist.now self.old.levels.items self.old.seen.items self.old.path.items }
@@ -143,7 +143,7 @@ impl Walk {
     }
 }
 
-/// One more than the greatest level of these pins.
+/// Returns one more than the greatest level of these pins.
 fn level_above(pins: &[u32], levels: &[u32]) -> u32
     requires pins { All (λ pin. pin < length levels.now) pins.now }
     requires few { (net : ℕ) → level_at levels.now net ≤ 100_000 }

@@ -1,5 +1,5 @@
-//! What a circuit is, in numbers: how many nets each part drives, how many pins nets have and stand at, how many gates
-//! stand one behind the other, and whether gates form a loop; and the text that tells all of it.
+//! Numbers of a circuit: the nets that each part drives, the pins that nets have and feed, the levels of gates, and
+//! whether gates form a loop; and the text that reports them.
 #![tactic(auto)]
 
 mod counts;

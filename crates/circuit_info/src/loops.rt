@@ -1,4 +1,4 @@
-//! The loop of gates that is named where some nets have no level.
+//! The loop of gates that is named if some nets have no level.
 ghost use Rattle.std.specs.Prelude.{◌≡◌, ℕ, ◌<◌, length, slice_index_or, Contains, IfNone, IfOk, IfSome};
 ghost use Rattle.netlist.specs.Netlist.{IsNetlist};
 ghost use Rattle.circuit_info.specs.Loops.{HasLevel, IsLeastWithout, IsNamedLoop, LeadsOn};
@@ -8,7 +8,7 @@ use crate::known::{first_unknown, is_known};
 use netlist::Netlist;
 use std::alloc::{AllocError, Global};
 
-/// The least net that has no level; None where each has one.
+/// Returns the least net without a level; `None` if each net has one.
 pub(crate) fn least_without(netlist: &Netlist, levels: &[u32]) -> Option<u32>
     requires { KnowsLevels netlist.now levels.now }
     ensures least { IfSome result (IsLeastWithout netlist.now) }
@@ -22,7 +22,7 @@ pub(crate) fn least_without(netlist: &Netlist, levels: &[u32]) -> Option<u32>
     None
 }
 
-/// The loop that the walk from the least net without a level comes to.
+/// Returns the loop that the walk from the least net without a level reaches.
 pub(crate) fn named_loop(
     alloc: Global,
     netlist: &Netlist,
@@ -44,7 +44,7 @@ pub(crate) fn named_loop(
     rest_from(alloc, way.as_slice(), net)
 }
 
-/// The net at the first pin that has no level, of a net that has none.
+/// Returns the net at the first pin without a level, of a net without one.
 fn next(netlist: &Netlist, levels: &[u32], net: u32) -> u32
     requires formed { IsNetlist netlist.now }
     requires levels { KnowsLevels netlist.now levels.now }
@@ -57,7 +57,7 @@ fn next(netlist: &Netlist, levels: &[u32], net: u32) -> u32
     pins[place]
 }
 
-/// The nets of a way from this one on, in order.
+/// Returns the nets of a way from this one on, in order.
 fn rest_from(alloc: Global, way: &[u32], net: u32) -> Result<Vec<u32>, AllocError>
     requires { Contains way.now net }
     ensures { IfOk result (λ nets. IsRestFrom way.now net nets.items) }
@@ -67,7 +67,7 @@ fn rest_from(alloc: Global, way: &[u32], net: u32) -> Result<Vec<u32>, AllocErro
     Ok(nets)
 }
 
-/// The first place of a net on a way.
+/// Returns the first place of a net on a way.
 fn place_of(way: &[u32], net: u32) -> usize
     requires { Contains way.now net }
     ensures within { result < length way.now }

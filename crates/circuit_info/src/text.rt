@@ -1,4 +1,4 @@
-//! The text that tells what a circuit is.
+//! The text that describes a circuit.
 ghost use Rattle.std.specs.Prelude.{◌≡◌, ◌<◌, ◌++◌, length, All, IfOk, OnOk};
 ghost use Rattle.netlist.specs.Netlist.{IsNetlist};
 ghost use Rattle.circuit_info.specs.Text.{count_line, gate_lines, loop_line, part_line, size_lines, unobserved_line, unobserved_lines, AddsLine, IsDepthLine, IsGreatestLine, IsInfoText};
@@ -10,17 +10,17 @@ use logic3::GateKind;
 use netlist::{Netlist, Part, push_names};
 use std::alloc::{AllocError, Global};
 
-/// The text that tells what a netlist is, of whose nets these are unobserved: no output hangs on them.
+/// Returns the text that describes a netlist. `unobserved` has the nets that no output depends on.
 ///
-/// Each line ends with a line feed: `nets 17`, `pins 21`, `inputs 4`, `outputs 1`, `flip-flops 3`, `gates 10`, and a line
-/// for each kind of gate, as `NOR 4`; `fan-in 2 G8`, the greatest number of pins that a net has and the first net that
-/// has it, and `fan-out 3 G11`, the same of the pins at which a net stands; `levels 6`, the greatest level, or `loop x y`,
-/// the named loop, where some net has no level; and `unobserved y` for each of the given nets, in order.
+/// Each line ends with a line feed: `nets 17`, `pins 21`, `inputs 4`, `outputs 1`, `flip-flops 3`, `gates 10`, and a
+/// line for each kind of gate, such as `NOR 4`; `fan-in 2 G8`, the greatest number of pins of a net and the first net
+/// that has it, and `fan-out 3 G11`, the same for the pins that a net feeds; `levels 6`, the greatest level, or, if
+/// some net has no level, `loop x y`, the named loop; and `unobserved y` for each of the given nets, in order.
 ///
 /// Takes time and memory in proportion to the nets and pins.
 ///
 /// # Errors
-/// An `AllocError` where a growth was refused.
+/// `AllocError` if an allocation fails.
 pub fn info_text(
     alloc: Global,
     netlist: &Netlist,
@@ -41,7 +41,7 @@ pub fn info_text(
     Ok(text)
 }
 
-/// Adds how many nets and pins there are, and what of them is no gate.
+/// Adds the numbers of nets, pins, inputs, outputs and flip-flops.
 fn push_sizes(alloc: Global, text: &mut Vec<u8>, netlist: &Netlist) -> Result<(), AllocError>
     ensures lines { OnOk result (text.new.items ≡ text.old.items ++ size_lines netlist.now) }
     ensures well_formed { IsNetlist netlist.now }
@@ -55,7 +55,7 @@ fn push_sizes(alloc: Global, text: &mut Vec<u8>, netlist: &Netlist) -> Result<()
     push_part(text, netlist, b"flip-flops", Part::Flop)
 }
 
-/// Adds how many gates there are, in all and of each kind.
+/// Adds the number of gates, in all and of each kind.
 fn push_gates(text: &mut Vec<u8>, netlist: &Netlist) -> Result<(), AllocError>
     ensures { OnOk result (text.new.items ≡ text.old.items ++ gate_lines netlist.now) }
 {
@@ -70,7 +70,7 @@ fn push_gates(text: &mut Vec<u8>, netlist: &Netlist) -> Result<(), AllocError>
     push_part(text, netlist, b"BUF", Part::Gate(GateKind::Buf))
 }
 
-/// Adds a word, and how many nets a part drives.
+/// Adds a word, and the number of nets that a part drives.
 fn push_part(
     text: &mut Vec<u8>,
     netlist: &Netlist,
@@ -153,7 +153,7 @@ fn push_unobserved(text: &mut Vec<u8>, netlist: &Netlist, nets: &[u32]) -> Resul
     Ok(())
 }
 
-/// Adds the name of a net that no output hangs on.
+/// Adds the name of a net that no output depends on.
 fn push_unobserved_net(text: &mut Vec<u8>, name: &[u8]) -> Result<(), AllocError>
     ensures { OnOk result (text.new.items ≡ text.old.items ++ unobserved_line name.now) }
 {

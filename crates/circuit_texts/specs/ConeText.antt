@@ -17,7 +17,8 @@ pub record IsExtractText (netlist : NetlistView) (names : List (List ℕ)) (answ
   pub extracted : IsExtract netlist names extract
   pub text : answer ≡ or_fault sim_of_bench (within_limit (canonical extract))
 
--- the answer to names: where there are none there is no net to write; a name that no net has is refused; else it is the text of the extract
+-- the answer to names: if there are none, there is no net to write; a name that no net has is refused; otherwise it is
+-- the text of the extract
 abbrev pub IsConeOfNetlist : NetlistView → List (List ℕ) → Result (List ℕ) SimFault → Type 0
 IsConeOfNetlist netlist [] answer = answer ≡ Err (Bench NoNets)
 IsConeOfNetlist netlist names answer = by_unknown (first_unknown netlist names)

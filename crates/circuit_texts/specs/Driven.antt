@@ -14,7 +14,7 @@ use Rattle.prepared_runs.specs.Source.{or_fault}
 use Rattle.circuit_texts.specs.declared.driven_fault.DrivenFault.{DrivenFault}
 use Rattle.circuit_texts.specs.declared.driven_fault.DrivenFault.TheVariants.{Setting, Bench, Drives, Memory}
 
--- ---- want of memory in any layer is the text's own
+-- ---- out of memory in any layer is the text's own fault
 
 abbrev pub driven_of_bench : BenchFault → DrivenFault
 driven_of_bench bench.Memory = Memory

@@ -1,4 +1,4 @@
--- What a circuit is, as a text.
+-- The description of a circuit, as a text.
 use Rattle.std.specs.Prelude.{◌≡◌, ℕ, List, map, Result, Ok, Err}
 use Rattle.bench_text.specs.declared.fault.BenchFault.{BenchFault}
 use Rattle.bench_text.specs.NetlistOf.{netlist_of}
@@ -6,7 +6,7 @@ use Rattle.netlist.specs.Netlist.{NetlistView, name_at}
 use Rattle.fanin_cone.specs.Cone.{IsOutsideOf}
 use Rattle.circuit_info.specs.Text.{IsInfoText}
 
--- the text that tells what a netlist is, where unobserved are the nets outside the cones of its outputs
+-- the text that describes a netlist, whose unobserved nets are those outside the cones of its outputs
 pub record IsInfoOf (netlist : NetlistView) (text : List ℕ) : Type 0 where
   pub unobserved : List ℕ
   pub outside : IsOutsideOf netlist (map (name_at netlist) netlist.outputs) unobserved

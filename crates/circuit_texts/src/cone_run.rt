@@ -13,12 +13,12 @@ use netlist::Netlist;
 use prepared_runs::SimFault;
 use std::alloc::Global;
 
-/// The canonical .bench text of the nets in the fan-in cones of the nets of these names, in their
-/// old order, whose outputs are the nets of these names, each where its name stands first.
+/// Returns the canonical .bench text of the nets in the fan-in cones of the nets of these names, in their old
+/// order. Its outputs are the nets of these names, each at the first place of its name.
 ///
 /// # Errors
-/// [`SimFault::Bench`] where the netlist is refused, where there is no name (`NoNets`), and where the
-/// text would be too long (`TooLong`); [`SimFault::UnknownNet`] where no net has one of the names.
+/// [`SimFault::Bench`] if the netlist is refused, if there is no name (`NoNets`), and if the text would be
+/// too long (`TooLong`); [`SimFault::UnknownNet`] if no net has one of the names.
 pub fn cone_text(alloc: Global, bench: &[u8], names: &[&[u8]]) -> Result<Vec<u8>, SimFault>
     ensures at_once { longest_text < length bench.now → result ≡ Err (Bench TooLong) }
     ensures cone { result ≢ Err SimFault.Memory → IsConeAnswer bench.now (seen_names names.now)
@@ -31,7 +31,7 @@ pub fn cone_text(alloc: Global, bench: &[u8], names: &[&[u8]]) -> Result<Vec<u8>
     extract_text(alloc, &netlist, names)
 }
 
-/// The text of the nets in the cones of at least one name.
+/// Returns the text of the nets in the cones of at least one name.
 fn extract_text(alloc: Global, netlist: &Netlist, names: &[&[u8]]) -> Result<Vec<u8>, SimFault>
     requires { 0 < length (seen_names names.now) }
     ensures { result ≢ Err SimFault.Memory → IsConeOfNetlist netlist.now (seen_names names.now)

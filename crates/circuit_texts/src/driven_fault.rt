@@ -9,8 +9,8 @@ use timing_text::OptionFault;
 
 /// Why there is no stimulus text for a netlist.
 ///
-/// The first fault decides: the horizon, the netlist, what is to drive its inputs. A want of memory of
-/// any layer is [`Memory`](Self::Memory).
+/// The first fault is reported, in this order: the horizon, the netlist, what is to drive its inputs. If an
+/// allocation of any layer fails, the fault is [`Memory`](Self::Memory).
 #[derive(Clone, Copy, Debug, PartialEq, Eq, Error)]
 pub enum DrivenFault {
     /// The horizon is refused.
@@ -22,7 +22,7 @@ pub enum DrivenFault {
     /// What is to drive the inputs is refused.
     #[error("{0}")]
     Drives(DriveFault),
-    /// A growth was refused.
+    /// An allocation failed.
     #[error("Memory")]
     Memory,
 }

@@ -1,4 +1,4 @@
-//! What a circuit is, in numbers and names.
+//! The description of a circuit, in numbers and names.
 ghost use Rattle.std.specs.Prelude.{◌≡◌, ◌≢◌, ◌<◌, length, Err, IfOk};
 ghost use Rattle.std.specs.Result.{result_map_both};
 ghost use Rattle.text_lines.specs.Text.{longest_text};
@@ -11,11 +11,11 @@ use fanin_cone::outside;
 use netlist::Netlist;
 use std::alloc::{AllocError, Global};
 
-/// What a circuit is, as [`circuit_info::info_text`] tells it; unobserved are the nets that no output
-/// hangs on.
+/// Returns the description of a circuit, as [`circuit_info::info_text`] writes it. Unobserved are the nets
+/// outside the fan-in cones of all outputs.
 ///
 /// # Errors
-/// That of [`read`], where the netlist is refused.
+/// That of [`read`] if the netlist is refused.
 pub fn info(alloc: Global, bench: &[u8]) -> Result<Vec<u8>, BenchFault>
     ensures at_once { longest_text < length bench.now → result ≡ Err TooLong }
     ensures info { result ≢ Err BenchFault.Memory → IsInfoAnswer bench.now
@@ -25,7 +25,7 @@ pub fn info(alloc: Global, bench: &[u8]) -> Result<Vec<u8>, BenchFault>
     Ok(info_of(alloc, &netlist)?)
 }
 
-/// What a netlist is.
+/// Returns the description of a netlist.
 fn info_of(alloc: Global, netlist: &Netlist) -> Result<Vec<u8>, AllocError>
     ensures { IfOk result (λ text. IsInfoOf netlist.now text.items) }
 {

@@ -1,4 +1,4 @@
-//! Texts about a circuit, and of parts of it: what it is, fan-in cones, and stimuli of its inputs.
+//! Texts made from a circuit: its description, fan-in cones, and stimuli of its inputs.
 #![tactic(auto)]
 
 mod cone_run;

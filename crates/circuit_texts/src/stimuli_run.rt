@@ -10,8 +10,8 @@ use drawn_stimuli::{Draws, Driven, stimuli_text};
 use std::alloc::Global;
 use timing_text::Horizon;
 
-/// The stimulus text of the inputs of a netlist up to a horizon: some are driven by name, and all
-/// others are drawn, as [`drawn_stimuli::stimuli_text`] says.
+/// Returns the stimulus text of the inputs of a netlist up to a horizon: some are driven by name, and all
+/// others are drawn, as in [`drawn_stimuli::stimuli_text`].
 ///
 /// # Errors
 /// [`DrivenFault::Setting`] for the horizon, then [`DrivenFault::Bench`] for the netlist, then

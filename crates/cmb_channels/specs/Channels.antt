@@ -4,7 +4,7 @@ use Rattle.std.specs.List.{range_with_len}
 use Rattle.design.specs.Pins.{all_fed}
 use Rattle.cmb_channels.specs.declared.message.Message.{Message}
 
--- the messages that wait at each pin, the net that feeds each pin, and how many nets there are
+-- the messages that wait at each pin, the net that feeds each pin, and the number of nets
 pub record Channels : Type 0 where
   pub lists : List (List Message)
   pub sources : List ℕ
@@ -20,7 +20,7 @@ abbrev pub source_in : List (List ℕ) → ℕ → ℕ
 source_in [] pin = 0
 source_in (pins ∷ fed) pin = if is_among pin pins then 0 else suc (source_in fed pin)
 
--- the net that feeds each of so many pins
+-- the net that feeds each of a number of pins
 abbrev pub sources_in : List (List ℕ) → ℕ → List ℕ
 sources_in fed pins = map (source_in fed) (range_with_len 0 pins)
 
@@ -29,6 +29,6 @@ module _ {A : Type 0} where
   abbrev pub pins_in : List (Vec ℕ A) → List (List ℕ)
   pins_in fed = map (λ pins. pins.items) fed
 
--- each net feeds the pins whose source it is, of so many
+-- each net feeds the pins whose source it is, among a number of pins
 abbrev pub AreFed : List (List ℕ) → ℕ → Type 0
 AreFed fed pins = fed ≡ all_fed (length fed) (sources_in fed pins)

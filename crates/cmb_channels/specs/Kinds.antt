@@ -1,4 +1,4 @@
--- Which kind of message one is.
+-- The kinds of messages.
 use Rattle.std.specs.Prelude.{Bool, true, false}
 use Rattle.cmb_channels.specs.declared.message.Message.{Message}
 use Rattle.cmb_channels.specs.declared.message.Message.TheVariants.{Change as Changes, Null}

@@ -1,4 +1,4 @@
--- The logs of nets, and what pins have taken of them.
+-- The logs of nets, and what pins have taken from them.
 use Rattle.std.specs.Prelude.{◌≡◌, ℕ, ◌+◌, ◌-◌, ◌%◌, ◌<◌, ◌≤◌, ◌==◌, nat_le, if◌then◌else◌, List, [], ◌∷◌, ◌++◌, length, map, drop, count_by, All, Option, None, Some, slice_get}
 use Rattle.std.specs.List.{range_with_len}
 use Rattle.std.specs.Option.{option_map_or}
@@ -9,7 +9,7 @@ use Rattle.cmb_channels.specs.Lists.{update}
 
 -- ---- counts
 
--- counts of messages go round at this
+-- counts of messages wrap around at this number
 abbrev pub two_to_64 : ℕ
 two_to_64 = 18_446_744_073_709_551_616
 
@@ -22,7 +22,7 @@ past from count = (count + (two_to_64 - from)) % two_to_64
 
 -- ---- the log of a net
 
--- a message, and how many pins haven't taken it
+-- a message, and the number of pins that haven't taken it
 pub record EntryView : Type 0 where
   pub message : Message
   pub left : ℕ
@@ -32,7 +32,8 @@ abbrev pub said_of : ℕ → Option Value → Message
 said_of tick (Some value) = Changes (record { tick = tick; value = value })
 said_of tick None = Null tick
 
--- how many pins the net feeds, how many messages were cut away, and those that some pin hasn't taken, the oldest first
+-- the number of pins that the net feeds, the number of messages that were removed, and those that some pin hasn't taken, the
+-- oldest first
 pub record LogView : Type 0 where
   pub readers : ℕ
   pub cut : ℕ
@@ -41,17 +42,17 @@ pub record LogView : Type 0 where
 abbrev pub empty_log : ℕ → LogView
 empty_log readers = record { readers = readers; cut = 0; entries = [] }
 
--- the log with a message more; where no pin reads it nothing is kept
+-- the log with one more message; if no pin reads the log, it keeps nothing
 abbrev pub written : Message → LogView → LogView
 written message log =
     if log.readers == 0 then log
     else record log { entries = log.entries ++ record { message = message; left = log.readers } ∷ [] }
 
--- a pin more has taken the message
+-- one more pin has taken the message
 abbrev pub seen : EntryView → EntryView
 seen entry = record entry { left = entry.left - 1 }
 
--- the log with these entries, less the first where every pin has taken it
+-- the log with these entries, without the first if every pin has taken it
 abbrev pub trimmed : LogView → List EntryView → LogView
 trimmed log [] = record log { entries = [] }
 trimmed log (entry ∷ entries) =
@@ -62,11 +63,11 @@ trimmed log (entry ∷ entries) =
 abbrev pub read_at : ℕ → LogView → LogView
 read_at place log = trimmed log (update seen place log.entries)
 
--- what a pin hasn't taken that has taken so many
+-- the messages that a pin that has taken a number of them hasn't taken
 abbrev pub unread : LogView → ℕ → List Message
 unread log count = map (λ (entry : EntryView). entry.message) (drop (past log.cut count) log.entries)
 
--- pins that have taken so many messages read this log
+-- pins with these counts of taken messages read this log
 pub record IsLog (log : LogView) (counts : List ℕ) : Type 0 where
   pub cut : log.cut < two_to_64
   pub readers : log.readers ≡ length counts
@@ -79,17 +80,17 @@ pub record IsLog (log : LogView) (counts : List ℕ) : Type 0 where
 
 -- ---- the logs of all nets
 
--- what waits at a pin that this net feeds and that has taken so many messages
+-- the messages that wait at a pin that this net feeds, given the number that it has taken
 abbrev pub unread_of : List LogView → ℕ → ℕ → List Message
 unread_of logs source count = option_map_or (λ log. unread log count) (slice_get logs source) []
 
--- what waits at each pin
+-- the messages that wait at each pin
 abbrev pub unread_lists : List LogView → List ℕ → List ℕ → List (List Message)
 unread_lists logs [] counts = []
 unread_lists logs (source ∷ sources) [] = []
 unread_lists logs (source ∷ sources) (count ∷ counts) = unread_of logs source count ∷ unread_lists logs sources counts
 
--- how many messages the pins have taken that a net feeds
+-- the numbers of messages that the pins that a net feeds have taken
 abbrev pub counts_of : ℕ → List ℕ → List ℕ → List ℕ
 counts_of net [] counts = []
 counts_of net (source ∷ sources) [] = []
@@ -102,6 +103,6 @@ pub record AreLogs (logs : List LogView) (sources counts : List ℕ) : Type 0 wh
   pub nets : All (λ source. source < length logs) sources
   pub logs_are : (net : ℕ) (log : LogView) → slice_get logs net ≡ Some log → IsLog log (counts_of net sources counts)
 
--- an empty log for each of so many nets, which the pins of these sources read
+-- an empty log for each of a number of nets, read by the pins with these sources
 abbrev pub logs_read_by : ℕ → List ℕ → List LogView
 logs_read_by nets sources = map (λ net. empty_log (count_by (λ source. source == net) sources)) (range_with_len 0 nets)

@@ -11,12 +11,12 @@ use std::alloc::{AllocError, Global};
 /// First-in first-out channels from nets to the pins that they feed: a list of waiting messages for
 /// each pin.
 ///
-/// Nets and pins are numbered as in the [`Design`] that the channels were made for, which tells who feeds
-/// a pin ([`Design::pin_source`]) and which pins a net feeds ([`Design::pins_fed`]). A method that takes
-/// the number of a net or a pin asks for one of that design.
+/// Nets and pins are numbered as in the [`Design`] that the channels were made for, which has the net that
+/// feeds a pin ([`Design::pin_source`]) and the pins that a net feeds ([`Design::pins_fed`]). A method that
+/// takes the number of a net or a pin requires one of that design.
 ///
-/// Channels lose nothing, make up nothing, and keep the order of each pin's messages; how soon a message is
-/// taken plays no part (Chandy and Misra, 1979).
+/// Channels lose no message, create none, and keep the order of each pin's messages. When a message is
+/// taken doesn't matter (Chandy and Misra, 1979).
 pub trait Fabric: Drop {
     /// The messages that wait at each pin, the oldest first.
     ghost lists: { Self → List (List Message) };
@@ -24,21 +24,21 @@ pub trait Fabric: Drop {
     /// The net that feeds each pin.
     ghost sources: { Self → List ℕ };
 
-    /// How many nets there are.
+    /// The number of nets.
     ghost nets: { Self → ℕ };
 
-    /// Channels of a design, with nothing in them. The design is asked now, and not kept.
+    /// Makes empty channels for a design. The design is read in this call and not kept.
     ///
-    /// An `AllocError` leaves nothing behind.
+    /// After an `AllocError` nothing remains allocated.
     fn empty_for(alloc: Global, design: &Design) -> Result<Self, AllocError>
         ensures lists { IfOk result (λ fabric. lists fabric ≡ replicate (pin_count design.now.circuit) []) }
         ensures sources { IfOk result (λ fabric. sources fabric ≡ sources_of design.now.circuit) }
         ensures nets { IfOk result (λ fabric. nets fabric ≡ length design.now.circuit) };
 
-    /// Puts a message at the end of the list of each pin that the net feeds, and of no other; a net at two
+    /// Adds a message at the end of the list of each pin that the net feeds, and of no other. A net at two
     /// pins of a gate sends to both.
     ///
-    /// An `AllocError` leaves all lists as they were: the message went to no pin.
+    /// An `AllocError` leaves all lists unchanged: the message is sent to no pin.
     fn send(&mut self, net: u32, message: Message) -> Result<(), AllocError>
         requires { net < nets self.old }
         ensures ok { OnOk result (lists self.new ≡ sent net (message ∷ []) (sources self.old) (lists self.old)) }
@@ -47,8 +47,8 @@ pub trait Fabric: Drop {
         ensures sources { sources self.new ≡ sources self.old }
         ensures nets { nets self.new ≡ nets self.old };
 
-    /// Takes the oldest message that waits at the pin, or answers `None` where none does, and then changes
-    /// nothing. What waits at other pins stays, also what the same net sent there. Takes no memory.
+    /// Takes the oldest message that waits at the pin. If none waits, returns `None` and changes nothing.
+    /// Messages at other pins are unaffected, including those from the same net. Allocates nothing.
     fn take(&mut self, pin: u32) -> Option<Message>
         requires { pin < length (lists self.old) }
         ensures front { slice_index_or (lists self.old) pin [] ≡ option_to_list result ++ slice_index_or (lists self.new) pin [] }
@@ -57,7 +57,7 @@ pub trait Fabric: Drop {
         ensures sources { sources self.new ≡ sources self.old }
         ensures nets { nets self.new ≡ nets self.old };
 
-    /// How many messages wait at the pin. Takes no memory.
+    /// Returns the number of messages that wait at the pin. Allocates nothing.
     fn waiting(&self, pin: u32) -> u64
         requires { pin < length (lists self.now) }
         ensures { result ≡ length (slice_index_or (lists self.now) pin []) };

@@ -14,18 +14,18 @@ use log::Log;
 use std::alloc::{AllocError, Global};
 use std::marker::Model;
 
-/// Channels as a log for each net, of the messages that it sent, and a count for each pin, of those
-/// that it has taken. What every pin of the net has taken is cut away.
+/// Channels with a log for each net, of the messages that it sent, and a count for each pin, of the
+/// messages that it has taken. Messages that every pin of the net has taken are removed.
 ///
-/// Sending, taking and counting take constant time on the whole, however many pins the net feeds. A
-/// message takes sixteen bytes, for all pins together.
+/// Sending, taking and counting take amortized constant time, for any number of pins that the net
+/// feeds. A message needs sixteen bytes, for all pins together.
 #[derive(Debug, Drop)]
 pub struct Logs {
     // The net that feeds each pin.
     sources: Vec<u32>,
     // How many messages each pin has taken, modulo 2^64.
     counts: Vec<u64>,
-    // What each net sent.
+    // The log of each net.
     logs: Vec<Log>,
 }
 
@@ -46,8 +46,8 @@ impl Model for Logs {
 }
 
 impl Logs {
-    /// How many messages the log of a net holds: as many as wait at the pin, of those that the net
-    /// feeds, where most wait, and 0 where it feeds none. Takes no memory.
+    /// Returns the number of messages in the log of a net: the largest number that waits at a pin
+    /// that the net feeds, or 0 if it feeds none. Allocates nothing.
     pub fn kept(&self, net: u32) -> u64
         requires { net < self.now.nets }
         ensures { result ≡ most_waiting net self.now.sources self.now.lists }
@@ -84,7 +84,7 @@ impl Fabric for Logs {
         ensures pins { length self.new.lists ≡ length self.old.lists }
         ensures sources { self.new.sources ≡ self.old.sources }
         ensures nets { self.new.nets ≡ self.old.nets }
-        // What a net sends that feeds no pin takes none.
+        // A send from a net that feeds no pin allocates nothing.
         ensures memory { OnErr result (0 < length (pins_fed net self.old.sources)) }
     {
         self.logs[net as usize].write(message)?;

@@ -10,15 +10,15 @@ use std::alloc::{AllocError, Global};
 use std::collections::VecDeque;
 use std::marker::Model;
 
-/// Channels as a queue of waiting messages for each pin.
+/// Channels with a queue of waiting messages for each pin.
 ///
-/// Sending takes time in proportion to the pins that the net feeds, taking and counting constant
-/// time. A message takes memory at each pin where it waits.
+/// Sending takes time in proportion to the pins that the net feeds; taking and counting take constant
+/// time. A message needs memory at each pin where it waits.
 #[derive(Debug, Drop)]
 pub struct Queues {
     // The pins that each net feeds, in order.
     fed: Vec<Vec<u32>>,
-    // What waits at each pin.
+    // The messages that wait at each pin.
     queues: Vec<VecDeque<Message>>,
 }
 

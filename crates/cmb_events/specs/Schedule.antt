@@ -1,4 +1,4 @@
--- Which events a circuit has, what a schedule text says of it, and what a seed picks.
+-- The events of a circuit, those that a schedule text gives, and those that a seed picks.
 use Rattle.std.specs.Prelude.{ℕ, ◌+◌, ◌-◌, ◌%◌, ◌<◌, nat_lt, if◌then◌else◌, List, [], ◌∷◌, length, map, position, Result, Ok, Err, codes, bytes_eq, slice_get}
 use Rattle.std.specs.Option.{option_map_or, ok_or}
 use Rattle.rand_core.specs.Steps.{first_words}
@@ -18,17 +18,17 @@ abbrev pub Exists : Circuit → Event → Type 0
 Exists circuit (Deliver pin) = pin < pin_count circuit
 Exists circuit (Advance net) = net < length circuit
 
--- the most events that a list may have
+-- the largest number of events in a list
 abbrev pub most_events : ℕ
 most_events = 10_000_000
 
 -- ---- from a text
 
--- the number of the net of this name, for the line of this number
+-- the number of the net with this name, for the line with this number
 abbrev pub net_in : Circuit → ℕ → List ℕ → Result ℕ ScheduleFault
 net_in circuit line name = ok_or (position (λ (net : Net). bytes_eq net.name name) circuit) (UnknownNet line)
 
--- how many pins the net of a number has
+-- the number of pins of the net with a number
 abbrev pub pin_count_at : Circuit → ℕ → ℕ
 pin_count_at circuit net = option_map_or (λ (n : Net). length n.pins) (slice_get circuit net) 0
 
@@ -48,7 +48,7 @@ deliver_in circuit line name word = do
   net ← net_in circuit line name
   delivery_at circuit line net place
 
--- the event that the words of a line ask for
+-- the event that the words of a line give
 abbrev pub event_of_words : Circuit → ℕ → List (List ℕ) → Result Event ScheduleFault
 event_of_words circuit line (verb ∷ name ∷ []) =
     if bytes_eq verb (codes "advance") then advance_in circuit line name else Err (BadLine line)
@@ -71,7 +71,7 @@ events_of circuit text = unless_too_long TooLong (fold_text (events_after circui
 
 -- ---- from a seed
 
--- the event that a word picks: first stand the deliveries to all pins, and then the advances of all nets
+-- the event that a word picks: the deliveries to all pins come first, and then the advances of all nets
 abbrev pub pick_of : Circuit → ℕ → Event
 pick_of circuit word =
     let place = word % (length circuit + pin_count circuit) in

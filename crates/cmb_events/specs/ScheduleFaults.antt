@@ -1,9 +1,9 @@
--- What a schedule's fault tells: its name and its line.
+-- The name and the line of a fault of a schedule.
 use Rattle.std.specs.Prelude.{ℕ, List, codes}
 use Rattle.cmb_events.specs.declared.schedule_fault.ScheduleFault.{ScheduleFault}
 use Rattle.cmb_events.specs.declared.schedule_fault.ScheduleFault.TheVariants.{TooLong, BadLine, UnknownNet, BadPin, TooManyEvents, Memory}
 
--- the line that a fault names, and 0 for one without a line
+-- the line of a fault, or 0 for one without a line
 abbrev pub line_of : ScheduleFault → ℕ
 line_of (BadLine line) = line
 line_of (UnknownNet line) = line

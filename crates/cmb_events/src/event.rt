@@ -1,11 +1,11 @@
-/// The most events that a list of them may have.
+/// The largest number of events in a list.
 pub const MOST_EVENTS: u64 = 10_000_000;
 
-/// One step of a run, by the number of a pin or of a net, both counted from 0.
+/// A step of the kernel, with the number of a pin or of a net, both counted from 0.
 #[derive(Clone, Copy, Debug, PartialEq, Eq)]
 pub enum Event {
-    /// The pin of this number takes the message that waits there first, if there is one.
+    /// The pin with this number takes the oldest message that waits there, if any.
     Deliver(u32),
-    /// The net of this number is reckoned as far as its pins are known, and sends what it then tells.
+    /// The net with this number is computed as far as its pins are known, and sends what is new.
     Advance(u32),
 }

@@ -1,4 +1,4 @@
-//! Events of a run, and lists of them: from a text, or picked by a seed.
+//! Events of a run, and lists of them: from a text, or picked from a seed.
 #![tactic(auto)]
 
 mod event;

@@ -13,7 +13,7 @@ use std::alloc::Global;
 use std::marker::Model;
 use text_lines::{LONGEST_TEXT, Words, code_lines, is_plain, number, words_of};
 
-/// A list of at most 10,000,000 events, each of a pin or a net that the design has.
+/// A list of at most 10,000,000 events, each of a pin or a net of the design.
 #[derive(Debug, Drop)]
 pub struct Schedule {
     events: Vec<Event>,
@@ -29,7 +29,7 @@ impl Model for Schedule {
 }
 
 impl Schedule {
-    /// No events. Takes no memory.
+    /// Makes an empty schedule. Allocates nothing.
     pub fn empty(alloc: Global) -> Schedule
         ensures { result ≡ [] }
     {
@@ -38,13 +38,13 @@ impl Schedule {
         }
     }
 
-    /// The events that a text asks for, a line each: `advance NAME`, or `deliver NAME PLACE` for the
-    /// net's pin at a place, counted from 0. Comments and lines without words are passed over. A text
-    /// that is too long is refused before any memory is taken.
+    /// Returns the events of a text, one per line: `advance NAME`, or `deliver NAME PLACE` for the
+    /// net's pin at a place, counted from 0. Comments and lines without words are skipped. A text
+    /// that is too long is refused before anything is allocated.
     ///
     /// # Errors
-    /// The first fault, as [`ScheduleFault`] says, or [`ScheduleFault::Memory`] where a growth was
-    /// refused.
+    /// The first fault, in the order of [`ScheduleFault`], or [`ScheduleFault::Memory`] if an
+    /// allocation fails.
     pub fn read(alloc: Global, text: &[u8], design: &Design) -> Result<Schedule, ScheduleFault>
         ensures exact { result ≢ Err ScheduleFault.Memory → result ≡ events_of design.now.circuit text.now }
         ensures at_once { longest_text < length text.now → result ≡ Err ScheduleFault.TooLong }
@@ -62,13 +62,14 @@ impl Schedule {
         Ok(Schedule { events })
     }
 
-    /// So many events, picked by the words of the generator `Lcg64Xsh32` of this seed: each word,
-    /// modulo the number of pins and nets together, is a place among the deliveries to all pins and
-    /// then the advances of all nets. Too many picks are refused before any memory is taken.
+    /// Returns `picks` events, picked by the words of the generator `Lcg64Xsh32` of this seed. Each
+    /// word, modulo the number of pins and nets together, is a place in the list of the deliveries to
+    /// all pins and then the advances of all nets. Too many picks are refused before anything is
+    /// allocated.
     ///
     /// # Errors
-    /// [`ScheduleFault::TooManyEvents`] where there are more than 10,000,000 picks, or
-    /// [`ScheduleFault::Memory`] where a growth was refused.
+    /// [`ScheduleFault::TooManyEvents`] if there are more than 10,000,000 picks, or
+    /// [`ScheduleFault::Memory`] if an allocation fails.
     pub fn seeded(
         alloc: Global,
         seed: u64,
@@ -92,7 +93,7 @@ impl Schedule {
         Ok(Schedule { events })
     }
 
-    /// The events, in order. Takes no memory.
+    /// Returns the events, in order. Allocates nothing.
     pub fn events(&self) -> &[Event]
         ensures { result.now ≡ self.now }
     {
@@ -100,7 +101,7 @@ impl Schedule {
     }
 }
 
-/// The event that a word picks.
+/// Returns the event that a word picks.
 fn pick_of(design: &Design, word: u32) -> Event
     ensures pick { result ≡ pick_of design.now.circuit word }
     ensures exists { Exists design.now.circuit result }
@@ -114,7 +115,8 @@ fn pick_of(design: &Design, word: u32) -> Event
     }
 }
 
-/// The event of the line of this number, or its first fault; `code` is the line without its comment.
+/// Returns the event of the line with this number, or its first fault. `code` is the line without its
+/// comment.
 fn event_of(design: &Design, line: u64, code: &[u8]) -> Result<Event, ScheduleFault>
     ensures event { result ≡ event_or_fault design.now.circuit (line, code.now) }
     ensures exists { IfOk result (Exists design.now.circuit) }
@@ -125,7 +127,7 @@ fn event_of(design: &Design, line: u64, code: &[u8]) -> Result<Event, ScheduleFa
     event_of_words(design, line, words_of(code))
 }
 
-/// The event that the words of a line ask for.
+/// Returns the event that the words of a line give.
 fn event_of_words(design: &Design, line: u64, mut words: Words<'_>) -> Result<Event, ScheduleFault>
     ensures event { result ≡ event_of_words design.now.circuit line words.entry }
     ensures exists { IfOk result (Exists design.now.circuit) }
@@ -144,7 +146,7 @@ fn event_of_words(design: &Design, line: u64, mut words: Words<'_>) -> Result<Ev
     }
 }
 
-/// The number of the net of this name.
+/// Returns the number of the net with this name.
 fn net_in(design: &Design, line: u64, name: &[u8]) -> Result<u32, ScheduleFault>
     ensures net { result ≡ net_in design.now.circuit line name.now }
     ensures within { IfOk result (λ net. net < length design.now.circuit) }
@@ -152,7 +154,7 @@ fn net_in(design: &Design, line: u64, name: &[u8]) -> Result<u32, ScheduleFault>
     design.find(name).ok_or(ScheduleFault::UnknownNet { line })
 }
 
-/// The delivery to the pin of a net at a place, counted from 0.
+/// Returns the delivery to the pin of a net at a place, counted from 0.
 fn delivery_at(design: &Design, line: u64, net: u32, place: u64) -> Result<Event, ScheduleFault>
     requires { net < length design.now.circuit }
     ensures event { result ≡ delivery_at design.now.circuit line net place }

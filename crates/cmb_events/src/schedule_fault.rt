@@ -9,25 +9,25 @@ use thiserror::Error;
 /// Why there is no schedule. Lines count from 1.
 ///
 /// The first faulty line decides, and within a line the order of these variants;
-/// [`TooLong`](Self::TooLong) and [`TooManyEvents`](Self::TooManyEvents) come before all else.
+/// [`TooLong`](Self::TooLong) and [`TooManyEvents`](Self::TooManyEvents) come before all others.
 #[derive(Clone, Copy, Debug, PartialEq, Eq, Error)]
 pub enum ScheduleFault {
     /// The text has more than 16,777,216 bytes.
     TooLong,
-    /// The line is neither `advance NAME` nor `deliver NAME PLACE`, with a number for the place.
+    /// The line is neither `advance NAME` nor `deliver NAME PLACE` with a number for the place.
     BadLine { line: u64 },
     /// No net has this name.
     UnknownNet { line: u64 },
     /// The net has no pin at this place.
     BadPin { line: u64 },
-    /// More than 10,000,000 picks are asked for.
+    /// There are more than 10,000,000 picks.
     TooManyEvents,
-    /// A growth was refused.
+    /// An allocation failed.
     Memory,
 }
 
 impl ScheduleFault {
-    /// The line that the fault names, from 1, and 0 for a fault without a line.
+    /// Returns the line of the fault, from 1, or 0 for a fault without a line.
     pub fn line(&self) -> u64
         ensures { result ≡ line_of self.now }
     {
@@ -39,7 +39,7 @@ impl ScheduleFault {
         }
     }
 
-    /// The fault's name, which is its text.
+    /// Returns the fault's name, which is its text.
     pub fn name(&self) -> &'static str
         ensures { result.now ≡ name_of self.now }
     {

@@ -11,7 +11,7 @@ use Rattle.cmb_kernel.specs.State.{State, started, IsComplete}
 use Rattle.cmb_kernel.specs.Step.{step, after_drain}
 use Rattle.cmb_kernel.specs.Sound.{EachNet, CanDrain, IsSound}
 
--- what is done to a run: an event happens, or the changes of a net before a tick are taken out
+-- what is done to a run: an event is applied, or the changes of a net before a tick are taken out
 pub data Action : Type 0 where
   happens : (event : Event) → Action
   drains : (net bound : ℕ) → Action
@@ -32,12 +32,12 @@ events_among [] = []
 events_among (happens event ∷ actions) = event ∷ events_among actions
 events_among (drains net bound ∷ actions) = events_among actions
 
--- an event names a pin or a net that is there; a drain goes no farther back than an earlier one, and not past what is known
+-- an event names a pin or a net that exists; a drain goes no further back than an earlier one, and not past what is known
 abbrev pub IsAllowed : Circuit → State → Action → Type 0
 IsAllowed circuit state (happens event) = Exists circuit event
 IsAllowed circuit state (drains net bound) = CanDrain state net bound
 
--- each action is allowed where it comes
+-- each action is allowed when it comes
 abbrev pub CanAct : Circuit → State → List Action → Type 0
 CanAct circuit state [] = Unit {0}
 CanAct circuit state (action ∷ actions) = IsAllowed circuit state action × CanAct circuit (acted state action) actions
@@ -53,7 +53,7 @@ abbrev pub handed_out : ℕ → State → List Action → List Change
 handed_out net state [] = []
 handed_out net state (action ∷ actions) = given_out net state action ++ handed_out net (acted state action) actions
 
--- what some actions hand out of each net, and what is left of it behind them, are these changes, one behind the other
+-- what some actions hand out of each net, and after it what is left of the net, are these changes
 abbrev pub AllComesOut : State → List Action → (ℕ → ProcessState → List Change) → Type 0
 AllComesOut state actions changes =
     EachNet (all_acted state actions) (λ net process. handed_out net state actions ++ process.known.wave.changes ≡ changes net process)
@@ -63,16 +63,16 @@ pub record CompleteRun (circuit : Circuit) (last : ℕ) (actions : List Action) 
   pub allowed : CanAct circuit (started circuit last) actions
   pub complete : IsComplete (all_acted (started circuit last) actions)
 
--- a process but for what its net shows, and from which tick on
+-- a process without its waveform and the tick from which on that is kept
 abbrev pub apart_from_wave : ProcessState → ProcessState
 apart_from_wave process =
     record process { floor = 0; known = record { wave = record { before = Unknown; changes = [] }; frontier = process.known.frontier } }
 
--- a state but for what its nets show, and from which tick on
+-- a state without the waveforms of its nets and the ticks from which on these are kept
 abbrev pub apart_from_waves : State → State
 apart_from_waves state = record state { processes = map apart_from_wave state.processes }
 
--- two states of one run that differ in what was drained alone
+-- two states of one run that differ only in what was drained
 pub record AreAlike (circuit : Circuit) (last : ℕ) (one other : State) : Type 0 where
   pub one_sound : IsSound circuit last one
   pub other_sound : IsSound circuit last other

@@ -23,11 +23,11 @@ first_fault circuit at (event ∷ events) = option_or (event_fault circuit at ev
 abbrev pub list_fault : Circuit → List Event → Option KernelFault
 list_fault circuit events = if nat_lt most_events (length events) then Some TooManyEvents else first_fault circuit 0 events
 
--- what a kernel refuses a call with: one that has failed refuses each
+-- the fault with which a kernel refuses a call: one that has failed refuses each
 abbrev pub refusal : KernelView → Option KernelFault → Option KernelFault
 refusal kernel fault = if kernel.failed then Some Failed else fault
 
--- the answer of a call that is refused, or else has this to say
+-- the result of a call: the refusal, if any, or else this value
 abbrev pub answer : {A : Type 0} → Option KernelFault → A → Result A KernelFault
 answer None value = Ok value
 answer (Some fault) value = Err fault

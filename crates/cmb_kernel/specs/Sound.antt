@@ -35,8 +35,8 @@ CanDrain state net bound =
 
 -- ---- what they know
 
--- a state of a run of this circuit, up to an end: all that nets and pins know is what the equations give,
--- and what waits at a pin tells of its source, from what the pin received up to what the source knows
+-- a state of a run of this circuit, up to an end: all that nets and pins know is what the equations give, and what
+-- waits at a pin reports its source, from what the pin received up to what the source knows
 pub record IsSound (circuit : Circuit) (last : ℕ) (state : State) : Type 0 where
   pub nets : nets_of state ≡ circuit
   pub lists : length state.lists ≡ pin_count circuit
@@ -60,7 +60,7 @@ pub record KnowsNet (circuit : Circuit) (last number : ℕ) (process : ProcessSt
 abbrev pub waves_kept : Circuit → ℕ → State → List Wave
 waves_kept circuit to state = map (λ net. wave_of (value_of circuit net) (floor_at state net) to) (range_with_len 0 (length circuit))
 
--- what a pin received, once it is told what waits, has its source's frontier and shows the source's values at the kept ticks
+-- what a pin received, once it takes what waits, has its source's frontier and shows the source's values at the kept ticks
 pub record HearsSource (circuit : Circuit) (source reached keep : ℕ) (received : Knowledge) (coming : List Message) : Type 0 where
   pub frontier : (told_all received coming).frontier ≡ reached
   pub values : (tick : ℕ) → keep ≤ tick → tick < reached → value_at (told_all received coming).wave tick ≡ value_of circuit source tick

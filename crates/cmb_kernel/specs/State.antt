@@ -15,7 +15,7 @@ pub record State : Type 0 where
   pub lists : List (List Message)
   pub counts : Counts
 
--- the state before anything happened
+-- the state before any event
 abbrev pub started : Circuit → ℕ → State
 started circuit end = record {
   processes = map (started_process end) circuit;
@@ -53,11 +53,11 @@ received_at state pin =
 abbrev pub least_frontier : ℕ → State → ℕ
 least_frontier end state = least end (map (λ (process : ProcessState). process.known.frontier) state.processes)
 
--- the least delay of a gate or flip-flop, or the end where there is none
+-- the least delay of a gate or flip-flop, or the end if there is none
 abbrev pub least_delay : ℕ → Circuit → ℕ
 least_delay end circuit = least end (map (λ (net : Net). own_delay net.part end net.timing.delay) circuit)
 
--- so many rounds are enough: each raises the least frontier by at least the least delay, or to the end
+-- this number of rounds is enough: each raises the least frontier by at least the least delay, or to the end
 abbrev pub most_rounds : ℕ → Circuit → ℕ
 most_rounds end circuit = (end + (least_delay end circuit - 1)) / least_delay end circuit
 
@@ -72,13 +72,13 @@ is_complete state = list_all (λ (process : ProcessState). process.known.frontie
 abbrev pub waves_in : State → List Wave
 waves_in state = map (λ (process : ProcessState). process.known.wave) state.processes
 
--- what a kernel is seen as
+-- the view of a kernel
 pub record KernelView : Type 0 where
   pub circuit : Circuit
   pub end : ℕ
   pub failed : Bool
   pub state : State
 
--- a kernel to which nothing happened yet
+-- a kernel before any event
 abbrev pub fresh : Circuit → ℕ → KernelView
 fresh circuit end = record { circuit = circuit; end = end; failed = false; state = started circuit end }

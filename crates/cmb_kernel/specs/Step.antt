@@ -11,11 +11,11 @@ use Rattle.design.specs.Pins.{sources_of, net_of_pin, place_of_pin}
 use Rattle.gate_process.specs.Step.{advanced, news, heard, drained}
 use Rattle.cmb_kernel.specs.State.{State, nets_of, is_complete}
 
--- one more, but no more than a u64 holds
+-- one more, but at most the greatest u64
 abbrev pub one_more : ℕ → ℕ
 one_more count = min (count + 1) 18_446_744_073_709_551_615
 
--- the counts after an event that answered these messages
+-- the counts after an event that sent these messages
 abbrev pub counted : Counts → List Message → Counts
 counted counts messages =
     record {
@@ -25,7 +25,7 @@ counted counts messages =
       rounds = counts.rounds;
     }
 
--- what the process of a net has to tell
+-- the messages that the process of a net has to send
 abbrev pub news_at : State → ℕ → List Message
 news_at state net = option_map_or news (slice_get state.processes net) []
 
@@ -78,12 +78,12 @@ with_round state = record state { counts = record state.counts { rounds = one_mo
 abbrev pub round_of : State → State
 round_of state = with_round (steps state (round_events state))
 
--- the state after so many rounds
+-- the state after this number of rounds
 abbrev pub rounds : ℕ → State → State
 rounds zero state = state
 rounds (suc count) state = rounds count (round_of state)
 
--- the state after the fewest rounds that complete it, if so many are enough
+-- the state after the fewest rounds that complete it, if this number is enough
 abbrev pub completed_within : ℕ → State → State
 completed_within zero state = state
 completed_within (suc count) state = if is_complete state then state else completed_within count (round_of state)

@@ -48,7 +48,7 @@ HoldsAll circuit order = (net : ℕ) → net < length circuit → Contains order
 abbrev pub AllKnow : Circuit → ℕ → State → Type 0
 AllKnow circuit tick state = (net : ℕ) → net < length circuit → tick ≤ frontier_at state net
 
--- some events, each of a pin or net that is there, lead from the one state to the other
+-- some events, each of a pin or net that exists, lead from the one state to the other
 pub record EventsLead (circuit : Circuit) (old new : State) : Type 0 where
   pub events : List Event
   pub exist : All (Exists circuit) events

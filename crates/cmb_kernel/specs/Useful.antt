@@ -9,7 +9,7 @@ use Rattle.cmb_events.specs.declared.event.Event.TheVariants.{Deliver, Advance}
 use Rattle.cmb_kernel.specs.State.{State, frontier_at, received_at}
 use Rattle.cmb_kernel.specs.Step.{step}
 
--- how far a process knows itself and its pins, in all
+-- the sum of the frontiers of a process and of its pins
 abbrev pub progress_of : ProcessState → ℕ
 progress_of process = process.known.frontier + sum_by (λ (known : Knowledge). known.frontier) process.received
 
@@ -17,7 +17,7 @@ progress_of process = process.known.frontier + sum_by (λ (known : Knowledge). k
 abbrev pub progress : State → ℕ
 progress state = sum_by progress_of state.processes
 
--- what is left of it in a run of a circuit up to an end: no net and no pin comes to know more ticks than those before the end
+-- what is left of the progress in a run of a circuit up to an end: no net and no pin knows more ticks than those before the end
 abbrev pub remaining : Circuit → ℕ → State → ℕ
 remaining circuit last state = last * (length circuit + pin_count circuit) - progress state
 
@@ -39,7 +39,7 @@ abbrev pub useful_count : State → List Event → ℕ
 useful_count state [] = 0
 useful_count state (event ∷ events) = (if is_useful state event then 1 else 0) + useful_count (step state event) events
 
--- no pin of a net hears anything by the event
+-- no pin of a net takes a message by the event
 abbrev pub IsUnheard : Circuit → ℕ → Event → Type 0
 IsUnheard circuit net (Deliver pin) = net_of_pin circuit pin ≢ net
 IsUnheard circuit net (Advance other) = Unit {0}
@@ -48,7 +48,7 @@ abbrev pub is_advance : Event → Bool
 is_advance (Deliver pin) = false
 is_advance (Advance net) = true
 
--- how many of some events are useful Advances
+-- how many of some events are useful advances
 abbrev pub useful_advances : State → List Event → ℕ
 useful_advances state [] = 0
 useful_advances state (event ∷ events) =

@@ -6,18 +6,18 @@ use cmb_channels::Message;
 /// How much has happened in a kernel since it was made.
 #[derive(Clone, Copy, Debug, PartialEq, Eq)]
 pub struct Counts {
-    /// The events applied, useful or not, those of rounds too. It stays at the greatest number.
+    /// The events applied, useful or not, including those of rounds. Saturates at `u64::MAX`.
     pub events: u64,
-    /// The changes that advances answered, each once, however many pins the net feeds.
+    /// The changes that advances sent, each once, however many pins the net feeds.
     pub changes: u64,
-    /// The null messages that advances answered, counted in the same way.
+    /// The null messages that advances sent, counted in the same way.
     pub nulls: u64,
-    /// The rounds. It stays at the greatest number.
+    /// The rounds. Saturates at `u64::MAX`.
     pub rounds: u64,
 }
 
 impl Counts {
-    /// Counts an event that answered these messages.
+    /// Counts an event that sent these messages.
     pub(crate) fn add_event(&mut self, messages: &[Message])
         requires { self.old.changes + self.old.nulls + length messages.now < 2 ^ 64 }
         ensures { self.new ≡ counted self.old messages.now }

@@ -4,25 +4,25 @@ ghost use Rattle.cmb_kernel.specs.declared.fault.KernelFault.TheVariants as kern
 use std::alloc::{AllocError, AllocFailed};
 use thiserror::Error;
 
-/// Why a kernel refuses a call, or breaks one off.
+/// Why a kernel refuses a call, or fails during one.
 ///
 /// [`Failed`](Self::Failed) comes before all else, and [`TooManyEvents`](Self::TooManyEvents) before
 /// the first bad event of a list. A refusal changes nothing.
 #[derive(Clone, Copy, Debug, PartialEq, Eq, Error)]
 pub enum KernelFault {
-    /// The event at this place of its list, from 0, names a pin that isn't there.
+    /// The event at this place of its list, from 0, names a pin that doesn't exist.
     #[error("NoSuchPin")]
     NoSuchPin { at: u64 },
-    /// The event at this place of its list, from 0, names a net that isn't there.
+    /// The event at this place of its list, from 0, names a net that doesn't exist.
     #[error("NoSuchNet")]
     NoSuchNet { at: u64 },
     /// The list has more than 10,000,000 events.
     #[error("TooManyEvents")]
     TooManyEvents,
-    /// A growth was refused. A kernel that was running has failed from then on.
+    /// An allocation failed. A kernel that was running has failed from then on.
     #[error("Memory")]
     Memory,
-    /// The kernel has failed: an earlier call answered [`Memory`](Self::Memory).
+    /// The kernel has failed: an earlier call returned [`Memory`](Self::Memory).
     #[error("Failed")]
     Failed,
 }

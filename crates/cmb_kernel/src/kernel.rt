@@ -26,15 +26,14 @@ use timing_text::Horizon;
 
 /// A run of a design: a process for each net, and channels between them.
 ///
-/// Whatever events are applied in whatever order, each net knows its waveform as the equations of the
-/// circuit give it, up to the net's frontier, and from its floor on: what is before the floor was taken
-/// out. A frontier is how many ticks are known, from tick 0 on. Where memory was refused in the middle of
-/// an event the kernel has failed: each call that may change it answers [`KernelFault::Failed`] from then
-/// on, and readers ask for one that hasn't failed, but for [`is_failed`](Self::is_failed) and those that
-/// tell what it is made of.
+/// Whatever events are applied, in any order, each net knows its waveform as the equations of the circuit
+/// give it, up to the net's frontier and from its floor on: its changes before the floor were taken out. A
+/// frontier is the number of known ticks, from tick 0 on. If an allocation fails during an event, the kernel
+/// has failed: each call that may change it returns [`KernelFault::Failed`] from then on, and readers require
+/// a kernel that hasn't failed, except [`is_failed`](Self::is_failed) and those that return its parts.
 ///
-/// Nets and pins are numbered as in the design, and a reader that takes such a number asks for one that is
-/// there.
+/// Nets and pins are numbered as in the design, and a reader that takes such a number requires one that
+/// exists.
 #[derive(Drop)]
 pub struct Kernel<'d, F: Fabric> {
     design: &'d Design,
@@ -43,7 +42,7 @@ pub struct Kernel<'d, F: Fabric> {
     processes: Processes<'d>,
     fabric: F,
     counts: Counts,
-    // What an advance tells, before it is sent. Kept for its memory alone.
+    // The messages of an advance, before they are sent. Kept only to reuse its memory.
     news: Vec<Message>,
     failed: bool,
 }
@@ -68,11 +67,11 @@ impl<'d, F: Fabric> Model for Kernel<'d, F> {
 }
 
 impl<'d, F: Fabric> Kernel<'d, F> {
-    /// A kernel to which nothing happened yet, that runs up to the horizon, over new channels: each frontier
-    /// is 0, no message waits, and all counts are 0.
+    /// Returns a kernel before any event, which runs up to the horizon, over new channels: each frontier is
+    /// 0, no message waits, and all counts are 0.
     ///
     /// # Errors
-    /// [`KernelFault::Memory`]; nothing is left behind.
+    /// [`KernelFault::Memory`]; nothing stays allocated.
     pub fn new(
         alloc: Global,
         design: &'d Design,
@@ -84,12 +83,12 @@ impl<'d, F: Fabric> Kernel<'d, F> {
         Kernel::over(alloc, design, horizon, fabric)
     }
 
-    /// A kernel as [`new`](Self::new) makes one, but over these channels: those of the design, with nothing
-    /// in them. So channels with settings or statistics of their own can be prepared, and read by
-    /// [`fabric`](Self::fabric).
+    /// Returns a kernel as [`new`](Self::new) does, but over these channels: those of the design, with
+    /// nothing in them. Use it for channels with settings or statistics of their own, which
+    /// [`fabric`](Self::fabric) returns.
     ///
     /// # Errors
-    /// [`KernelFault::Memory`]; the channels are given up.
+    /// [`KernelFault::Memory`]; the channels are dropped.
     pub fn over(
         alloc: Global,
         design: &'d Design,
@@ -118,7 +117,7 @@ impl<'d, F: Fabric> Kernel<'d, F> {
         })
     }
 
-    /// Whether a call was broken off by want of memory. Where none was, all that the kernel knows is true.
+    /// Returns whether a call ran out of memory. If none did, all that the kernel knows is true.
     pub fn is_failed(&self) -> bool
         ensures failed { result ≡ self.now.failed }
         ensures circuit { self.now.failed ≡ false → IsCircuit self.now.circuit }
@@ -127,7 +126,7 @@ impl<'d, F: Fabric> Kernel<'d, F> {
         self.failed
     }
 
-    /// How much has happened since the kernel was made: events, changes, null messages and rounds.
+    /// Returns the counts since the kernel was made: events, changes, null messages and rounds.
     pub fn counts(&self) -> Counts
         requires { self.now.failed ≡ false }
         ensures { result ≡ self.now.state.counts }
@@ -135,7 +134,7 @@ impl<'d, F: Fabric> Kernel<'d, F> {
         self.counts
     }
 
-    /// How many ticks of a net are known: at most the horizon and one more.
+    /// Returns the number of known ticks of a net: at most the horizon and one more.
     pub fn frontier(&self, net: u32) -> u64
         requires running { self.now.failed ≡ false }
         requires net { net < length self.now.circuit }
@@ -145,7 +144,7 @@ impl<'d, F: Fabric> Kernel<'d, F> {
         self.processes.of_net(net).frontier()
     }
 
-    /// What a net shows at the ticks known, from its [`floor`](Self::floor) on.
+    /// Returns what a net shows at the known ticks, from its [`floor`](Self::floor) on.
     pub fn waveform(&self, net: u32) -> &Waveform
         requires running { self.now.failed ≡ false }
         requires net { net < length self.now.circuit }
@@ -157,8 +156,8 @@ impl<'d, F: Fabric> Kernel<'d, F> {
         self.processes.of_net(net).waveform()
     }
 
-    /// How many ticks of its source a pin knows, in the source's own ticks, whatever the delay of its wire:
-    /// at most the horizon and one more.
+    /// Returns the number of ticks of its source that a pin knows, in the source's own ticks, whatever the
+    /// delay of its wire: at most the horizon and one more.
     pub fn received(&self, pin: u32) -> u64
         requires running { self.now.failed ≡ false }
         requires pin { pin < pin_count self.now.circuit }
@@ -170,7 +169,8 @@ impl<'d, F: Fabric> Kernel<'d, F> {
         self.processes.of_net(net).received(place)
     }
 
-    /// How many messages wait at a pin: just where there are some, to deliver one is useful.
+    /// Returns the number of messages that wait at a pin. A delivery there is useful exactly if there are
+    /// any.
     pub fn waiting(&self, pin: u32) -> u64
         requires running { self.now.failed ≡ false }
         requires pin { pin < pin_count self.now.circuit }

@@ -15,8 +15,8 @@ ghost use Rattle.cmb_events.specs.Schedule.{Exists};
 ghost use Rattle.cmb_kernel.specs.Sound.{EachNet, EachPin, coming_to, CanDrain, IsSound, ForSound, KnowsNet, HearsSource};
 ghost use Rattle.cmb_kernel.specs.Drains.{Action, all_acted, events_among, AllComesOut, AreAlike, CanAct, CompleteRun, apart_from_waves};
 
-/// Whatever happens in whatever order, nets and pins know the truth: Chandy and Misra's safety, by the
-/// defining equations of the circuit.
+/// Whatever events are applied, in any order, what nets and pins know is what the defining equations of the
+/// circuit give: Chandy and Misra's safety.
 pub fn truth()
     ensures started { (circuit : Circuit) (last : ℕ) → IsSound circuit last (started circuit last) }
     ensures steps { ForSound (λ circuit last state. (events : List Event) →
@@ -31,8 +31,9 @@ pub fn truth()
         (coming_to circuit state number place))) }
 {}
 
-/// A run that isn't complete can go on, and enough rounds complete it: Chandy and Misra's absence of deadlock
-/// by null messages, which asks that each loop of nets takes time. Here each gate and flip-flop takes a tick.
+/// A run that isn't complete can advance, and enough rounds complete it: Chandy and Misra's absence of
+/// deadlock by null messages, which requires that each loop of nets takes time. Here each gate and flip-flop
+/// takes at least one tick.
 pub fn no_deadlock()
     ensures useful { ForSound (λ circuit last state.
         ¬ IsComplete state → (event : Event) × Exists circuit event × (is_useful state event ≡ true)) }
@@ -53,8 +54,8 @@ pub fn no_deadlock()
         frontier_at (rounds count (started circuit last)) number ≤ frontier_at (rounds count state) number) }
 {}
 
-/// What is left of a run's progress is a measure: each useful event lowers it, and none raises it. So a
-/// driver that applies useful events alone comes to an end.
+/// What is left of a run's progress is a measure: each useful event lowers it, and no event raises it. So a
+/// driver that applies only useful events terminates.
 pub fn progress_left()
     ensures useful { ForSound (λ circuit last state. (event : Event) → Exists circuit event →
         is_useful state event ≡ true → remaining circuit last (step state event) < remaining circuit last state) }
@@ -64,9 +65,9 @@ pub fn progress_left()
         is_useful state event ≡ true → progress state + 1 ≤ progress (step state event) }
 {}
 
-/// The order plays no part in what a run shows in the end: whatever events complete it, in whatever order,
-/// it shows what rounds show, as [`Kernel::complete`](crate::Kernel::complete) does them, and so the same
-/// as after any other events that complete it.
+/// The order of events plays no part in what a complete run shows: whatever events complete it, in any order,
+/// it shows the same as after rounds, as [`Kernel::complete`](crate::Kernel::complete) does them, and so the
+/// same as after any other events that complete it.
 pub fn order_plays_no_part()
     ensures sound { ForSound (λ circuit last state. (count : ℕ) → IsSound circuit last (completed_within count state)) }
     ensures complete { ForSound (λ circuit last state. IsComplete (completed_within (most_rounds last circuit) state)) }
@@ -85,9 +86,9 @@ pub fn useless_events()
         is_useful state event ≡ false → step state event ≡ record state { counts = counted state.counts [] }) }
 {}
 
-/// What a delivery does, and what it leaves as it is.
+/// What a delivery does, and what it leaves unchanged.
 pub fn deliveries()
-    // It is useful just where a message waits at the pin.
+    // It is useful exactly if a message waits at the pin.
     ensures useful { ForSound (λ circuit last state. (pin : ℕ) → pin < pin_count circuit →
         (is_useful state (Deliver pin) ≡ true) ↔ (0 < length (slice_index_or state.lists pin []))) }
     // It takes the oldest message out of the list of the pin, and changes no other list.
@@ -98,17 +99,17 @@ pub fn deliveries()
     // It changes no process but that of the pin's net.
     ensures processes { ForSound (λ circuit last state. (pin net : ℕ) → net ≢ net_of_pin circuit pin →
         slice_get (step state (Deliver pin)).processes net ≡ slice_get state.processes net) }
-    // So to advance another net is as useful as before.
+    // So an advance of another net is useful exactly if it was before.
     ensures others { ForSound (λ circuit last state. (pin net : ℕ) → net < length circuit → net ≢ net_of_pin circuit pin →
         is_useful (step state (Deliver pin)) (Advance net) ≡ is_useful state (Advance net)) }
 {}
 
-/// What an advance does, and what it leaves as it is.
+/// What an advance does, and what it leaves unchanged.
 pub fn advances()
-    // It is useful just where the next frontier of the net's process is past its frontier.
+    // It is useful exactly if the next frontier of the net's process is past its frontier.
     ensures useful { ForSound (λ circuit last state. EachNet state (λ net process.
         (is_useful state (Advance net) ≡ true) ↔ (process.known.frontier < next_frontier process))) }
-    // It puts what it tells at the end of the list of each pin that the net feeds, and changes no other list.
+    // It adds what it sends at the end of the list of each pin that the net feeds, and changes no other list.
     ensures sent { ForSound (λ circuit last state. (net pin : ℕ) → slice_get (sources_of circuit) pin ≡ Some net →
         slice_index_or (step state (Advance net)).lists pin [] ≡ slice_index_or state.lists pin [] ++ news_at state net) }
     ensures lists { ForSound (λ circuit last state. (net pin : ℕ) → slice_get (sources_of circuit) pin ≢ Some net →
@@ -116,17 +117,17 @@ pub fn advances()
     // It changes no process but that of the net.
     ensures processes { (state : State) (net other : ℕ) → other ≢ net →
         slice_get (step state (Advance net)).processes other ≡ slice_get state.processes other }
-    // So to advance another net is as useful as before.
+    // So an advance of another net is useful exactly if it was before.
     ensures others { ForSound (λ circuit last state. (net other : ℕ) → other < length circuit → other ≢ net →
         is_useful (step state (Advance net)) (Advance other) ≡ is_useful state (Advance other)) }
-    // The net has nothing more to tell until one of its pins hears something.
+    // The net has nothing more to send until one of its pins takes a message.
     ensures quiet { ForSound (λ circuit last state. (net : ℕ) → net < length circuit →
         (events : List Event) → All (Exists circuit) events → All (IsUnheard circuit net) events →
         is_useful (steps (step state (Advance net)) events) (Advance net) ≡ false) }
 {}
 
-/// A sweep is events and nothing else, so that what holds of any events holds of sweeps; and a run that
-/// isn't complete can go on by a sweep.
+/// A sweep consists only of events, so what holds for any events holds for sweeps; and a run that isn't
+/// complete can advance by a sweep.
 pub fn sweeps()
     ensures events { ForSound (λ circuit last state. (tick : ℕ) (order : List ℕ) → All (λ net. net < length circuit) order →
         EventsLead circuit state (swept tick order state)) }
@@ -139,8 +140,8 @@ pub fn sweeps()
         received_at (swept tick order state) pin ≡ received_at state pin) }
 {}
 
-/// A run goes the same whether nets are drained between its events or not, and nothing is lost: what is
-/// handed out of a net, and what is left of it, are what the equations give.
+/// Drains between the events of a run change nothing else in it, and lose nothing: what is handed out of a
+/// net, and what is left of it, are what the equations give.
 pub fn drains_play_no_part()
     ensures same { ForSound (λ circuit last state. (actions : List Action) → CanAct circuit state actions →
         apart_from_waves (all_acted state actions) ≡ apart_from_waves (steps state (events_among actions))) }
@@ -149,7 +150,7 @@ pub fn drains_play_no_part()
     ensures sweeps { (circuit : Circuit) → IsCircuit circuit → (last : ℕ) (one other : State) → AreAlike circuit last one other →
         (tick : ℕ) (order : List ℕ) → All (λ net. net < length circuit) order →
         apart_from_waves (swept tick order one) ≡ apart_from_waves (swept tick order other) }
-    // Drains alone move floors.
+    // Only drains move floors.
     ensures floors { (state : State) (events : List Event) (net : ℕ) → floor_at (steps state events) net ≡ floor_at state net }
     ensures values { ForSound (λ circuit last state. (actions : List Action) → CanAct circuit state actions →
         AllComesOut state actions (λ net process.

@@ -21,14 +21,14 @@ abbrev pub ended_lines : List ℕ → List (List ℕ)
 ended_lines [] = []
 ended_lines (byte ∷ text) = if byte == 10 then (byte ∷ []) ∷ ended_lines text else onto_first byte (ended_lines text)
 
--- the words of such a line: the newline is no part of them
+-- the words of such a line: the newline isn't part of them
 abbrev pub line_words : List ℕ → List (List ℕ)
 line_words line = words_of (before_first (λ byte. byte == 10) line)
 
 abbrev pub has_words : List ℕ → Bool
 has_words line = not (is_empty (line_words line))
 
--- the line has just this one word
+-- the line has exactly this one word
 abbrev pub is_just : List ℕ → List ℕ → Bool
 is_just word line = is_one (line_words line)
   where
@@ -36,7 +36,7 @@ is_just word line = is_one (line_words line)
     is_one (found ∷ []) = bytes_eq found word
     is_one _ = false
 
--- the horizon that a line `%nullsim N` says
+-- the horizon in a line `%nullsim N`
 abbrev pub horizon_in : List ℕ → Option ℕ
 horizon_in line = said_by (line_words line)
   where
@@ -44,7 +44,7 @@ horizon_in line = said_by (line_words line)
     said_by (mark ∷ number ∷ []) = if bytes_eq mark (codes "%nullsim") then number_of number else None
     said_by _ = None
 
--- ---- the rules of the lines behind the first one
+-- ---- the rules of the lines after the first one
 
 -- the words that, alone on a line, begin a section
 abbrev pub markers : List (List ℕ)
@@ -58,11 +58,11 @@ abbrev pub is_second_marker : List (List ℕ) → List ℕ → Bool
 is_second_marker earlier line =
     list_any (λ marker. is_just marker line && list_any (is_just marker) earlier) markers
 
--- the line has words that stand in no section
+-- the line has words outside every section
 abbrev pub is_stray : List (List ℕ) → List ℕ → Bool
 is_stray earlier line = has_words line && not (is_marker line) && not (list_any is_marker earlier)
 
--- the line breaks a rule, where these lines stand before it
+-- the line breaks a rule, after these lines
 abbrev pub breaks_rule : List (List ℕ) → List ℕ → Bool
 breaks_rule earlier line = is_second_marker earlier line || is_stray earlier line
 
@@ -76,7 +76,7 @@ first_bad lines = find (is_bad lines) (enumerate_from 0 lines)
 
 -- ---- the sections
 
--- the bytes behind a marker's line, up to the next marker or the end; none where the marker isn't there
+-- the bytes after a marker's line, up to the next marker or the end; none if the marker is absent
 abbrev pub section : List ℕ → List (List ℕ) → List ℕ
 section marker lines = concat (before_first is_marker (after_first (is_just marker) lines))
 
@@ -89,7 +89,7 @@ sections_at horizon lines = record {
   schedule = section (codes "%schedule") lines;
 }
 
--- the sections of the lines behind the first one, which is line 1, or their first fault
+-- the sections of the lines after the first one, which is line 1, or their first fault
 unfoldable pub sections_behind : ℕ → List (List ℕ) → Result Sections DeckTextFault
 sections_behind horizon lines =
     option_map_or (λ (bad : ℕ × List ℕ). Err (BadDeck (bad.0 + 2))) (first_bad lines) (Ok (sections_at horizon lines))

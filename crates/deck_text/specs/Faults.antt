@@ -1,9 +1,9 @@
--- What a fault tells: its name and its line.
+-- The name and the line of a fault.
 use Rattle.std.specs.Prelude.{ℕ, List, codes}
 use Rattle.deck_text.specs.declared.fault.DeckTextFault.{DeckTextFault}
 use Rattle.deck_text.specs.declared.fault.DeckTextFault.TheVariants.{TooLong, BadDeck}
 
--- the line that a fault names, and 0 for one without a line
+-- the line of a fault, or 0 for one without a line
 abbrev pub line_of : DeckTextFault → ℕ
 line_of (BadDeck line) = line
 line_of other = 0

@@ -1,4 +1,4 @@
--- The code's markers and sections as those of the definitions.
+-- The markers and sections of the code as those of the definitions.
 use Rattle.std.specs.Prelude.{◌≡◌, ℕ, ◌-◌, ◌<◌, ◌^◌, min, Bool, ◌∷◌, length, false, if◌then◌else◌, List, codes, bytes_eq, MatchBool, IsSome, Option, None, Some, Result}
 use Rattle.std.specs.List.{list_any}
 use Rattle.std.specs.Result.{result_map_both}
@@ -17,7 +17,7 @@ word_of Delays = codes "%delays"
 word_of Stimuli = codes "%stimuli"
 word_of Schedule = codes "%schedule"
 
--- one of the words
+-- one of the words of markers
 abbrev pub is_marker_word : List ℕ → Bool
 is_marker_word word = list_any (λ marker. bytes_eq word marker) markers
 
@@ -30,25 +30,25 @@ pub record SplitsLine (text line after : List ℕ) : Type 0 where
   pub lines : ended_lines text ≡ line ∷ ended_lines after
   pub shorter : length after < length text
 
--- a text is a line at which lines don't end, and what follows it
+-- a text is a line that doesn't end those before it, and what follows it
 pub record PassesLine (stops : List ℕ → Bool) (text after : List ℕ) : Type 0 where
   pub line : List ℕ
   pub split : SplitsLine text line after
   pub passes : stops line ≡ false
 
--- the place of one section's text, before and after the text behind a marker came: filled where it is the one of that marker
+-- the place of one section's text, before and after the text after a marker is stored: filled if it is the place of that marker
 abbrev pub FillsIfNamed : List ℕ → List ℕ → Bor (List ℕ) → Option (Bor (List ℕ)) → Option (Bor (List ℕ)) → Type 0
 FillsIfNamed section_word word text old new =
     MatchBool (bytes_eq word section_word) ((old ≡ None) × (new ≡ Some text)) (new ≡ old)
 
--- the text behind a marker fills the place of its section, which was empty, and leaves the others
+-- the text after a marker fills the place of its section, which was empty, and leaves the others unchanged
 pub record FillsOwnPlace (marker : Marker) (text : Bor (List ℕ)) (old new : Found) : Type 0 where
   pub bench : FillsIfNamed (codes "%bench") (word_of marker) text old.bench new.bench
   pub delays : FillsIfNamed (codes "%delays") (word_of marker) text old.delays new.delays
   pub stimuli : FillsIfNamed (codes "%stimuli") (word_of marker) text old.stimuli new.stimuli
   pub schedule : FillsIfNamed (codes "%schedule") (word_of marker) text old.schedule new.schedule
 
--- a marker whose section is there
+-- a marker whose section has been stored
 abbrev pub IsRefused : Found → Marker → Type 0
 IsRefused found Bench = IsSome found.bench
 IsRefused found Delays = IsSome found.delays

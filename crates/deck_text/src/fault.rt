@@ -4,7 +4,7 @@ ghost use Rattle.deck_text.specs.Faults.{line_of, name_of};
 use std::fmt;
 use thiserror::Error;
 
-/// Why a text is no deck. Lines count from 1.
+/// Why a text isn't a deck. Lines count from 1.
 #[derive(Clone, Copy, Debug, PartialEq, Eq, Error)]
 pub enum DeckTextFault {
     /// The text has more than 16,777,216 bytes.
@@ -14,7 +14,7 @@ pub enum DeckTextFault {
 }
 
 impl DeckTextFault {
-    /// The line that the fault names, from 1, and 0 for a fault without a line.
+    /// Returns the line of the fault, from 1, or 0 for a fault without a line.
     pub fn line(&self) -> u64
         ensures { result ≡ line_of self.now }
     {
@@ -24,7 +24,7 @@ impl DeckTextFault {
         }
     }
 
-    /// The fault's name, which is its text.
+    /// Returns the fault's name, which is its text.
     pub fn name(&self) -> &'static str
         ensures { result.now ≡ name_of self.now }
     {

@@ -1,4 +1,4 @@
-//! The text of a deck, which is a whole run in one text, cut into its sections.
+//! The text of a deck, which is a whole run in one text, split into its sections.
 #![tactic(auto)]
 
 mod fault;

@@ -8,10 +8,10 @@ ghost use Rattle.deck_text.specs.Seen.{IsRefused, FillsOwnPlace, PassesLine, Spl
 use crate::fault::DeckTextFault;
 use text_lines::{LONGEST_TEXT, first_place, has_words, split_word};
 
-/// The horizon and the texts of a deck. The text of a section that isn't there is empty.
+/// The horizon and the texts of a deck. The text of an absent section is empty.
 #[derive(Clone, Copy, Debug)]
 pub struct Sections<'a> {
-    /// The number of the first line, or the largest `u64` where it is larger than that.
+    /// The number on the first line, or the largest `u64` if it is larger than that.
     pub horizon: u64,
     /// The netlist, in the .bench notation.
     pub bench: &'a [u8],
@@ -19,18 +19,18 @@ pub struct Sections<'a> {
     pub delays: &'a [u8],
     /// The changes of the inputs.
     pub stimuli: &'a [u8],
-    /// The events that come before the run completes.
+    /// The events that are applied first.
     pub schedule: &'a [u8],
 }
 
-/// The sections of a deck, or its first fault.
+/// Returns the sections of a deck, or its first fault.
 ///
-/// The first line has just the words `%nullsim` and a number, the horizon. A line with just one
-/// word, `%bench`, `%delays`, `%stimuli` or `%schedule`, is a marker: a section is the bytes behind
-/// its marker's line, up to the next marker or the end, and one that isn't there is empty. Lines
-/// before the first marker have no words, and no marker stands twice. Here no comment is dropped.
+/// The first line consists of the word `%nullsim` and a number, the horizon. A line that consists of
+/// one word, `%bench`, `%delays`, `%stimuli` or `%schedule`, is a marker. A section is the bytes after
+/// its marker's line, up to the next marker or the end; an absent section is empty. Lines before the
+/// first marker have no words, and no marker occurs twice. Comments are not removed here.
 ///
-/// Goes over the lines once, takes no memory and copies nothing.
+/// Reads the lines once, allocates nothing and copies nothing.
 pub fn read_sections(text: &[u8]) -> Result<Sections<'_>, DeckTextFault>
     ensures { on_sections seen_sections result ≡ on_sections held (sections_of text.now) }
 {
@@ -42,7 +42,7 @@ pub fn read_sections(text: &[u8]) -> Result<Sections<'_>, DeckTextFault>
     sections_behind(horizon, rest)
 }
 
-/// The sections of the text behind the first line.
+/// Returns the sections of the text after the first line.
 fn sections_behind(horizon: u64, text: &[u8]) -> Result<Sections<'_>, DeckTextFault>
     requires { length text.now ≤ longest_text }
     ensures { on_sections seen_sections result ≡ sections_behind horizon (ended_lines text.now) }
@@ -54,7 +54,7 @@ fn sections_behind(horizon: u64, text: &[u8]) -> Result<Sections<'_>, DeckTextFa
         schedule: None,
     };
     let head = split_front(text, false);
-    // The lines so far: those of a deck count from 1, and its first line isn't among these.
+    // The number of lines so far: those of a deck count from 1, and its first line isn't among these.
     let mut lines = head.lines;
     let mut rest = head.rest;
     while let Some((line, after)) = split_line(rest) {
@@ -84,8 +84,8 @@ struct Found<'a> {
 }
 
 impl<'a> Found<'a> {
-    /// Takes the text of a marker's section, unless the line has no marker, or one whose section is
-    /// there.
+    /// Stores the text of a marker's section, and returns whether it did: not if the line has no
+    /// marker, or one whose section has been stored.
     fn keep(&mut self, marker: Option<Marker>, text: &'a [u8]) -> bool
         ensures { MatchBool result
             (MatchOption marker ⊥ (λ marker. FillsOwnPlace marker text.entry self.old self.new))
@@ -101,7 +101,7 @@ impl<'a> Found<'a> {
     }
 }
 
-/// Puts a text in an empty place.
+/// Stores a text in an empty place, and returns whether it was empty.
 fn fill<'a>(place: &mut Option<&'a [u8]>, text: &'a [u8]) -> bool
     ensures { MatchBool result ((place.old ≡ None) × (place.new ≡ Some text.entry)) (IsSome place.old) }
 {
@@ -112,7 +112,7 @@ fn fill<'a>(place: &mut Option<&'a [u8]>, text: &'a [u8]) -> bool
     true
 }
 
-/// Lines at the front of a text: how many, their bytes, and what follows them.
+/// Lines at the front of a text: their number, their bytes, and what follows them.
 #[derive(Clone, Copy)]
 struct Front<'a> {
     lines: u64,
@@ -120,7 +120,8 @@ struct Front<'a> {
     rest: &'a [u8],
 }
 
-/// The lines of a section, up to a marker; or those before the first section, up to one with words.
+/// Returns the lines of a section, up to a marker; or those before the first section, up to one with
+/// words.
 fn split_front(text: &[u8], in_section: bool) -> Front<'_>
     ensures lines { result.lines ≡ position_or_len (stops in_section) (ended_lines text.now) }
     ensures text { result.text.now ≡ concat (before_first (stops in_section) (ended_lines text.now)) }
@@ -141,7 +142,7 @@ fn split_front(text: &[u8], in_section: bool) -> Front<'_>
     }
 }
 
-/// What follows the first line, unless lines end there.
+/// Returns what follows the first line, unless it ends those before it.
 fn past_line(text: &[u8], in_section: bool) -> Option<&[u8]>
     ensures { MatchOption result (position_or_len (stops in_section) (ended_lines text.now) ≡ 0)
         (λ after. PassesLine (stops in_section) text.now after.now) }
@@ -154,7 +155,7 @@ fn past_line(text: &[u8], in_section: bool) -> Option<&[u8]>
     }
 }
 
-/// Whether a line ends those before it: a marker in a section, and words before the first one.
+/// Returns whether a line ends those before it: a marker in a section, and words before the first one.
 fn stops(line: &[u8], in_section: bool) -> bool
     ensures { result ≡ stops in_section line.now }
 {
@@ -165,7 +166,7 @@ fn stops(line: &[u8], in_section: bool) -> bool
     }
 }
 
-/// The first line with its newline, and what follows it.
+/// Returns the first line with its newline, and what follows it.
 fn split_line(text: &[u8]) -> Option<(&[u8], &[u8])>
     ensures { MatchOption result (text.now ≡ []) (λ split. SplitsLine text.now split.0.now split.1.now) }
 {
@@ -179,14 +180,14 @@ fn split_line(text: &[u8]) -> Option<(&[u8], &[u8])>
     }
 }
 
-/// A line without its newline.
+/// Returns a line without its newline.
 fn without_newline(line: &[u8]) -> &[u8]
     ensures { result.now ≡ before_first (λ byte. byte == 10) line.now }
 {
     &line[..first_place(line, b'\n')]
 }
 
-/// The horizon that a line `%nullsim N` says.
+/// Returns the horizon in a line `%nullsim N`.
 fn horizon_in(line: &[u8]) -> Option<u64>
     ensures { result ≡ option_map (min (2 ^ 64 - 1)) (horizon_in line.now) }
 {
@@ -199,7 +200,7 @@ fn horizon_in(line: &[u8]) -> Option<u64>
     }
 }
 
-/// What a line of one word begins.
+/// The section that a line of one word begins.
 #[derive(Clone, Copy)]
 enum Marker {
     Bench,
@@ -208,7 +209,7 @@ enum Marker {
     Schedule,
 }
 
-/// The marker that a line is.
+/// Returns the marker of a line, if it is one.
 fn marker_in(line: &[u8]) -> Option<Marker>
     ensures { MatchOption result (is_marker line.now ≡ false)
         (λ marker. line_words line.now ≡ word_of marker ∷ []) }
@@ -221,7 +222,7 @@ fn marker_in(line: &[u8]) -> Option<Marker>
     }
 }
 
-/// The marker of a word.
+/// Returns the marker with this word, if any.
 fn marker_named(word: &[u8]) -> Option<Marker>
     ensures { MatchOption result (is_marker_word word.now ≡ false) (λ marker. word.now ≡ word_of marker) }
 {

@@ -13,7 +13,7 @@ use Rattle.timing_text.specs.TimingLines.{NetProperty}
 use Rattle.timing_text.specs.Timings.{properties_of, timing_of_net, wires_of_net}
 use Rattle.timing_text.specs.Stimuli.{NamedChange, stimuli_of, stimuli_named}
 
--- each net with its timing, its wires and its stimuli
+-- each net with its timing, wire delays and stimuli
 abbrev pub circuit_with : NetlistView → List NetProperty → List NamedChange → ℕ → ℕ → Circuit
 circuit_with netlist lines stimuli default period =
     map (λ (net : NetView). record {
@@ -33,7 +33,7 @@ circuit_of netlist delay_text stimulus_text default period =
       stimuli ← result_map_both (λ stimuli. stimuli) Stimulus (stimuli_of netlist stimulus_text)
       Ok (circuit_with netlist lines stimuli default period))
 
--- the design that a netlist makes with its texts and settings, or the first fault
+-- the design of a netlist with its texts and settings, or the first fault
 abbrev pub design_of : NetlistView → List ℕ → List ℕ → ℕ → ℕ → Result DesignView BuildFault
 design_of netlist delay_text stimulus_text default period =
     circuit_of netlist delay_text stimulus_text default period >>= λ circuit. Ok (record { netlist = netlist; circuit = circuit })

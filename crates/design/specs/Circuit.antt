@@ -5,7 +5,7 @@ use Rattle.netlist.specs.declared.part.Part.{Part}
 use Rattle.timing_text.specs.declared.timing.Timing.{Timing}
 use Rattle.timing_text.specs.Ranges.{HasTiming, HasWires, HasStimuli}
 
--- a net of a circuit: what drives it, how many ticks the wire to each pin takes, and when it looks at its pins
+-- a net of a circuit: what drives it, the wire delay of each pin, and when it reads its pins
 pub record Net : Type 0 where
   pub name : List ℕ
   pub part : Part
@@ -17,14 +17,14 @@ pub record Net : Type 0 where
 abbrev pub Circuit : Type 0
 Circuit = List Net
 
--- a gate or a flip-flop takes at least one tick, an input none, and flip-flops alone have a clock; each pin has a wire;
--- stimuli stand at inputs alone, and their ticks rise strictly
+-- a gate or a flip-flop has a delay of at least one tick, an input none, and only flip-flops have a clock; each pin has a wire
+-- delay; only inputs have stimuli, and their ticks rise strictly
 pub record IsTimed (net : Net) : Type 0 where
   pub timing : HasTiming net.part net.timing
   pub wires : HasWires (length net.pins) net.wires
   pub stimuli : HasStimuli net.part net.stimuli
 
--- each pin names a net of the circuit, and nothing but an input answers at once
+-- each pin names a net of the circuit, and only inputs have delay 0
 pub record IsCircuit (circuit : Circuit) : Type 0 where
   pub pins : All (λ (net : Net). All (λ pin. pin < length circuit) net.pins) circuit
   pub timed : All IsTimed circuit

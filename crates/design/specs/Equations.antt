@@ -11,11 +11,11 @@ use Rattle.netlist.specs.declared.part.Part.TheVariants.{Input, Gate, Flop}
 use Rattle.design.specs.Circuit.{Net, Circuit}
 use Rattle.design.specs.Samples.{asked_of_part, source_tick}
 
--- what a pin shows: its source's signal, later by the delay of its wire, and X before
+-- what a pin shows: its source's signal, delayed by its wire delay, and X before that
 abbrev pub later : ℕ → (ℕ → Value) → ℕ → Value
 later wire signal tick = option_map_or signal (source_tick wire tick) Unknown
 
--- what the pins of these sources show, each with its wire
+-- what the pins of these sources show, each with its wire delay
 abbrev pub pin_signals : (ℕ → ℕ → Value) → List ℕ → List ℕ → List (ℕ → Value)
 pin_signals signals (pin ∷ pins) (wire ∷ wires) = later wire (signals pin) ∷ pin_signals signals pins wires
 pin_signals signals _ _ = []
@@ -43,7 +43,7 @@ equation_at (Some net) signals tick = equation net (pin_signals signals net.pins
 abbrev pub IsSolution : Circuit → (ℕ → ℕ → Value) → Type 0
 IsSolution circuit signals = (net tick : ℕ) → signals net tick ≡ equation_at (slice_get circuit net) signals tick
 
--- what the equations give within so many ticks, each one asking for earlier ticks alone
+-- what the equations give within a number of ticks, each one asking only for earlier ticks
 abbrev pub value_within : Circuit → ℕ → ℕ → ℕ → Value
 value_within circuit zero net tick = Unknown
 value_within circuit (suc ticks) net tick = equation_at (slice_get circuit net) (value_within circuit ticks) tick

@@ -1,4 +1,4 @@
--- How a text's fault comes out of a build.
+-- How a build reports the fault of a text.
 use Rattle.timing_text.specs.declared.fault.DelayFault.{DelayFault}
 use Rattle.timing_text.specs.declared.fault.DelayFault.TheVariants as delay
 use Rattle.timing_text.specs.declared.fault.StimulusFault.{StimulusFault}
@@ -6,7 +6,7 @@ use Rattle.timing_text.specs.declared.fault.StimulusFault.TheVariants as stimulu
 use Rattle.design.specs.declared.fault.BuildFault.{BuildFault}
 use Rattle.design.specs.declared.fault.BuildFault.TheVariants.{Timing, Stimulus, Memory}
 
--- want of memory is the build's own fault, and any other one is passed on
+-- out of memory is the build's own fault, and any other fault is passed on
 abbrev pub timing_fault : DelayFault → BuildFault
 timing_fault delay.Memory = Memory
 timing_fault fault = Timing fault

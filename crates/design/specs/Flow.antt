@@ -1,4 +1,4 @@
--- The order in which values flow through a circuit: inputs, gates behind the gates at their pins, flip-flops.
+-- The order in which values flow through a circuit: inputs, gates after the gates at their pins, flip-flops.
 use Rattle.std.specs.Prelude.{◌≡◌, ℕ, List, take, slice_get, Some, Contains, ◌⊎◌}
 use Rattle.std.specs.Option.{option_map_or}
 use Rattle.netlist.specs.declared.part.Part.{Part}
@@ -11,7 +11,7 @@ rank Input = 0
 rank (Gate kind) = 1
 rank Flop = 2
 
--- the rank of the net of a number; past the last net it is none of these
+-- the rank of the net with a number; past the last net, a rank that no part has
 abbrev pub rank_at : Circuit → ℕ → ℕ
 rank_at circuit net = option_map_or (λ (n : Net). rank n.part) (slice_get circuit net) 3
 
@@ -26,12 +26,12 @@ pub record Feeds (circuit : Circuit) (source gate : ℕ) : Type 0 where
   pub is_gate : IsGate circuit gate
   pub at_pin : Contains net.pins source
 
--- values flow from a net to the gates that have it at a pin, and from there on through gates alone
+-- values flow from a net to the gates that have it at a pin, and from there through gates alone
 pub data FlowsTo (circuit : Circuit) (from : ℕ) : ℕ → Type 0 where
   straight : (to : ℕ) → Feeds circuit from to → FlowsTo circuit from to
   through : (middle to : ℕ) → FlowsTo circuit from middle → Feeds circuit middle to → FlowsTo circuit from to
 
--- each gate stands behind each gate at its pins, unless values flow back from it to that one
+-- each gate comes after each gate at its pins, unless values flow back from it to that one
 abbrev pub FollowsFlow : Circuit → List ℕ → Type 0
 FollowsFlow circuit order =
     (place gate source : ℕ) → slice_get order place ≡ Some gate → IsGate circuit source → Feeds circuit source gate →

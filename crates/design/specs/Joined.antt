@@ -1,4 +1,4 @@
--- The design that its stored parts make.
+-- The design that is made of its stored parts.
 use Rattle.std.specs.Prelude.{◌≡◌, ℕ, ◌+◌, List, [], ◌∷◌, length, map}
 use Rattle.std.specs.List.{zip}
 use Rattle.logic3.specs.declared.change.Change.{Change}
@@ -18,14 +18,14 @@ timed_net timed = record {
   stimuli = timed.1.1;
 }
 
--- each net with its timing, its wires and its stimuli, in order
+-- each net with its timing, wire delays and stimuli, in order
 abbrev pub timed_nets : List NetView → List (Timing × List ℕ) → List (List Change) → Circuit
 timed_nets nets timings stimuli = map timed_net (zip nets (zip timings stimuli))
 
 abbrev pub design_view : NetlistView → List (Timing × List ℕ) → List (List Change) → DesignView
 design_view netlist timings stimuli = record { netlist = netlist; circuit = timed_nets netlist.nets timings stimuli }
 
--- the first pin of each net, by the pins of all nets, and at the end the first number that is no pin
+-- the first pin of each net, given the pins of all nets, and at the end the first number that isn't a pin
 abbrev pub starts_from : ℕ → List (List ℕ) → List ℕ
 starts_from pin [] = pin ∷ []
 starts_from pin (pins ∷ nets) = pin ∷ starts_from (pin + length pins) nets

@@ -1,4 +1,4 @@
--- The equations where all flip-flops have one period, sample at its multiples and begin with X, as in a delay text of version 1.
+-- The equations if all flip-flops have one period, sample at its multiples and begin with X, as in a delay text of version 1.
 use Rattle.std.specs.Prelude.{◌≡◌, ℕ, ◌+◌, ◌-◌, ◌*◌, ◌/◌, nat_lt, if◌then◌else◌, List, map, slice_get, Option, None, Some, Ok}
 use Rattle.logic3.specs.declared.value.Value.{Value}
 use Rattle.logic3.specs.declared.value.Value.TheVariants.{Unknown}
@@ -25,7 +25,7 @@ pub record OnePeriodCircuit : Type 0 where
   pub made : circuit_of netlist delays stimuli default_delay period ≡ Ok circuit
 
 module _ (period : ℕ) where
-  -- a flip-flop shows the last multiple of the period that is a delay ago, from the first one on
+  -- a flip-flop shows its pin at the last multiple of the period that is a delay ago, from the first multiple on
   abbrev pub periodic_of_part : Part → Net → List (ℕ → Value) → ℕ → Value
   periodic_of_part Input net signals tick = value_after Unknown net.stimuli tick
   periodic_of_part (Gate kind) net signals tick =

@@ -8,7 +8,7 @@ use Rattle.timing_text.specs.declared.timing.Timing.{Timing}
 use Rattle.design.specs.Circuit.{Net, Circuit}
 use Rattle.design.specs.Design.{DesignView}
 
--- the net of a number; what stands for it past the last net is of no concern
+-- the net with a number; past the last net, the result doesn't matter
 abbrev pub net_in : Circuit → ℕ → Net
 net_in circuit number = slice_index_or circuit number (record {
   name = [];
@@ -19,19 +19,19 @@ net_in circuit number = slice_index_or circuit number (record {
   stimuli = [];
 })
 
--- its timing, with the wires to its pins
+-- its timing, with the wire delays of its pins
 abbrev pub timing_in : Circuit → ℕ → Timing × List ℕ
 timing_in circuit number = let net = net_in circuit number in (net.timing, net.wires)
 
 abbrev pub stimuli_in : Circuit → ℕ → List Change
 stimuli_in circuit number = (net_in circuit number).stimuli
 
--- the net of this number with all that it has, its pins by their places among those that are kept
+-- the net with this number, unchanged except for its pins, which are their places among those that are kept
 abbrev pub kept_net : Circuit → List ℕ → ℕ → Net
 kept_net circuit keep number =
     let net = net_in circuit number in record net { pins = map (place_in keep) net.pins }
 
--- the nets of these numbers in this order, and these outputs, by the new numbers
+-- the nets with these numbers in this order, and these outputs, by the new numbers
 abbrev pub picked_design : DesignView → List ℕ → List ℕ → DesignView
 picked_design design keep outputs = record {
   netlist = picked design.netlist keep outputs;

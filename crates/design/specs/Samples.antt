@@ -1,4 +1,5 @@
--- At which tick a net looks at its pins and their sources: what its part, its timing and its wires mean, and nothing else says so.
+-- The ticks at which a net reads its pins and their sources: the only place where the meaning of timing and wire delays is
+-- defined.
 use Rattle.std.specs.Prelude.{◌≡◌, ℕ, ◌+◌, ◌-◌, ◌*◌, ◌/◌, ◌%◌, ◌==◌, ◌≤◌, nat_lt, max, if◌then◌else◌, Option, None, Some, slice_index_or}
 use Rattle.netlist.specs.declared.part.Part.{Part}
 use Rattle.netlist.specs.declared.part.Part.TheVariants.{Input, Gate, Flop}
@@ -13,7 +14,7 @@ IsSample period phase tick = (1 ≤ tick) × (tick % period ≡ phase)
 abbrev pub first_sample : ℕ → ℕ → ℕ
 first_sample period phase = if phase == 0 then period else phase
 
--- the last one up to a tick, where the first isn't after it
+-- the last one up to a tick, if the first isn't after it
 abbrev pub last_sample : ℕ → ℕ → ℕ → ℕ
 last_sample period phase tick = phase + period * ((tick - phase) / period)
 
@@ -33,11 +34,11 @@ asked_of_part Flop timing tick =
 abbrev pub asked_tick : Net → ℕ → Option ℕ
 asked_tick net tick = asked_of_part net.part net.timing tick
 
--- the tick of its source that a pin shows at a tick, by the delay of its wire; none before that is over
+-- the tick of its source that a pin shows at a tick, by its wire delay; none before that is over
 abbrev pub source_tick : ℕ → ℕ → Option ℕ
 source_tick wire tick = if nat_lt tick wire then None else Some (tick - wire)
 
--- how many ticks the wire of the pin at a place takes
+-- the wire delay of the pin at a place
 abbrev pub wire_at : Net → ℕ → ℕ
 wire_at net place = slice_index_or net.wires place 0
 

@@ -6,7 +6,7 @@ use Rattle.design.specs.declared.order.Step.{Step}
 use Rattle.design.specs.Circuit.{Net, Circuit}
 use Rattle.design.specs.Flow.{rank_at, IsGate, FlowsTo, FollowsFlow}
 
--- how often a net stands in a list
+-- how often a net is in a list
 abbrev pub times : ℕ → List ℕ → ℕ
 times net nets = count_by (λ other. other == net) nets
 
@@ -18,7 +18,7 @@ nets_of_rank circuit wanted = filter (λ net. rank_at circuit net == wanted) (ra
 abbrev pub with_gates : Circuit → List ℕ → List ℕ
 with_gates circuit gates = nets_of_rank circuit 0 ++ gates ++ nets_of_rank circuit 2
 
--- each gate once and nothing else, and each behind the gates at its pins, unless values flow back
+-- exactly the gates, each once, and each after the gates at its pins, unless values flow back
 pub record IsGateOrder (circuit : Circuit) (gates : List ℕ) : Type 0 where
   pub each : (net : ℕ) → times net gates ≡ (if rank_at circuit net == 1 then 1 else 0)
   pub follows : FollowsFlow circuit gates
@@ -31,7 +31,7 @@ abbrev pub HasLooked : Circuit → List Bool → Step → Type 0
 HasLooked circuit seen step =
     (net : Net) → slice_get circuit step.gate ≡ Some net → SeenBefore seen net.pins step.place
 
--- the gates that were seen are on the path or were left, each once; values flow from each gate on the path to those below it
+-- the gates that were seen are on the path or were left, each once; values flow from each gate on the path to those before it
 pub record IsWalk (circuit : Circuit) (seen : List Bool) (path : List Step) (left : List ℕ) : Type 0 where
   pub size : length seen ≡ length circuit
   pub gates : (net : ℕ) → net < length circuit → is_seen seen net ≡ false → IsGate circuit net

@@ -6,7 +6,7 @@ use std::alloc::AllocError;
 use thiserror::Error;
 use timing_text::{DelayFault, OptionFault, StimulusFault};
 
-/// Why no design was built: the first fault, in the order default delay, period, delay text,
+/// Why no design was built: the first fault in the order default delay, period, delay text,
 /// stimulus text.
 #[derive(Clone, Copy, Debug, PartialEq, Eq, Error)]
 pub enum BuildFault {
@@ -16,7 +16,7 @@ pub enum BuildFault {
     Timing(DelayFault),
     #[error("{0}")]
     Stimulus(StimulusFault),
-    /// A growth was refused.
+    /// An allocation failed.
     #[error("Memory")]
     Memory,
 }

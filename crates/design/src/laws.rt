@@ -10,7 +10,7 @@ ghost use Rattle.design.specs.Samples.{IsSample, first_sample, last_sample, next
 ghost use Rattle.design.specs.Equations.{later, equation, equation_at, IsSolution, value_of};
 ghost use Rattle.design.specs.OnePeriod.{IsPeriodicSolution, OnePeriodCircuit};
 
-/// The equations of a circuit have one solution, and no other.
+/// The equations of a circuit have exactly one solution.
 pub fn one_solution()
     ensures solves { (circuit : Circuit) → IsCircuit circuit → IsSolution circuit (value_of circuit) }
     ensures only { (circuit : Circuit) (signals : ℕ → ℕ → Value) →
@@ -18,16 +18,16 @@ pub fn one_solution()
         (net tick : ℕ) → signals net tick ≡ value_of circuit net tick }
 {}
 
-/// Where a delay text is of version 1, what nets show solves the equations of one period, at whose
-/// multiples all flip-flops sample, which begin with X; and nothing else does.
+/// If a delay text is of version 1, all flip-flops begin with X and sample at the multiples of one
+/// period. What the nets show is the only solution of the equations for that period.
 pub fn one_period()
     ensures solves { (made : OnePeriodCircuit) → IsPeriodicSolution made.period made.circuit (value_of made.circuit) }
     ensures only { (made : OnePeriodCircuit) (signals : ℕ → ℕ → Value) → IsPeriodicSolution made.period made.circuit signals →
         (net tick : ℕ) → signals net tick ≡ value_of made.circuit net tick }
 {}
 
-/// What the first sample, the last one up to a tick and the next one from a tick on are, where the phase
-/// is below the period: samples, and no other lies before the first, between the last and the tick, or
+/// If the phase is less than the period, the first sample, the last one up to a tick and the next one
+/// from a tick on are samples. No other sample is before the first, between the last and the tick, or
 /// between the tick and the next.
 pub fn samples()
     ensures first { (period phase : ℕ) → phase < period →
@@ -44,8 +44,8 @@ pub fn samples()
         tick ≤ sample → next_sample period phase tick ≤ sample }
 {}
 
-/// A pin shows what its source showed so many ticks before as its wire takes, and X until then. Where
-/// no wire of a net takes a tick, its equation is that over its sources themselves.
+/// A pin shows what its source showed a wire delay earlier, and X until then. If all wire delays of a net
+/// are 0, its equation is the one over its sources themselves.
 pub fn wires()
     ensures source { (wire tick at : ℕ) → source_tick wire tick ≡ Some at → at + wire ≡ tick }
     ensures shown { (wire at : ℕ) (signal : ℕ → Value) → later wire signal (at + wire) ≡ signal at }
@@ -56,8 +56,8 @@ pub fn wires()
 {}
 
 /// A net's value asks for its pins at least a delay earlier, and a later value doesn't ask for an
-/// earlier tick. Before the first tick that asks for a tick of the pins, earlier ones are asked for.
-/// From it on some tick is asked for, and none that is before it by more than the delay.
+/// earlier tick. Before the first tick that asks for a tick of the pins, only earlier ones are asked for.
+/// From that one on, some tick is always asked for, at most a delay before the first tick that asks.
 pub fn asked_ticks()
     ensures earlier { (net : Net) (tick asked : ℕ) → IsTimed net →
         asked_tick net tick ≡ Some asked → asked + net.timing.delay ≤ tick }

@@ -1,4 +1,4 @@
-//! A netlist with timing, wires and stimuli, its defining equations, and the plain engine.
+//! A netlist with timing, wire delays and stimuli, its defining equations, and the plain engine.
 #![tactic(auto)]
 
 mod design;

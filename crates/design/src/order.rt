@@ -1,8 +1,7 @@
 //! The order in which values flow through a design.
 //!
-//! A walk goes from gates back over their pins, as deep as it can, and leaves a gate once it has
-//! seen all its pins. It keeps its path in a list of its own, so that long chains of gates take no
-//! stack.
+//! A depth-first walk goes from gates back over their pins, and leaves a gate once it has seen all its
+//! pins. It keeps its path in a list, so that long chains of gates need no stack.
 ghost use Rattle.std.specs.Prelude.{◌≡◌, ◌≢◌, ℕ, ◌<◌, ◌≤◌, ◌==◌, not, [], ◌∷◌, ◌++◌, false, length, map, set, slice_index_or, true, All, AllPairs, Contains, IfOk, OnOk};
 ghost use Rattle.std.specs.List.{range_with_len};
 ghost use Rattle.netlist.specs.Marks.{is_seen, KeepsSeen};
@@ -14,15 +13,15 @@ use crate::design::Design;
 use netlist::Part;
 use std::alloc::{AllocError, Global};
 
-/// All nets, each once, in the order in which values flow: inputs, then gates, then flip-flops.
+/// Returns all nets, each once, in the order in which values flow: inputs, gates, flip-flops.
 ///
-/// Each gate stands behind each gate at its pins, but where values also flow back from it to that
-/// one, through gates alone, so that the two are in a loop.
+/// Each gate comes after each gate at its pins, unless values also flow back from it to that gate,
+/// through gates alone, so that the two are in a loop.
 ///
 /// Takes time and memory in proportion to the nets and pins.
 ///
 /// # Errors
-/// An `AllocError` where a growth was refused.
+/// `AllocError` if an allocation fails.
 pub fn flow_order(alloc: Global, design: &Design) -> Result<Vec<u32>, AllocError>
     ensures within { IfOk result (λ order. All (λ net. net < length design.now.circuit) order.items) }
     ensures once { IfOk result (λ order. AllPairs (λ (earlier later : ℕ). earlier ≢ later) order.items) }
@@ -36,7 +35,7 @@ pub fn flow_order(alloc: Global, design: &Design) -> Result<Vec<u32>, AllocError
     Ok(order)
 }
 
-/// The inputs, these gates, and the flip-flops.
+/// Returns the inputs, these gates, and the flip-flops.
 fn with_gates(alloc: Global, design: &Design, gates: &[u32]) -> Result<Vec<u32>, AllocError>
     ensures { IfOk result (λ order. order.items ≡ with_gates design.now.circuit gates.now) }
 {
@@ -47,7 +46,7 @@ fn with_gates(alloc: Global, design: &Design, gates: &[u32]) -> Result<Vec<u32>,
     Ok(order)
 }
 
-/// Puts the nets of a part's rank behind the list.
+/// Adds the nets of a part's rank at the end of the list.
 fn list_nets(design: &Design, part: Part, list: &mut Vec<u32>) -> Result<(), AllocError>
     ensures { OnOk result (list.new.items ≡ list.old.items ++ nets_of_rank design.now.circuit (rank part)) }
 {
@@ -59,7 +58,7 @@ fn list_nets(design: &Design, part: Part, list: &mut Vec<u32>) -> Result<(), All
     Ok(())
 }
 
-/// Where a part stands: inputs first, then gates, then flip-flops.
+/// Returns the rank of a part: inputs first, then gates, then flip-flops.
 fn rank(part: Part) -> u8
     ensures { result ≡ rank part }
 {
@@ -70,7 +69,7 @@ fn rank(part: Part) -> u8
     }
 }
 
-/// The gates, in the order in which a walk leaves them.
+/// Returns the gates, in the order in which a walk leaves them.
 fn gates_in_order(alloc: Global, design: &Design) -> Result<Vec<u32>, AllocError>
     ensures { IfOk result (λ gates. IsGateOrder design.now.circuit gates.items) }
 {
@@ -88,7 +87,7 @@ fn gates_in_order(alloc: Global, design: &Design) -> Result<Vec<u32>, AllocError
     Ok(walk.left)
 }
 
-/// Which nets are no gates.
+/// Returns which nets aren't gates.
 fn other_nets(alloc: Global, design: &Design) -> Result<Vec<bool>, AllocError>
     ensures { IfOk result (λ others.
         others.items ≡ map (λ net. not (rank_at design.now.circuit net == 1)) (range_with_len 0 (length design.now.circuit))) }
@@ -110,8 +109,7 @@ struct Step {
 /// A walk from gates back over their pins.
 #[derive(Debug, Drop)]
 struct Walk {
-    // The nets that it has nothing more to do with but for its path: other parts, and gates that it
-    // has entered.
+    // The nets that it needn't enter: other parts, and gates that it has entered.
     seen: Vec<bool>,
     // The gates that it has entered and not left, each at a pin of the one before it.
     path: Vec<Step>,
@@ -120,7 +118,7 @@ struct Walk {
 }
 
 impl Walk {
-    /// Goes to a net.
+    /// Enters a net.
     fn enter(&mut self, net: u32) -> Result<(), AllocError>
         requires { net < length self.old.seen.items }
         ensures seen { OnOk result (self.new.seen.items ≡ set self.old.seen.items net true) }
@@ -135,7 +133,7 @@ impl Walk {
         Ok(())
     }
 
-    /// Goes on until all gates of the path are left.
+    /// Walks on until all gates of the path are left.
     fn leave_all(&mut self, design: &Design) -> Result<(), AllocError>
         requires formed { IsDesign design.now }
         requires walk { IsWalk design.now.circuit self.old.seen.items self.old.path.items self.old.left.items }
@@ -160,7 +158,8 @@ impl Walk {
     }
 }
 
-/// The first place, from one on, of a pin that was not seen; past the last pin where all were.
+/// Returns the first place, from one on, of a pin that was not seen, or a place past the last pin if
+/// all were seen.
 fn first_unseen(pins: &[u32], from: usize, seen: &[bool]) -> usize
     requires pins { All (λ pin. pin < length seen.now) pins.now }
     requires before { SeenBefore seen.now pins.now from }

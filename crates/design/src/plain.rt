@@ -1,7 +1,7 @@
-//! The plain engine: tick by tick and net by net it reckons the defining equations.
+//! The plain engine: it computes the defining equations tick by tick and net by net.
 //!
-//! It is the second opinion on any other engine, so it does nothing clever: an earlier value is
-//! looked up in the waveforms so far, and nothing else is kept.
+//! It serves to check other engines, so it is simple: it looks up earlier values in the waveforms so far,
+//! and stores nothing else.
 ghost use Rattle.std.specs.Prelude.{◌≡◌, ◌+◌, ◌<◌, ◌≤◌, if◌then◌else◌, [], ◌∷◌, length, slice_get, All, IfOk, OnOk};
 ghost use Rattle.std.specs.Option.{option_map_or};
 ghost use Rattle.logic3.specs.declared.value.Value.TheVariants.{Unknown};
@@ -19,10 +19,10 @@ use netlist::Part;
 use std::alloc::{AllocError, Global};
 use timing_text::Horizon;
 
-/// The waveforms of all nets, in their order, from tick 0 to the horizon.
+/// Returns the waveforms of all nets, in their order, from tick 0 to the horizon.
 ///
 /// # Errors
-/// An `AllocError` where a growth was refused.
+/// `AllocError` if an allocation fails.
 pub fn plain_waves(
     alloc: Global,
     design: &Design,
@@ -38,10 +38,10 @@ pub fn plain_waves(
     Ok(waves)
 }
 
-/// A waveform for each net, in their order, before any tick: [`advance`] goes on from there.
+/// Returns a waveform for each net, in their order, before tick 0. [`advance`] continues from there.
 ///
 /// # Errors
-/// An `AllocError` where a growth was refused.
+/// `AllocError` if an allocation fails.
 pub fn unknown_waves(alloc: Global, design: &Design) -> Result<Vec<Waveform>, AllocError>
     ensures { IfOk result (λ waves. waves.items ≡ waves_of design.now.circuit 0) }
 {
@@ -52,11 +52,11 @@ pub fn unknown_waves(alloc: Global, design: &Design) -> Result<Vec<Waveform>, Al
     Ok(waves)
 }
 
-/// Carries the waveforms of all nets one tick on: they are those of the ticks before it, and then those of
-/// this one too. `values` is room for what stands at a gate's pins, whatever it holds.
+/// Extends the waveforms of all nets, which cover the ticks before this one, by this tick. `values` is a
+/// buffer for the values at a gate's pins, with any content.
 ///
 /// # Errors
-/// An `AllocError` where a growth was refused; the waveforms aren't those of any tick then.
+/// `AllocError` if an allocation fails. The waveforms are then not valid for any tick.
 pub fn advance(
     design: &Design,
     tick: u64,
@@ -74,7 +74,7 @@ pub fn advance(
     Ok(())
 }
 
-/// Carries a waveform one tick on: with a change where the value isn't the last one.
+/// Extends a waveform by one tick: with a change if the value differs from the last one.
 fn extend(wave: &mut Waveform, tick: u64, value: Value) -> Result<(), AllocError>
     requires tick { tick ≤ most_ticks }
     requires later { All (λ (earlier : Change). earlier.tick < tick) wave.old.changes }
@@ -87,7 +87,7 @@ fn extend(wave: &mut Waveform, tick: u64, value: Value) -> Result<(), AllocError
     Ok(())
 }
 
-/// The value that a net's equation gives at a tick, from what the waveforms show earlier.
+/// Returns the value that a net's equation gives at a tick, from what the waveforms show earlier.
 fn net_value(
     design: &Design,
     net: u32,
@@ -113,7 +113,7 @@ fn net_value(
     }
 }
 
-/// What a gate shows: what it gives for its pins at the tick it asks for, X where there is none.
+/// Returns what a gate shows: its value for its pins at the asked tick, or X if there is none.
 fn gate_value(
     kind: GateKind,
     pins: &[u32],
@@ -138,7 +138,7 @@ fn gate_value(
 /// Fills a buffer with what pins show at a tick.
 ///
 /// # Errors
-/// An `AllocError` where a growth was refused; nothing is said of the buffer then.
+/// `AllocError` if an allocation fails. The content of the buffer is then unspecified.
 pub fn read_pins(
     pins: &[u32],
     wires: &[u32],
@@ -157,7 +157,7 @@ pub fn read_pins(
     Ok(())
 }
 
-/// What a flip-flop shows: its pin at the tick it asks for, its initial value where there is none.
+/// Returns what a flip-flop shows: its pin at the asked tick, or its initial value if there is none.
 fn sampled_value(
     pin: u32,
     wire: u32,
@@ -174,7 +174,7 @@ fn sampled_value(
     }
 }
 
-/// What a pin shows at a tick: its source's value, earlier by the delay of its wire, and X before.
+/// Returns what a pin shows at a tick: the value of its source a wire delay earlier, and X before that.
 pub fn pin_value(pin: u32, wire: u32, waves: &[Waveform], tick: u64) -> Value
     requires { pin < length waves.now }
     ensures { result ≡ later wire (signals_in waves.now pin) tick }
@@ -185,7 +185,7 @@ pub fn pin_value(pin: u32, wire: u32, waves: &[Waveform], tick: u64) -> Value
     }
 }
 
-/// What the waveform of a net shows at a tick.
+/// Returns what the waveform of a net shows at a tick.
 #[tactic(auto, using(crate::proofs::Ticks::signals_in_at))]
 pub fn shown(waves: &[Waveform], net: u32, tick: u64) -> Value
     requires { net < length waves.now }

@@ -1,4 +1,4 @@
-//! At which tick a net looks at its pins.
+//! The tick at which a net reads its pins.
 ghost use Rattle.std.specs.Prelude.{◌≡◌, ◌<◌, ◌≤◌, ◌+◌};
 ghost use Rattle.netlist.specs.declared.part.Part.TheVariants.{Flop};
 ghost use Rattle.timing_text.specs.Ranges.{most_delay, most_ticks, HasTiming};
@@ -7,9 +7,9 @@ ghost use Rattle.design.specs.Samples.{first_sample, last_sample, next_sample, a
 use netlist::Part;
 use timing_text::Timing;
 
-/// The tick of its pins that decides what a net shows at a tick.
+/// Returns the tick of its pins that decides what a net shows at a tick.
 ///
-/// None for an input, before a gate's delay is over, and before a flip-flop's first sample shows.
+/// `None` for an input, before a gate's delay is over, and before a flip-flop's first sample shows.
 pub fn asked_tick(part: Part, timing: Timing, tick: u64) -> Option<u64>
     requires { HasTiming part timing }
     ensures { result ≡ asked_of_part part timing tick }
@@ -21,7 +21,7 @@ pub fn asked_tick(part: Part, timing: Timing, tick: u64) -> Option<u64>
     }
 }
 
-/// The sample that a flip-flop shows at a tick; none before the first one shows.
+/// Returns the sample tick that a flip-flop shows at a tick; `None` before the first one shows.
 fn sampled_tick(timing: Timing, tick: u64) -> Option<u64>
     requires { HasTiming Flop timing }
     ensures { result ≡ asked_of_part Flop timing tick }
@@ -33,9 +33,9 @@ fn sampled_tick(timing: Timing, tick: u64) -> Option<u64>
     Some(last_sample(timing.period, timing.phase, sampled))
 }
 
-/// The first tick at which a net asks for this tick of its pins or a later one.
+/// Returns the first tick at which a net asks for this tick of its pins or a later one.
 ///
-/// None for an input.
+/// `None` for an input.
 pub fn first_asker(part: Part, timing: Timing, tick: u64) -> Option<u64>
     requires timing { HasTiming part timing }
     requires tick { tick ≤ most_ticks + 1 + most_delay }
@@ -48,14 +48,14 @@ pub fn first_asker(part: Part, timing: Timing, tick: u64) -> Option<u64>
     }
 }
 
-/// The first tick of at least 1 whose remainder by the period is the phase.
+/// Returns the first tick of at least 1 whose remainder by the period is the phase.
 fn first_sample(period: u64, phase: u64) -> u64
     ensures { result ≡ first_sample period phase }
 {
     if phase == 0 { period } else { phase }
 }
 
-/// The last such tick up to this one, which isn't before the first.
+/// Returns the last such tick up to this one. The first isn't after this one.
 fn last_sample(period: u64, phase: u64, tick: u64) -> u64
     requires some { 0 < period }
     requires phase { phase ≤ tick }
@@ -64,7 +64,7 @@ fn last_sample(period: u64, phase: u64, tick: u64) -> u64
     phase + (tick - phase) / period * period
 }
 
-/// The next such tick, from this one on.
+/// Returns the next such tick, from this one on.
 fn next_sample(period: u64, phase: u64, tick: u64) -> u64
     requires some { 0 < period }
     requires most { period ≤ most_ticks }

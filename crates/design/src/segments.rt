@@ -1,4 +1,4 @@
-//! The order of the nets, cut up into loops of gates and straight stretches.
+//! The order of the nets, divided into loops of gates and straight stretches.
 ghost use Rattle.std.specs.Prelude.{◌≡◌, ℕ, ◌+◌, ◌<◌, ◌≤◌, length, All, IfOk, true, false};
 ghost use Rattle.design.specs.Flow.{IsGate, Feeds};
 ghost use Rattle.design.specs.Segments.{past_of, IsAhead, IsCutUp, IsLoop, IsPast, IsStraight};
@@ -9,22 +9,23 @@ use std::alloc::{AllocError, Global};
 /// A segment of an order of nets: it begins where the one before it ends.
 #[derive(Clone, Copy, Debug, PartialEq, Eq)]
 pub struct Segment {
-    /// The place behind its last net.
+    /// The place after its last net.
     pub end: usize,
-    /// Whether it is a loop of gates; else none of its gates stands at or before a gate at its pins.
+    /// Whether it is a loop of gates. If not, each of its gates comes after the gates at its pins.
     pub loops: bool,
 }
 
-/// The segments of an order of nets, end to end: loops of gates and the straight stretches between them.
+/// Returns the segments of an order of nets, end to end: loops of gates and the straight stretches
+/// between them.
 ///
 /// A loop is a stretch in which values flow back past each place, from a gate to one at or before it,
-/// and out of which no values flow back. Flip-flops make no loops, since they show what their pins
-/// showed at a sample.
+/// and from which no values flow back to earlier segments. Flip-flops form no loops, since they show
+/// what their pins showed at a sample.
 ///
 /// Takes time and memory in proportion to the nets and pins.
 ///
 /// # Errors
-/// An `AllocError` where a growth was refused.
+/// `AllocError` if an allocation fails.
 pub fn segments_of(
     alloc: Global,
     design: &Design,
@@ -44,7 +45,7 @@ pub fn segments_of(
     Ok(segments)
 }
 
-/// For each net one past its last place, 0 where it has none.
+/// Returns for each net one more than its last place, or 0 if it has none.
 fn places_past(alloc: Global, design: &Design, order: &[u32]) -> Result<Vec<usize>, AllocError>
     requires { All (λ net. net < length design.now.circuit) order.now }
     ensures size { IfOk result (λ past. length past.items ≡ length design.now.circuit) }
@@ -57,7 +58,8 @@ fn places_past(alloc: Global, design: &Design, order: &[u32]) -> Result<Vec<usiz
     Ok(past)
 }
 
-/// For each place one past the last place of a gate at the pins of the gate there, 0 where it has none.
+/// Returns for each place one more than the last place of a gate at the pins of the gate there, or 0 if
+/// there is none.
 fn gates_ahead(alloc: Global, design: &Design, order: &[u32]) -> Result<Vec<usize>, AllocError>
     requires { All (λ net. net < length design.now.circuit) order.now }
     ensures { IfOk result (λ ahead. IsAhead design.now.circuit order.now (length order.now) ahead.items) }
@@ -70,7 +72,7 @@ fn gates_ahead(alloc: Global, design: &Design, order: &[u32]) -> Result<Vec<usiz
     Ok(ahead)
 }
 
-/// The greatest of what is told of the gates at the pins of a gate; 0 where there is none.
+/// Returns the greatest entry for the gates at the pins of a gate; 0 if there are none.
 #[tactic(auto, using(crate::proofs::Ranks::gate_by_rank))]
 fn past_gates(design: &Design, net: u32, past: &[usize]) -> usize
     requires net { net < length design.now.circuit }
@@ -94,7 +96,7 @@ fn past_gates(design: &Design, net: u32, past: &[usize]) -> usize
     last
 }
 
-/// The segment that begins at a place.
+/// Returns the segment that begins at a place.
 fn segment_at(ahead: &[usize], begin: usize) -> Segment
     requires begin { begin < length ahead.now }
     requires within { All (λ end. end ≤ length ahead.now) ahead.now }
@@ -114,7 +116,7 @@ fn segment_at(ahead: &[usize], begin: usize) -> Segment
     }
 }
 
-/// Where the loop that begins at a place ends.
+/// Returns the end of the loop that begins at a place.
 fn loop_end(ahead: &[usize], begin: usize) -> usize
     requires begin { begin < length ahead.now }
     requires within { All (λ end. end ≤ length ahead.now) ahead.now }
@@ -131,7 +133,7 @@ fn loop_end(ahead: &[usize], begin: usize) -> usize
     end
 }
 
-/// Where the straight stretch that begins at a place ends.
+/// Returns the end of the straight stretch that begins at a place.
 fn straight_end(ahead: &[usize], begin: usize) -> usize
     requires { begin ≤ length ahead.now }
     ensures { IsStraight ahead.now begin result }

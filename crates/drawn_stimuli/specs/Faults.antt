@@ -1,4 +1,4 @@
--- What a fault of drives tells: its name.
+-- The name of a fault of drives.
 use Rattle.std.specs.Prelude.{ℕ, List, codes}
 use Rattle.drawn_stimuli.specs.declared.fault.DriveFault.{DriveFault}
 use Rattle.drawn_stimuli.specs.declared.fault.DriveFault.TheVariants.{BadEvery, NotAnInput, Twice, BadHalf, BadPulse, TooLong, Memory}

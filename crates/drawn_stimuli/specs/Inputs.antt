@@ -1,4 +1,4 @@
--- What drives each input of a netlist, and what is wrong with drives.
+-- What drives each input of a netlist, and the faults of drives.
 use Rattle.std.specs.Prelude.{ℕ, ◌+◌, ◌<◌, ◌==◌, nat_lt, not, Bool, true, false, if◌then◌else◌, List, [], ◌∷◌, ◌++◌, length, map, count_by, Option, None, Some, bytes_eq}
 use Rattle.std.specs.List.{fold}
 use Rattle.std.specs.Option.{is_some, option_map_or, option_or}
@@ -17,7 +17,7 @@ use Rattle.drawn_stimuli.specs.Signals.{IsSource}
 
 -- ---- drives
 
--- a name, and what drives the input of this name
+-- a name, and what drives the input with this name
 pub record DriveView : Type 0 where
   pub name : List ℕ
   pub drive : Drive
@@ -25,7 +25,7 @@ pub record DriveView : Type 0 where
 abbrev pub seen_drive : Driven → DriveView
 seen_drive driven = record { name = driven.name.now; drive = driven.drive }
 
--- what drives give the input of this name
+-- what drives give the input with this name
 abbrev pub drive_named : List DriveView → List ℕ → Option Drive
 drive_named drives name =
     fold (λ (found : Option Drive) (driven : DriveView). if bytes_eq driven.name name then Some driven.drive else found) None drives
@@ -38,24 +38,24 @@ drives_of_nets drives nets = map (λ (net : NetView). drive_named drives net.nam
 abbrev pub names_input : NetlistView → List ℕ → Bool
 names_input netlist name = option_map_or (λ (net : NetView). is_input net.part) (find_net netlist name) false
 
--- the fault of a drive at a place by itself: a clock changes after a tick at least, and a pulse has a tick at least
+-- the fault of a drive at a place, regardless of the others: half a clock period, and a pulse, are at least one tick long
 abbrev pub form_fault : ℕ → Drive → Option DriveFault
 form_fault place (Clock half) = if half == 0 then Some (BadHalf place) else None
 form_fault place (Hold value) = None
 form_fault place (Pulse from to) = if nat_lt from to then None else Some (BadPulse place)
 
--- a clock changes after a tick at least
+-- half a clock period is at least one tick
 abbrev pub IsDrive : Drive → Type 0
 IsDrive drive = IsSource (Named drive)
 
--- the fault of a drive that comes behind these earlier ones, if it has one
+-- the fault of a drive that comes after these earlier ones, if any
 abbrev pub fault_behind : NetlistView → List DriveView → DriveView → Option DriveFault
 fault_behind netlist earlier driven =
     if not (names_input netlist driven.name) then Some (NotAnInput (length earlier))
     else if is_some (drive_named earlier driven.name) then Some (Twice (length earlier))
     else form_fault (length earlier) driven.drive
 
--- the first fault of drives that come behind these earlier ones
+-- the first fault of drives that come after these earlier ones
 abbrev pub first_fault : NetlistView → List DriveView → List DriveView → Option DriveFault
 first_fault netlist earlier [] = None
 first_fault netlist earlier (driven ∷ drives) =
@@ -72,7 +72,7 @@ abbrev pub is_drawn : Source → Bool
 is_drawn (Named drive) = false
 is_drawn (Drawn place) = true
 
--- an input that no drive is of is drawn, and has a place among those that are drawn
+-- an input that no drive names is drawn, and has a place among those that are drawn
 abbrev pub source_of : Option Drive → ℕ → Source
 source_of None place = Drawn place
 source_of (Some drive) place = Named drive
@@ -89,7 +89,7 @@ inputs_from drives place (net ∷ nets) =
 abbrev pub inputs_of : NetlistView → List DriveView → List InputView
 inputs_of netlist drives = inputs_from drives 0 netlist.nets
 
--- how many of them are drawn
+-- the number of them that are drawn
 abbrev pub drawn_count : List InputView → ℕ
 drawn_count inputs = count_by (λ (input : InputView). is_drawn input.source) inputs
 
@@ -98,7 +98,7 @@ drawn_count inputs = count_by (λ (input : InputView). is_drawn input.source) in
 abbrev pub seen_input : NetlistView → InputNet → InputView
 seen_input netlist input = record { name = (net_at netlist input.net).name; source = input.source }
 
--- the net is there, and the source is one
+-- the net exists, and the source is valid
 pub record IsInputNet (netlist : NetlistView) (input : InputNet) : Type 0 where
   pub within : input.net < length netlist.nets
   pub source : IsSource input.source

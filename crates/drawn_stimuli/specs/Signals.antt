@@ -16,17 +16,18 @@ abbrev pub bit : Bool → Value
 bit true = One
 bit false = Zero
 
--- a clock is 1 in each second span of half a period, the first being 0; a pulse is 1 from its first tick up to but not at its last
+-- a clock is 0 in its first half period, then 1 in every second one; a pulse is 1 from its first tick up to but not including its
+-- last
 abbrev pub drive_value : Drive → ℕ → Value
 drive_value (Clock half) tick = bit (tick / half % 2 == 1)
 drive_value (Hold value) tick = value
 drive_value (Pulse from to) tick = bit (nat_le from tick && nat_lt tick to)
 
--- the word that the generator of this seed gives after so many others
+-- the word that the generator of this seed gives after a number of others
 abbrev pub word_after : ℕ → ℕ → ℕ
 word_after seed others = (pcg32 (advance 64 multiplier_64 others (pcg32_of_seed (pcg32_seed 16 seed)))).0
 
--- at each multiple the words go round: the drawn input of this place takes the word of its place, an odd one for 1
+-- at each multiple there is a round of words: the drawn input at this place takes the word at its place, and an odd word means 1
 abbrev pub drawn_value : Rounds → ℕ → ℕ → Value
 drawn_value rounds place tick =
     bit (word_after rounds.draws.seed (tick / rounds.draws.every * rounds.inputs + place) % 2 == 1)
@@ -36,12 +37,12 @@ abbrev pub signal_of : Rounds → Source → ℕ → Value
 signal_of rounds (Named drive) = drive_value drive
 signal_of rounds (Drawn place) = drawn_value rounds place
 
--- rounds of as many inputs as a netlist may have, each round after a tick at least
+-- rounds of at most as many inputs as a netlist may have, at least one tick apart
 pub record AreRounds (rounds : Rounds) : Type 0 where
   pub apart : 0 < rounds.draws.every
   pub few : rounds.inputs ≤ most_nets
 
--- a clock changes after a tick at least, and a place is one of the inputs that a netlist may have
+-- half a clock period is at least one tick, and a place is less than the number of inputs that a netlist may have
 abbrev pub IsSource : Source → Type 0
 IsSource (Named (Clock half)) = 0 < half
 IsSource (Named _) = Unit {0}

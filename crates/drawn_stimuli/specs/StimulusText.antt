@@ -55,7 +55,7 @@ rounds_of netlist drives draws = record { draws = draws; inputs = drawn_count (i
 abbrev pub driven_value : NetlistView → List DriveView → Draws → InputView → ℕ → Value
 driven_value netlist drives draws input = signal_of (rounds_of netlist drives draws) input.source
 
--- the changes of the inputs of a netlist, as the text tells them
+-- the changes of the inputs of a netlist that the text contains
 abbrev pub drawn_stimuli : NetlistView → List DriveView → Draws → ℕ → List NamedChange
 drawn_stimuli netlist drives draws horizon = drawn_changes (rounds_of netlist drives draws) (inputs_of netlist drives) horizon
 
@@ -66,7 +66,7 @@ stimuli_text netlist drives draws horizon =
     else option_map_or Err (first_fault netlist [] drives)
     (unless_too_long TooLong Ok (lines_text (rounds_of netlist drives draws) (inputs_of netlist drives) horizon))
 
--- ---- what it has for one input
+-- ---- its content for one input
 
 -- drives and draws for a netlist
 pub record Drawing : Type 0 where

@@ -1,4 +1,4 @@
--- The ticks at which something may change.
+-- The ticks at which a value may change.
 use Rattle.std.specs.Prelude.{ℕ, ◌+◌, ◌-◌, ◌%◌, ◌^◌, min, nat_lt, Bool, true, false, if◌then◌else◌, List}
 use Rattle.std.specs.List.{fold}
 use Rattle.drawn_stimuli.specs.declared.drive.Drive.TheVariants.{Clock, Hold, Pulse}
@@ -6,7 +6,7 @@ use Rattle.drawn_stimuli.specs.declared.input.InputNet.{InputNet}
 use Rattle.drawn_stimuli.specs.declared.input.Source.{Source}
 use Rattle.drawn_stimuli.specs.declared.input.Source.TheVariants.{Named, Drawn}
 
--- what stands for a tick that never comes: past every horizon
+-- a tick that stands for none: past every horizon
 abbrev pub never : ℕ
 never = 2 ^ 64 - 1
 
@@ -21,7 +21,7 @@ is_moving (Named (Hold value)) = false
 is_moving (Named (Pulse from to)) = true
 is_moving (Drawn place) = false
 
--- the first tick after this one at which a source may change, but for draws
+-- the first tick after this one at which a source may change, apart from draws
 abbrev pub next_change : Source → ℕ → ℕ
 next_change (Named (Clock half)) tick = next_multiple half tick
 next_change (Named (Hold value)) tick = never

@@ -1,13 +1,13 @@
 use logic3::Value;
 
-/// What drives an input, where it isn't drawn.
+/// What drives an input that isn't drawn.
 #[derive(Clone, Copy, Debug, PartialEq, Eq)]
 pub enum Drive {
-    /// 0 at tick 0, and then a change every `half` ticks, which are at least one.
+    /// 0 at tick 0, and then a change every `half` ticks; `half` is at least 1.
     Clock { half: u64 },
     /// This value throughout.
     Hold(Value),
-    /// 1 from the tick `from` up to but not at the later tick `to`, and 0 elsewhere.
+    /// 1 from tick `from` up to but not including the later tick `to`, and 0 elsewhere.
     Pulse { from: u64, to: u64 },
 }
 
@@ -18,15 +18,15 @@ pub struct Driven<'a> {
     pub drive: Drive,
 }
 
-/// How the other inputs are drawn: by this seed, at tick 0 and at each multiple of `every`, which is
-/// at least one tick.
+/// How the other inputs are drawn: from this seed, at tick 0 and at each multiple of `every`, which is
+/// at least 1 tick.
 #[derive(Clone, Copy, Debug, PartialEq, Eq)]
 pub struct Draws {
     pub seed: u64,
     pub every: u64,
 }
 
-/// A round of draws: a word of the generator for each of so many drawn inputs.
+/// The rounds of draws: in each, a word of the generator for each drawn input.
 #[derive(Clone, Copy)]
 pub(crate) struct Rounds {
     pub draws: Draws,

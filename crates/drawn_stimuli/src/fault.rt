@@ -8,7 +8,7 @@ use thiserror::Error;
 
 /// Why there is no stimulus text.
 ///
-/// [`BadEvery`](Self::BadEvery) comes before all else. Then the first faulty drive decides, by its
+/// [`BadEvery`](Self::BadEvery) comes before all others. Then the first faulty drive decides, by its
 /// place among the drives, counted from 0, and within a drive the order of these variants;
 /// [`TooLong`](Self::TooLong) comes last.
 #[derive(Clone, Copy, Debug, PartialEq, Eq, Error)]
@@ -17,7 +17,7 @@ pub enum DriveFault {
     BadEvery,
     /// No input has the name.
     NotAnInput { place: usize },
-    /// An earlier drive is of the same input.
+    /// An earlier drive names the same input.
     Twice { place: usize },
     /// The clock would change every 0 ticks.
     BadHalf { place: usize },
@@ -25,12 +25,12 @@ pub enum DriveFault {
     BadPulse { place: usize },
     /// The text would have more than 16,777,216 bytes.
     TooLong,
-    /// A growth was refused.
+    /// An allocation failed.
     Memory,
 }
 
 impl DriveFault {
-    /// The fault's name, which is its text.
+    /// Returns the fault's name, which is its text.
     pub fn name(&self) -> &'static str
         ensures { result.now ≡ name_of self.now }
     {

@@ -16,7 +16,7 @@ use std::alloc::{AllocError, Global};
 pub(crate) enum Source {
     /// A drive of its own.
     Named(Drive),
-    /// The draws: the input has this place among those that are drawn.
+    /// The draws; the input has this place among those that are drawn.
     Drawn { place: u32 },
 }
 
@@ -27,7 +27,7 @@ pub(crate) struct InputNet {
     pub source: Source,
 }
 
-/// The number of the input of this name.
+/// Returns the number of the input with this name, if any.
 fn input_named(netlist: &Netlist, name: &[u8]) -> Option<u32>
     ensures { MatchOption result (names_input netlist.now name.now ≡ false)
         (λ net. (net_named netlist.now name.now ≡ Some net) × (names_input netlist.now name.now ≡ true)) }
@@ -40,7 +40,7 @@ fn input_named(netlist: &Netlist, name: &[u8]) -> Option<u32>
     }
 }
 
-/// The fault of the drive at a place by itself.
+/// Returns the fault of the drive at a place, regardless of the other drives.
 fn form_fault(place: usize, drive: Drive) -> Option<DriveFault>
     ensures fault { result ≡ form_fault place drive }
     ensures none { result ≡ None → IsDrive drive }
@@ -52,7 +52,7 @@ fn form_fault(place: usize, drive: Drive) -> Option<DriveFault>
     }
 }
 
-/// No drive for each of so many nets.
+/// Returns `None` for each of `nets` nets.
 fn no_drives(alloc: Global, nets: u32) -> Result<Vec<Option<Drive>>, AllocError>
     ensures { IfOk result (λ kept. kept.items ≡ replicate nets None) }
 {
@@ -63,7 +63,7 @@ fn no_drives(alloc: Global, nets: u32) -> Result<Vec<Option<Drive>>, AllocError>
     Ok(kept)
 }
 
-/// The net of the drive at a place, or its fault, where the earlier drives are kept by net number.
+/// Returns the net of the drive at a place, or its fault, given the earlier drives by net number.
 fn net_to_drive(
     netlist: &Netlist,
     kept: &[Option<Drive>],
@@ -90,7 +90,8 @@ fn net_to_drive(
     Ok(net)
 }
 
-/// The drive of each net, by net number: none but for an input that one of the drives is of.
+/// Returns the drive of each net, by net number: `None` except for an input that one of the drives
+/// names.
 pub(crate) fn drives_by_net(
     alloc: Global,
     netlist: &Netlist,
@@ -110,7 +111,7 @@ pub(crate) fn drives_by_net(
     Ok(kept)
 }
 
-/// The source of an input with this drive, or with this place among the drawn ones.
+/// Returns the source of an input with this drive, or with this place among the drawn ones.
 fn source_of(drive: Option<Drive>, place: u32) -> Source
     requires drive { IfSome drive IsDrive }
     requires place { place < most_nets }
@@ -123,15 +124,15 @@ fn source_of(drive: Option<Drive>, place: u32) -> Source
     }
 }
 
-/// Whether a source is the draws.
+/// Returns whether a source is drawn.
 pub(crate) fn is_drawn(source: Source) -> bool
     ensures { result ≡ is_drawn source }
 {
     matches!(source, Source::Drawn { .. })
 }
 
-/// The inputs in order, each with its drive or its place among the drawn ones, where each net has its
-/// drive by number.
+/// Returns the inputs in order, each with its drive or its place among the drawn ones, given the
+/// drive of each net by number.
 pub(crate) fn inputs_of(
     alloc: Global,
     netlist: &Netlist,

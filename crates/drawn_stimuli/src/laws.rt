@@ -15,10 +15,10 @@ ghost use Rattle.drawn_stimuli.specs.Inputs.{DriveView, InputView, drive_named, 
 ghost use Rattle.drawn_stimuli.specs.Signals.{word_after};
 ghost use Rattle.drawn_stimuli.specs.StimulusText.{Drawing, changes_drawn, drawn_stimuli, inputs_drawn, stimuli_text, value_drawn};
 
-/// The reader of stimuli takes the text for its netlist, and reads from it the changes that it was
-/// made of. There is an input for each net that is one, in order, and the changes that are read for
-/// it are those of its signal, and none but where the value changes: so it shows just the values of
-/// its signal, at each tick up to the horizon.
+/// The reader of stimuli accepts the text for its netlist, and reads from it the changes that it was
+/// made of. For each input of the netlist, in order, the changes that are read are those of its
+/// signal, one wherever the value changes. So the input shows exactly the values of its signal, at
+/// each tick up to the horizon.
 pub fn texts_read_back()
     ensures taken { (netlist : NetlistView) (drives : List DriveView) (draws : Draws) (horizon : ℕ) (text : List ℕ) →
         IsNetlist netlist → horizon ≤ most_ticks → stimuli_text netlist drives draws horizon ≡ Ok text →
@@ -32,13 +32,13 @@ pub fn texts_read_back()
         value_after Unknown (changes_drawn drawing input) tick ≡ value_drawn drawing input tick) (inputs_drawn drawing) }
 {}
 
-/// Where no drive is faulty, each counts: the input of its name has just this drive.
+/// If no drive is faulty, each takes effect: the input with its name has exactly this drive.
 pub fn drives_count()
     ensures { (netlist : NetlistView) (drives : List DriveView) → first_fault netlist [] drives ≡ None →
         All (λ (driven : DriveView). drive_named drives driven.name ≡ Some driven.drive) drives }
 {}
 
-/// The words that are drawn are those of the generator, one after the other.
+/// The words that are drawn are those of the generator, in order.
 pub fn words_in_order()
     ensures { (seed count : ℕ) →
         first_words pcg32 count (pcg32_of_seed (pcg32_seed 16 seed)) ≡ map (word_after seed) (range_with_len 0 count) }

@@ -1,5 +1,5 @@
-//! Stimulus texts that are drawn: clocks, held values and pulses by name, and drawn values for all
-//! other inputs.
+//! Stimulus texts from drives and draws: clocks, held values and pulses by name, and drawn values for
+//! all other inputs.
 #![tactic(auto)]
 
 mod drive;

@@ -18,7 +18,7 @@ fn bit(one: bool) -> Value
     if one { Value::One } else { Value::Zero }
 }
 
-/// The value that a drive gives.
+/// Returns the value that a drive gives.
 fn drive_value(drive: Drive, tick: u64) -> Value
     requires { IsDrive drive }
     ensures { result ≡ drive_value drive tick }
@@ -30,7 +30,8 @@ fn drive_value(drive: Drive, tick: u64) -> Value
     }
 }
 
-/// The word that the generator of this seed gives after so many others. Takes logarithmic time.
+/// Returns the word that the generator of this seed gives after `others` others. Takes logarithmic
+/// time.
 fn word_after(seed: u64, others: u64) -> u32
     ensures { result ≡ word_after seed others }
 {
@@ -39,7 +40,7 @@ fn word_after(seed: u64, others: u64) -> u32
     words.next_word()
 }
 
-/// The value of the drawn input of this place.
+/// Returns the value of the drawn input at this place.
 fn drawn_value(rounds: Rounds, place: u32, tick: u64) -> Value
     requires rounds { AreRounds rounds }
     requires tick { tick ≤ most_ticks }
@@ -50,7 +51,7 @@ fn drawn_value(rounds: Rounds, place: u32, tick: u64) -> Value
     bit(word % 2 == 1)
 }
 
-/// The value that a source gives.
+/// Returns the value that a source gives.
 pub(crate) fn value_of(rounds: Rounds, source: Source, tick: u64) -> Value
     requires rounds { AreRounds rounds }
     requires source { IsSource source }
@@ -63,7 +64,7 @@ pub(crate) fn value_of(rounds: Rounds, source: Source, tick: u64) -> Value
     }
 }
 
-/// The value that a source gives one tick earlier, and X before tick 0.
+/// Returns the value that a source gives one tick earlier, and X before tick 0.
 pub(crate) fn value_before(rounds: Rounds, source: Source, tick: u64) -> Value
     requires rounds { AreRounds rounds }
     requires source { IsSource source }

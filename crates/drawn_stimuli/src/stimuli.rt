@@ -21,8 +21,8 @@ use std::alloc::{AllocError, Global};
 use text_lines::LONGEST_TEXT;
 use timing_text::Horizon;
 
-/// Adds the lines of a tick: at a tick of draws any input may change, and at others only those that
-/// move.
+/// Adds the lines of a tick: at a tick of draws any input may change, and at others only those with a
+/// clock or a pulse.
 fn push_due(
     text: &mut Vec<u8>,
     netlist: &Netlist,
@@ -45,7 +45,7 @@ fn push_due(
     }
 }
 
-/// The lines of these inputs at each tick up to the horizon, unless they are too long together.
+/// Returns the lines of these inputs at each tick up to the horizon, unless the text is too long.
 fn lines_text(
     alloc: Global,
     netlist: &Netlist,
@@ -74,7 +74,7 @@ fn lines_text(
     Ok(text)
 }
 
-/// How many inputs are drawn.
+/// Returns the number of drawn inputs.
 fn drawn_count(inputs: &[InputNet]) -> u64
     ensures count { (netlist : NetlistView) → result ≡ drawn_count (map (seen_input netlist) inputs.now) }
     ensures few { result ≤ length inputs.now }
@@ -82,17 +82,17 @@ fn drawn_count(inputs: &[InputNet]) -> u64
     inputs.iter().filter(|input| is_drawn(input.source)).count() as u64
 }
 
-/// The stimulus text of a netlist: for each input that a drive is of, the changes of that drive, and
-/// for each other input the values that are drawn. A line `TICK NAME VALUE` stands only where a value
-/// changes, from tick 0, before which each input shows X, up to the horizon, in the order of ticks
+/// Returns the stimulus text of a netlist: for each input that a drive names, the changes of that
+/// drive, and for each other input the drawn values. There is a line `TICK NAME VALUE` only where a
+/// value changes, from tick 0, before which each input is X, up to the horizon, in the order of ticks
 /// and then of inputs.
 ///
-/// Goes from tick to next tick at which something may change: it takes a step there for each input
-/// with a clock or a pulse, and at ticks of draws for each other input too.
+/// Visits only the ticks at which a value may change. At each it takes a step for each input with a
+/// clock or a pulse, and at ticks of draws also for each other input.
 ///
 /// # Errors
-/// The first fault, as [`DriveFault`] says, or [`DriveFault::Memory`] where a growth was refused.
-/// [`DriveFault::BadEvery`] is answered before any memory is taken.
+/// The first fault, in the order of [`DriveFault`], or [`DriveFault::Memory`] if an allocation fails.
+/// [`DriveFault::BadEvery`] is returned before anything is allocated.
 pub fn stimuli_text(
     alloc: Global,
     netlist: &Netlist,

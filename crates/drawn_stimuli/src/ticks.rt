@@ -1,4 +1,4 @@
-//! The ticks at which something may change.
+//! The ticks at which a value may change.
 ghost use Rattle.std.specs.Prelude.{◌≡◌, ◌<◌, All, filter, IfOk};
 ghost use Rattle.drawn_stimuli.specs.declared.input.InputNet.{InputNet as TheInputNet};
 ghost use Rattle.drawn_stimuli.specs.Signals.{IsSource};
@@ -8,7 +8,7 @@ use crate::drive::Drive;
 use crate::input::{InputNet, Source};
 use std::alloc::{AllocError, Global};
 
-/// The first multiple of `step` after a tick.
+/// Returns the first multiple of `step` after a tick.
 fn next_multiple(step: u64, tick: u64) -> u64
     requires { 0 < step }
     ensures { result ≡ next_multiple step tick }
@@ -16,7 +16,7 @@ fn next_multiple(step: u64, tick: u64) -> u64
     (tick - tick % step).saturating_add(step)
 }
 
-/// Whether a source may change at ticks other than those of draws.
+/// Returns whether a source may change at ticks other than those of draws.
 fn is_moving(source: Source) -> bool
     ensures { result ≡ is_moving source }
 {
@@ -26,7 +26,7 @@ fn is_moving(source: Source) -> bool
     )
 }
 
-/// The inputs that may change at ticks other than those of draws, in order.
+/// Returns the inputs that may change at ticks other than those of draws, in order.
 pub(crate) fn moving_inputs(alloc: Global, inputs: &[InputNet]) -> Result<Vec<InputNet>, AllocError>
     ensures { IfOk result (λ moving.
         moving.items ≡ filter (λ (input : TheInputNet). is_moving input.source) inputs.now) }
@@ -40,7 +40,7 @@ pub(crate) fn moving_inputs(alloc: Global, inputs: &[InputNet]) -> Result<Vec<In
     Ok(moving)
 }
 
-/// The first tick after this one at which a source may change, but for draws.
+/// Returns the first tick after this one at which a source may change, apart from draws.
 fn next_change(source: Source, tick: u64) -> u64
     requires { IsSource source }
     ensures { result ≡ next_change source tick }
@@ -53,7 +53,7 @@ fn next_change(source: Source, tick: u64) -> u64
     }
 }
 
-/// The first tick after this one at which one of these inputs may change, or values are drawn.
+/// Returns the first tick after this one at which one of these inputs may change, or values are drawn.
 pub(crate) fn next_tick(every: u64, inputs: &[InputNet], tick: u64) -> u64
     requires every { 0 < every }
     requires sources { All (λ (input : TheInputNet). IsSource input.source) inputs.now }

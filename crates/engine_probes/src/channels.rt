@@ -11,7 +11,7 @@ use std::io::Write;
 /// A net at three pins of one gate, and at a pin of another.
 const BENCH: &[u8] = b"INPUT(a)\ny = AND(a, a, a)\nz = NOT(a)\n";
 
-/// Channels with so many pins, of at least one net.
+/// Channels with this number of pins, of at least one net.
 #[derive(Drop)]
 struct Channels<F: Fabric> {
     fabric: F,
@@ -37,7 +37,7 @@ impl<F: Fabric> Channels<F> {
         self.fabric.send(0, Message::Null(7))
     }
 
-    /// Whether so many messages wait at each pin.
+    /// Whether this number of messages waits at each pin.
     fn have(&self, count: u64) -> bool {
         for pin in 0..self.pins {
             if self.fabric.waiting(pin) != count {
@@ -57,7 +57,7 @@ pub(crate) fn probe<W: Write>(alloc: Global, teller: &mut Teller<W>) -> Option<(
     sends::<Logs, W>(alloc, teller, &design, "Logs::empty_for", "Logs::send")
 }
 
-/// Sends so many messages that lists of them grow, and grow again.
+/// Sends enough messages for lists of them to grow twice.
 fn sends<F: Fabric, W: Write>(
     alloc: Global,
     teller: &mut Teller<W>,

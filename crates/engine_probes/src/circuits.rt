@@ -1,4 +1,4 @@
-//! What a circuit is, in numbers, and the nets that no output hangs on.
+//! The numbers of a circuit, and its unobserved nets.
 use crate::telling::Teller;
 use bench_text::read;
 use circuit_info::{Depths, fan_ins, fan_outs, levels_of};
@@ -7,8 +7,7 @@ use netlist::Netlist;
 use std::alloc::{AllocError, Global};
 use std::io::Write;
 
-/// A chain of gates, of which a walk from the first enters them all before it leaves one, and gates on
-/// which no output hangs.
+/// A chain of gates, all of which a walk from the first enters before it leaves one, and unobserved gates.
 const CHAIN: &[u8] = b"OUTPUT(g)\nOUTPUT(f)\nOUTPUT(e)\nOUTPUT(d)\nOUTPUT(c)\n\
       g = NOT(f)\nf = NOT(e)\ne = NOT(d)\nd = NOT(c)\nc = NOT(b)\nb = AND(a, a)\nINPUT(a)\n\
       h = NOT(a)\ni = NOT(h)\nj = NOT(i)\nk = NOT(j)\nl = NOT(k)\n";
@@ -16,7 +15,7 @@ const CHAIN: &[u8] = b"OUTPUT(g)\nOUTPUT(f)\nOUTPUT(e)\nOUTPUT(d)\nOUTPUT(c)\n\
 /// A loop of gates.
 const RING: &[u8] = b"a = NOT(b)\nb = NOT(c)\nc = NOT(d)\nd = NOT(e)\ne = NOT(a)\n";
 
-/// Probes what is told of both.
+/// Probes what is reported of both.
 pub(crate) fn probe<W: Write>(alloc: Global, teller: &mut Teller<W>) -> Option<()> {
     let netlist = teller.told("bench_text::read", read(alloc, CHAIN))?;
     counts(alloc, teller, &netlist)?;
@@ -26,7 +25,7 @@ pub(crate) fn probe<W: Write>(alloc: Global, teller: &mut Teller<W>) -> Option<(
     ring(alloc, teller)
 }
 
-/// Tells of a call that makes a list of numbers.
+/// Reports a call that makes a list of numbers.
 fn lists<W: Write>(
     teller: &mut Teller<W>,
     call: &str,
@@ -37,7 +36,7 @@ fn lists<W: Write>(
     teller.fine(call, numbers.as_slice() == wanted)
 }
 
-/// Tells of a call that counts something of each net.
+/// Reports a call that counts something of each net.
 fn counts_of<W: Write>(
     teller: &mut Teller<W>,
     call: &str,

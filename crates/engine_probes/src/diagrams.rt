@@ -1,4 +1,4 @@
-//! Timing diagrams: one that isn't drawn leaves the output as it was.
+//! Timing diagrams: one that isn't drawn leaves the output unchanged.
 
 use crate::following::Follower;
 use crate::telling::Teller;
@@ -12,7 +12,7 @@ use timing_diagram::{Columns, Form, draw};
 use timing_text::Horizon;
 use vcd_dump::DumpFault;
 
-/// What an inverter and its input show at the ticks 2 and 3.
+/// What an inverter and its input show at ticks 2 and 3.
 const LINES: &[u8] = b"   2.........\na  _/\ny  --\n";
 
 /// The same as a picture.

@@ -1,4 +1,4 @@
-//! Dumps and streams of them: a first part of the text is out, and a stream has failed.
+//! Dumps and streams of them: a prefix of the text has been written, and a stream has failed.
 ghost use Rattle.std.specs.Prelude.{◌≡◌, ◌+◌, ◌<◌, ◌≤◌, [], ◌∷◌, false, true, length, All, IfOk, IfSome, OnOk, OnErr};
 ghost use Rattle.vcd_dump.specs.Spans.{begun, with_parts, spanned, changes_in, IsPart};
 
@@ -14,7 +14,7 @@ use timing_text::Horizon;
 use vcd_dump::{DumpFault, Stream, TimeUnit, dump};
 use worked_examples::dumps::OSCILLATOR_DUMP;
 
-/// What goes out of a net without changes.
+/// The dump of a net without changes.
 const STILL: &[u8] =
     b"$version nullsim 1 $end\n$timescale 1 ns $end\n$scope module top $end\n$var wire 1 ! e $end\n$upscope $end\n$enddefinitions $end\n#0\n$dumpvars\nx!\n$end\n#12\n";
 
@@ -173,7 +173,7 @@ fn finish<W: Write>(teller: &mut Teller<W>, stream: Stream, out: &mut Follower) 
     }
 }
 
-/// What a stream of two nets answers that is given the changes of both, and then writes them.
+/// Returns the result of a stream of two nets that is given the changes of both, and then writes them.
 fn write_both<W: Write>(
     stream: &mut Stream,
     out: &mut W,
@@ -197,7 +197,7 @@ fn write_both<W: Write>(
     stream.write_parts(out, upto)
 }
 
-/// Whether a stream answers that it has failed, and writes nothing more.
+/// Whether a stream reports that it has failed, and writes nothing more.
 fn has_failed(mut stream: Stream, out: &mut Follower) -> bool
     requires { stream.failed ≡ true }
 {

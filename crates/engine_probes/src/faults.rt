@@ -1,4 +1,4 @@
-//! Which fault of each layer says that a growth was refused.
+//! Which fault of each layer reports a failed allocation.
 use crate::telling::Fault;
 use bench_text::BenchFault;
 use cmb_events::ScheduleFault;

@@ -1,8 +1,7 @@
-//! A writer that knows what it is to be given.
+//! A writer that knows what it should be given.
 use std::io::{self, Write};
 
-/// A writer that takes all that it is given, and looks whether it is a first part of a text. It takes
-/// no memory.
+/// A writer that takes all that it is given, and checks whether it is a prefix of a text. It takes no memory.
 #[derive(Drop)]
 pub struct Follower {
     // What is left of the text.
@@ -11,7 +10,7 @@ pub struct Follower {
 }
 
 impl Follower {
-    /// A writer that looks for this text.
+    /// Returns a writer that checks for this text.
     pub fn of(text: &'static [u8]) -> Follower {
         Follower {
             rest: text,
@@ -19,17 +18,17 @@ impl Follower {
         }
     }
 
-    /// Whether what it took is a first part of the text, or all of it.
+    /// Returns whether what it took is a prefix of the text, or all of it.
     pub fn follows(&self) -> bool {
         self.follows
     }
 
-    /// Whether what it took is the text.
+    /// Returns whether what it took is the text.
     pub fn is_whole(&self) -> bool {
         self.follows && self.rest.is_empty()
     }
 
-    /// How many bytes of the text it didn't take.
+    /// Returns how many bytes of the text it didn't take.
     pub fn left(&self) -> usize {
         self.rest.len()
     }

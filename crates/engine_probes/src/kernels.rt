@@ -1,4 +1,4 @@
-//! The kernel, over both fabrics: one that was refused memory has failed, and says so.
+//! The kernel, over both fabrics: if it runs out of memory, it has failed, and says so.
 ghost use Rattle.std.specs.Prelude.{◌≡◌, ◌<◌, length, IfSome, Ok};
 
 use crate::telling::Teller;
@@ -28,7 +28,7 @@ fn over<F: Fabric, W: Write>(alloc: Global, teller: &mut Teller<W>, design: &Des
     drained_into::<F, W>(alloc, teller, design)
 }
 
-/// A kernel to which nothing happened.
+/// A kernel before any event.
 fn fresh<'d, F: Fabric, W: Write>(
     alloc: Global,
     teller: &mut Teller<W>,
@@ -39,8 +39,8 @@ fn fresh<'d, F: Fabric, W: Write>(
     teller.told("Kernel::new", Kernel::new(alloc, design, horizon()?))
 }
 
-/// Tells of a call that was refused memory, or answered what it must not. There is nothing to tell yet
-/// of one that was carried out.
+/// Reports a call that ran out of memory, or returned what it must not. A call that succeeded isn't reported
+/// yet.
 fn ended<F: Fabric, W: Write>(
     alloc: Global,
     teller: &mut Teller<W>,
@@ -64,7 +64,8 @@ fn ended<F: Fabric, W: Write>(
     }
 }
 
-/// Whether the kernel says that it has failed, and answers so to every call, whatever is wrong with that.
+/// Whether the kernel says that it has failed, and refuses every call with that, whatever is wrong with the
+/// call.
 fn has_failed<F: Fabric>(alloc: Global, kernel: &mut Kernel<F>) -> bool {
     let Ok(many) = vec![in alloc; Advance(0); 10_000_001] else {
         return false;
@@ -82,7 +83,7 @@ fn has_failed<F: Fabric>(alloc: Global, kernel: &mut Kernel<F>) -> bool {
         && kernel.is_failed()
 }
 
-/// Each event that is useful, until none is.
+/// Applies useful events, until none is useful.
 fn by_events<F: Fabric, W: Write>(
     alloc: Global,
     teller: &mut Teller<W>,
@@ -180,8 +181,8 @@ fn drained<F: Fabric, W: Write>(
     teller.fine("Kernel::drain_below", !kernel.is_failed())
 }
 
-/// Takes out all changes of a net that the kernel can. Where that is refused memory nothing changed, and
-/// the same call gives the same changes.
+/// Takes out all changes of a net that the kernel can. If an allocation fails, nothing changed, and the same
+/// call gives the same changes.
 fn drain<F: Fabric, W: Write>(
     teller: &mut Teller<W>,
     kernel: &mut Kernel<F>,

@@ -19,7 +19,7 @@ use std::alloc::Global;
 use std::io::Write;
 pub use telling::Teller;
 
-/// Makes all calls, each group to its end or up to a call that was refused memory.
+/// Makes all calls, each group to its end or up to a call that runs out of memory.
 pub fn probe<W: Write>(alloc: Global, teller: &mut Teller<W>) {
     let _ = waves::probe(alloc, teller);
     let _ = texts::probe(alloc, teller);

@@ -1,5 +1,5 @@
-//! Processes: one that is refused memory for what it hears or hands out is as it was, and one that is
-//! refused it for what it reckons has failed.
+//! Processes: one that runs out of memory when it receives or hands out something is unchanged, and one that
+//! does when it advances has failed.
 ghost use Rattle.std.specs.Prelude.{◌≡◌, ◌<◌, false, length, slice_get};
 ghost use Rattle.std.specs.Option.{ForSome};
 ghost use Rattle.gate_process.specs.Step.{ProcessView};
@@ -15,7 +15,7 @@ use std::alloc::{AllocError, Global};
 use std::io::Write;
 use timing_text::Horizon;
 
-/// A process of a net with so many pins, up to this tick.
+/// A process of a net with this number of pins, up to this tick.
 #[derive(Drop)]
 struct Listener<'d> {
     process: Process<'d>,
@@ -26,7 +26,8 @@ struct Listener<'d> {
 }
 
 impl<'d> Listener<'d> {
-    /// What the process answers that hears of a change at its first pin; None where it can't hear of it.
+    /// Lets the process receive a change at its first pin, and returns the result, or None if it can't
+    /// receive it.
     fn hear(&mut self, change: Change) -> Option<Result<(), AllocError>> {
         if self.process.is_failed() || self.pins == 0 {
             return None;
@@ -40,7 +41,7 @@ impl<'d> Listener<'d> {
         Some(self.process.receive(0, Message::Change(change)))
     }
 
-    /// How much it knows of its first pin, and the last value there.
+    /// How many ticks it knows of its first pin, and the last value there.
     fn heard(&self) -> Option<(u64, Value)> {
         if self.process.is_failed() || self.pins == 0 {
             return None;
@@ -48,7 +49,7 @@ impl<'d> Listener<'d> {
         Some((self.process.received(0), self.process.last(0)))
     }
 
-    /// What the process answers that advances; None where it has failed.
+    /// Advances the process, and returns the result, or None if it has failed.
     fn advance(&mut self) -> Option<Result<Vec<Message>, AllocError>> {
         if self.process.is_failed() {
             return None;
@@ -56,7 +57,8 @@ impl<'d> Listener<'d> {
         Some(self.process.advance())
     }
 
-    /// What the process answers that advances, and puts what it tells in a list; None where it has failed.
+    /// Advances the process with its messages put in a list, and returns the result, or None if it has
+    /// failed.
     fn advance_into(&mut self, news: &mut Vec<Message>) -> Option<Result<(), AllocError>> {
         if self.process.is_failed() {
             return None;
@@ -64,7 +66,7 @@ impl<'d> Listener<'d> {
         Some(self.process.advance_into(news))
     }
 
-    /// What the process answers that takes out its changes before a tick; None where it can't.
+    /// Takes out the process's changes before a tick, and returns the result, or None if it can't.
     fn drain(&mut self, bound: u64) -> Option<Result<Vec<Change>, AllocError>> {
         if self.process.is_failed() || self.process.frontier() < bound {
             return None;
@@ -72,7 +74,8 @@ impl<'d> Listener<'d> {
         Some(self.process.drain_below(bound))
     }
 
-    /// What the process answers that takes out its changes before a tick onto a list; None where it can't.
+    /// Takes out the process's changes before a tick onto a list, and returns the result, or None if it
+    /// can't.
     fn drain_into(
         &mut self,
         bound: u64,
@@ -105,7 +108,7 @@ struct Hearers<'d> {
 }
 
 impl<'d> Hearers<'d> {
-    /// The processes of a design, of which that of this net is to have a pin.
+    /// Returns the processes of a design, of which that of this net must have a pin.
     fn new(
         alloc: Global,
         design: &'d Design,
@@ -124,8 +127,8 @@ impl<'d> Hearers<'d> {
         })
     }
 
-    /// What the processes answer where that of the net hears of a change at its first pin; None where it
-    /// can't hear of it.
+    /// Lets the process of the net receive a change at its first pin, and returns the result, or None if it
+    /// can't receive it.
     fn hear(&mut self, change: Change) -> Option<Result<(), AllocError>> {
         let process = self.processes.of_net(self.net);
         if process.is_failed() {
@@ -140,7 +143,7 @@ impl<'d> Hearers<'d> {
         Some(self.processes.receive(self.net, 0, Message::Change(change)))
     }
 
-    /// How much the process of the net knows of its first pin, and the last value there.
+    /// How many ticks the process of the net knows of its first pin, and the last value there.
     fn heard(&self) -> Option<(u64, Value)> {
         let process = self.processes.of_net(self.net);
         if process.is_failed() {
@@ -163,7 +166,7 @@ pub(crate) fn probe<W: Write>(alloc: Global, teller: &mut Teller<W>) -> Option<(
     all(alloc, teller, &design, horizon)
 }
 
-/// A process that answers lists.
+/// A process that returns lists.
 fn answers<W: Write>(
     alloc: Global,
     teller: &mut Teller<W>,
@@ -176,7 +179,7 @@ fn answers<W: Write>(
     drains(teller, &mut listener)
 }
 
-/// A process that fills the lists which it is handed.
+/// A process that fills the lists that it is given.
 fn fills<W: Write>(
     alloc: Global,
     teller: &mut Teller<W>,
@@ -208,7 +211,7 @@ fn listener<'d, W: Write>(
     })
 }
 
-/// Hears of so many changes that what is known of the pin grows, and grows again.
+/// Receives enough changes for what is known of the pin to grow twice.
 fn hears<W: Write>(teller: &mut Teller<W>, listener: &mut Listener<'_>) -> Option<()> {
     let mut value = Zero;
     for tick in TICKS {
@@ -292,7 +295,7 @@ fn drains_into<W: Write>(
     Some(())
 }
 
-/// Lets one of all processes hear of so many changes that what is known of the pin grows, and grows again.
+/// Lets one of all processes receive enough changes for what is known of the pin to grow twice.
 fn all_hear<W: Write>(
     alloc: Global,
     teller: &mut Teller<W>,
@@ -336,7 +339,7 @@ fn all<W: Write>(
     hand_out(alloc, teller, &mut processes)
 }
 
-/// What the first process tells, and then hands out.
+/// What the first process sends, and then hands out.
 fn hand_out<W: Write>(
     alloc: Global,
     teller: &mut Teller<W>,

@@ -1,11 +1,11 @@
-//! What the probes of refused memory tell, a line for each call.
+//! What the probes of failed allocations report, a line for each call.
 ghost use Rattle.std.specs.Prelude.{◌≡◌, IfSome, Ok};
 
 use std::io::Write;
 
-/// A fault of a call: that a growth was refused, or another one.
+/// A fault of a call: that an allocation failed, or another one.
 pub(crate) trait Fault {
-    /// Whether a growth was refused.
+    /// Whether an allocation failed.
     fn is_memory(&self) -> bool;
 }
 
@@ -15,32 +15,32 @@ impl Fault for std::alloc::AllocError {
     }
 }
 
-/// Tells what each call answered and what stands after it: the line `fine CALL` or `refused CALL` where
-/// that is as it must be, and `wrong CALL` where it isn't. It takes no memory.
+/// Reports what each call returned and the state after it: the line `fine CALL` or `refused CALL` if that is
+/// as it must be, and `wrong CALL` if it isn't. It takes no memory.
 #[derive(Drop)]
 pub struct Teller<W> {
     out: W,
 }
 
 impl<W: Write> Teller<W> {
-    /// A teller that writes to this.
+    /// Returns a teller that writes to this.
     pub fn new(out: W) -> Teller<W> {
         Teller { out }
     }
 
-    /// Tells of a call that was not refused memory. There is nothing to go on with where it is wrong.
+    /// Reports a call without a failed allocation. Returns `None`, which ends the probe, if it is wrong.
     pub fn fine(&mut self, call: &str, holds: bool) -> Option<()> {
         self.line("fine ", call, holds);
         if holds { Some(()) } else { None }
     }
 
-    /// Tells of a call that was refused memory, and said so. A probe ends with it.
+    /// Reports a call that ran out of memory, and said so. A probe ends with it.
     pub fn refused(&mut self, call: &str, holds: bool) {
         self.line("refused ", call, holds);
     }
 
-    /// Tells of a call whose answer is all that is to be looked at. There is nothing to go on with
-    /// where it is a fault.
+    /// Reports a call of which only the result is checked. Returns `None`, which ends the probe, if it is a
+    /// fault.
     pub(crate) fn told<T: Drop, E: Fault + Drop>(
         &mut self,
         call: &str,
@@ -60,7 +60,7 @@ impl<W: Write> Teller<W> {
         }
     }
 
-    // A line that can't be written is told to nobody.
+    // A failed write of a line isn't reported.
     fn line(&mut self, word: &str, call: &str, holds: bool) {
         let word = if holds { word } else { "wrong " };
         for piece in [word, call, "\n"] {

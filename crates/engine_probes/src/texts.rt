@@ -127,7 +127,7 @@ fn cones<W: Write>(alloc: Global, teller: &mut Teller<W>, design: &Design) -> Op
     teller.fine("fanin_cone::agree", agrees == Some(true))
 }
 
-/// The design of an input and a gate that oscillates where the input is 1.
+/// The design of an input and a gate that oscillates while the input is 1.
 pub(crate) fn oscillator<W: Write>(alloc: Global, teller: &mut Teller<W>) -> Option<Design> {
     let bench = b"INPUT(e)\ny = NAND(e, y)\n";
     let netlist = teller.told("bench_text::read", read(alloc, bench))?;

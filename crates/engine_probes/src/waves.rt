@@ -5,7 +5,7 @@ use logic3::{Change, ChangeQueue, Value, Waveform};
 use std::alloc::Global;
 use std::io::Write;
 
-/// What one net shows: so many changes that a list of them grows twice, and more.
+/// What one net shows: enough changes for a list of them to grow at least twice.
 const CHANGES: [Change; 5] = [
     Change {
         tick: 0,
@@ -112,7 +112,7 @@ fn split_into<W: Write>(alloc: Global, teller: &mut Teller<W>, wave: &mut Wavefo
     Some(())
 }
 
-/// Whether the first changes, so many, are on the list, and the others left in the waveform.
+/// Whether the first `count` changes are on the list, and the others left in the waveform.
 fn are_split(below: &[Change], wave: &Waveform, count: usize) -> bool {
     below.len() == count
         && CHANGES.starts_with(below)

@@ -12,7 +12,7 @@ use std::alloc::{AllocError, Global};
 use std::process::Abort;
 use std::test::Fail;
 
-// Channels with so many nets and pins.
+// Channels with this number of nets and pins.
 #[derive(Drop)]
 struct Channels<F: Fabric> {
     fabric: F,
@@ -22,7 +22,7 @@ struct Channels<F: Fabric> {
     ghost has_pins: { length (F.lists fabric) ≡ pins },
 }
 
-// A net sends a message, so many wait at a pin, or a pin takes this one, if one waits.
+// A net sends a message, this number of messages waits at a pin, or a pin takes this message, if one waits.
 #[derive(Clone, Copy)]
 enum Step {
     Sends(u32, Message),
@@ -66,7 +66,7 @@ impl<F: Fabric> Channels<F> {
 }
 
 impl Channels<Logs> {
-    // The log of a net holds so many messages.
+    // The log of a net holds this number of messages.
     fn keeps(&self, rt: &impl Abort, net: u32, wanted: u64) {
         assert!(rt; net < self.nets);
         assert!(rt; self.fabric.kept(net) == wanted);
@@ -83,7 +83,7 @@ const FALL: Message = Message::Change(Change {
     value: Zero,
 });
 
-// The channels of a design join so many nets and pins, and these steps can be taken.
+// The channels of a design connect this number of nets and pins, and these steps can be taken.
 fn follows<F: Fabric>(
     rt: &impl Abort,
     alloc: Global,

@@ -5,8 +5,8 @@ use std::alloc::Global;
 use std::test::Fail;
 use worked_examples::{S27_BENCH, S27_STIMULI};
 
-/// A .bench text with its delays and stimuli, and the period of its flip-flops. Where no delay is
-/// given it is one tick.
+/// A .bench text with its delays and stimuli, and the period of its flip-flops. A delay that isn't given is
+/// one tick.
 #[derive(Clone, Copy)]
 pub(crate) struct Circuit {
     pub(crate) bench: &'static [u8],
@@ -53,7 +53,7 @@ pub(crate) const SELF_INVERTER: Circuit = Circuit {
     ..INVERTER
 };
 
-/// A gate at its own pin, which oscillates where its input is 1.
+/// A gate at its own pin, which oscillates while its input is 1.
 pub(crate) const GATED_OSCILLATOR: Circuit = Circuit {
     bench: b"INPUT(e)\ny = NAND(e, y)",
     delays: b"y 2",

@@ -22,7 +22,7 @@ const SECOND: Circuit = Circuit {
     ..FIRST
 };
 
-/// A change more, at tick 6.
+/// One more change, at tick 6.
 const LATER: Circuit = Circuit {
     stimuli: b"0 a 0\n3 a 1\n0 b 1\n6 a 0\n",
     ..SECOND
@@ -48,7 +48,7 @@ const FLOP: Circuit = Circuit {
 
 const OTHER_FLOP: Circuit = Circuit { period: 4, ..FLOP };
 
-// What `agree` says of two circuits for a name.
+// What `agree` returns for two circuits and a name.
 fn agree_so(
     rt: &impl Abort,
     alloc: Global,
@@ -108,7 +108,7 @@ fn agreement_of_flops(rt: HostRuntime) -> Result<(), Fail> {
     Ok(())
 }
 
-// The cone of the net of this name has just these nets.
+// The cone of the net of this name has exactly these nets.
 fn has_cone(
     rt: &impl Abort,
     alloc: Global,
@@ -156,7 +156,7 @@ fn worked_cones(rt: HostRuntime) -> Result<(), Fail> {
     Ok(())
 }
 
-// The name at this place is no net's.
+// The name at this place is not that of a net.
 fn misses(rt: &impl Abort, alloc: Global, netlist: &Netlist, names: &[&[u8]], at: u64) {
     assert!(rt; !names.is_empty());
     let answer = extract(alloc, netlist, names);

@@ -41,7 +41,7 @@ impl<'d, F: Fabric> Run<'d, F> {
         })
     }
 
-    // The kernel, which memory sufficed for so far, and which has this net.
+    // The kernel, which hasn't failed so far, and which has this net.
     fn kernel(&self, rt: &impl Abort, net: u32) -> &Kernel<'d, F>
         ensures same { result.now ≡ self.now.kernel }
         ensures running { result.now.failed ≡ false }
@@ -192,7 +192,7 @@ fn drained_step_by_step(rt: HostRuntime) -> Result<(), Fail> {
     follow_both(&rt, rt.alloc(), RING_COUNTER, 10, &IN_RING_COUNTER)
 }
 
-// What is taken out of the net in so many rounds.
+// What is taken out of the net in this number of rounds.
 fn taken<F: Fabric>(
     rt: &impl Abort,
     alloc: Global,
@@ -226,7 +226,7 @@ fn add_rest<F: Fabric>(
     Ok(())
 }
 
-// The changes taken out in so many rounds, and those left when the run is complete, are the whole
+// The changes taken out in this number of rounds, and those left when the run is complete, are the whole
 // waveform of the net.
 fn adds_up<F: Fabric>(
     rt: &impl Abort,
@@ -242,7 +242,7 @@ fn adds_up<F: Fabric>(
     Ok(())
 }
 
-// So it is with each net of the design.
+// This holds for each net of the design.
 fn each_adds_up<F: Fabric>(
     rt: &impl Abort,
     alloc: Global,
@@ -288,7 +288,7 @@ fn nothing_is_lost(rt: HostRuntime) -> Result<(), Fail> {
     Ok(())
 }
 
-// The input's whole waveform, made by hand.
+// The input's whole waveform, built directly.
 fn low_and_high(alloc: Global) -> Result<Waveform, Fail> {
     let mut wave = Waveform::new(alloc);
     wave.push(LOW)?;

@@ -99,7 +99,7 @@ fn apply<F: Fabric>(
     Ok(())
 }
 
-// Completes, shows what the plain engine says, and stays as it is.
+// Completes, shows what the plain engine says, and is then unchanged.
 fn complete_twice<F: Fabric>(
     rt: &impl Abort,
     alloc: Global,
@@ -182,7 +182,7 @@ fn applies<F: Fabric>(
     Ok(())
 }
 
-// The list is refused with this fault, which isn't want of memory.
+// The list is refused with this fault, which isn't out of memory.
 fn refuses<F: Fabric>(rt: &impl Abort, kernel: &mut Kernel<F>, events: &[Event], fault: KernelFault)
     ensures { kernel.new.circuit ≡ kernel.old.circuit }
 {
@@ -193,8 +193,8 @@ fn refuses<F: Fabric>(rt: &impl Abort, kernel: &mut Kernel<F>, events: &[Event],
     assert!(rt; answer == fault);
 }
 
-// Ten million events are looked at to the last one, which names a net that isn't there; a list of one more
-// is refused as it is.
+// Ten million events are checked to the last one, which names a net that doesn't exist; a list with one more
+// is refused unchecked.
 fn limit_of_events<F: Fabric>(
     rt: &impl Abort,
     alloc: Global,
@@ -224,8 +224,8 @@ fn first_events<F: Fabric>(rt: &impl Abort, kernel: &mut Kernel<F>) -> Result<()
     Ok(())
 }
 
-// Events of nets and pins that the inverter doesn't have are refused, by a fault that isn't want of
-// memory, and nothing of the first net is known after them.
+// Events of nets and pins that the inverter doesn't have are refused, by a fault that isn't out of memory,
+// and nothing of the first net is known after them.
 fn refused_events<F: Fabric>(rt: &impl Abort, design: &Design, kernel: &mut Kernel<F>)
     requires { kernel.old.circuit ≡ design.now.circuit }
 {
@@ -260,7 +260,7 @@ fn fresh_kernel(rt: HostRuntime) -> Result<(), Fail> {
     plays(&rt, rt.alloc(), INVERTER, 5, Part::Fresh)
 }
 
-// Applies the event that the kernel calls useful.
+// Applies the event that the kernel returns as useful.
 fn apply_useful<F: Fabric>(rt: &impl Abort, kernel: &mut Kernel<F>) -> Result<(), Fail> {
     assert!(rt; !kernel.is_failed());
     let event = kernel.useful().expect(rt, "a useful event");
@@ -285,7 +285,7 @@ fn driven_by_useful(rt: HostRuntime) -> Result<(), Fail> {
     plays(&rt, rt.alloc(), SELF_INVERTER, 3, Part::Driven)
 }
 
-// At each pin so many messages wait, and so many ticks of its source it knows.
+// At each pin this number of messages waits, and it knows this number of ticks of its source.
 fn pins_have<F: Fabric>(rt: &impl Abort, design: &Design, kernel: &Kernel<F>, wanted: &[(u64, u64)])
     requires { kernel.now.circuit ≡ design.now.circuit }
 {

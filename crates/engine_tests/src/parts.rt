@@ -1,4 +1,4 @@
-//! What a kernel tells of its parts, and a design of the pins that nets feed.
+//! What a kernel returns of its parts, and a design of the pins that nets feed.
 use crate::circuits::{Circuit, INVERTER, LATE_PIN, S27, built};
 use cmb_channels::{Fabric, Logs, Queues};
 use cmb_events::Event;
@@ -9,7 +9,7 @@ use std::process::Abort;
 use std::test::Fail;
 use timing_text::Horizon;
 
-// So many nets and pins, and a first tick after the horizon.
+// The number of nets and of pins, and the first tick after the horizon.
 #[derive(Clone, Copy)]
 struct Parts {
     nets: u32,
@@ -17,7 +17,7 @@ struct Parts {
     end: u64,
 }
 
-// The kernel and its design say that they have these parts.
+// The kernel and its design return these parts.
 fn has_parts<F: Fabric>(rt: &impl Abort, kernel: &Kernel<F>, wanted: Parts) {
     assert!(rt; kernel.nets() == wanted.nets);
     assert!(rt; kernel.pins() == wanted.pins);
@@ -26,7 +26,7 @@ fn has_parts<F: Fabric>(rt: &impl Abort, kernel: &Kernel<F>, wanted: Parts) {
     assert!(rt; kernel.design().pins() == wanted.pins);
 }
 
-// So many messages wait at each pin in the channels that the kernel tells.
+// This number of messages waits at each pin in the channels that the kernel returns.
 fn wait_in_fabric<F: Fabric>(rt: &impl Abort, kernel: &Kernel<F>, wanted: &[u64]) {
     assert!(rt; !kernel.is_failed());
     for pin in 0..kernel.pins() {
@@ -34,7 +34,7 @@ fn wait_in_fabric<F: Fabric>(rt: &impl Abort, kernel: &Kernel<F>, wanted: &[u64]
     }
 }
 
-// A kernel has these parts, and so many messages wait at its pins once its first net has advanced.
+// A kernel has these parts, and this number of messages waits at its pins once its first net has advanced.
 fn tells<F: Fabric>(
     rt: &impl Abort,
     alloc: Global,
@@ -56,7 +56,7 @@ fn tells<F: Fabric>(
 struct Row(Circuit, u64, Parts, &'static [u64]);
 
 static ROWS: [Row; 3] = [
-    // `a` has two changes to tell, the last of them at tick 3, and that no more come up to the end.
+    // `a` has two changes to send, the last of them at tick 3, and a null message up to the end.
     Row(
         INVERTER,
         5,
@@ -67,7 +67,7 @@ static ROWS: [Row; 3] = [
         },
         &[3],
     ),
-    // It feeds the pin of `b` and the first one of `y`. Its change at tick 5 is behind the horizon.
+    // It feeds the pin of `b` and the first one of `y`. Its change at tick 5 is after the horizon.
     Row(
         LATE_PIN,
         4,
@@ -123,7 +123,7 @@ static FEDS: [Fed; 6] = [
     Fed(b"INPUT(a)\ny = XOR(a, a)\n", &[&[0, 1], &[]]),
     // Its own pin.
     Fed(b"INPUT(e)\ny = NAND(e, y)\n", &[&[0], &[1]]),
-    // A net that is defined behind the pin that it feeds.
+    // A net that is defined after the pin that it feeds.
     Fed(b"q = DFF(n)\nn = NOT(q)\n", &[&[1], &[0]]),
     // Pins 0 to 2 are those of `y`, pins 3 and 4 those of `z`.
     Fed(

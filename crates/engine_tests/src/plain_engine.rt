@@ -12,7 +12,7 @@ use std::process::Abort;
 use std::test::Fail;
 use timing_text::Horizon;
 
-// Up to the horizon the net shows X, and then just these changes.
+// Up to the horizon the net shows X, and then exactly these changes.
 fn shows(
     rt: &impl Abort,
     alloc: Global,
@@ -94,7 +94,7 @@ fn circuits_with_memory(rt: HostRuntime) -> Result<(), Fail> {
     Ok(())
 }
 
-// A clock line that says this of the flip-flop, and the changes that it shows then.
+// A clock line of the flip-flop, and the changes that it then shows.
 static CLOCKS: [(&[u8], &[(u32, Value)]); 7] = [
     // Each tick but tick 0.
     (b"timing version 2\nclock q 1 0", &[(5, One), (6, Zero)]),

@@ -1,4 +1,4 @@
-//! A process at work, told and asked step by step.
+//! A process at work, step by step.
 ghost use Rattle.std.specs.Prelude.{◌≡◌, false, length, option_map, slice_get, Some};
 ghost use Rattle.logic3.specs.Wave.{last_value};
 ghost use Rattle.gate_process.specs.Knowledge.{Knowledge};
@@ -15,7 +15,7 @@ use std::process::Abort;
 use std::test::Fail;
 use timing_text::Horizon;
 
-// A process at work, how many pins its net has, and the first tick past its horizon.
+// A process at work, the number of pins of its net, and the first tick past its horizon.
 #[derive(Drop)]
 pub(crate) struct Probe<'d> {
     process: Process<'d>,
@@ -25,12 +25,11 @@ pub(crate) struct Probe<'d> {
     ghost ends: { process.failed ≡ false → process.state.end ≡ end },
 }
 
-// A pin is told messages, a thousand changes, or so many null messages, after each of which an advance tells
-// nothing; an advance tells just these messages, or a thousand
-// changes of which the first is to this value; how many ticks all pins know, and how many it knows
-// itself; how many ticks a pin knows, and its last value; what it shows at a tick; its changes before
-// a tick, which are taken out; or the tick from which on it is kept, and its value before and its
-// changes from there on.
+// A pin receives messages, a thousand changes, or this number of null messages, after each of which an
+// advance sends nothing; an advance sends exactly these messages, or a thousand changes of which the first is
+// to this value; how many ticks all pins know, and how many it knows itself; how many ticks a pin knows, and
+// its last value; what it shows at a tick; its changes before a tick, which are taken out; or the tick from
+// which on it is kept, and its value before and its changes from there on.
 #[derive(Clone, Copy)]
 pub(crate) enum Step {
     Hears(u32, &'static [Message]),
@@ -65,7 +64,7 @@ impl<'d> Probe<'d> {
         })
     }
 
-    // The process, which memory sufficed for so far.
+    // The process, which hasn't failed so far.
     fn process(&self, rt: &impl Abort) -> &Process<'d>
         ensures same { result.now ≡ self.now.process }
         ensures running { result.now.failed ≡ false }
@@ -90,7 +89,7 @@ impl<'d> Probe<'d> {
         self.process(rt).last(place)
     }
 
-    // The pin at this place is told these messages.
+    // The pin at this place receives these messages.
     fn hear(&mut self, rt: &impl Abort, place: u32, messages: &[Message]) -> Result<(), Fail> {
         for message in messages {
             match *message {
@@ -132,7 +131,7 @@ impl<'d> Probe<'d> {
         Ok(self.process.drain_below(bound)?)
     }
 
-    // It tells just these messages.
+    // It sends exactly these messages.
     fn tells(&mut self, rt: &impl Abort, wanted: &[Message]) -> Result<(), Fail> {
         let messages = self.advance(rt)?;
         assert!(rt; messages.as_slice() == wanted);
@@ -147,7 +146,7 @@ impl<'d> Probe<'d> {
         Ok(())
     }
 
-    // The first pin is told a thousand changes over ten million ticks.
+    // The first pin receives a thousand changes over ten million ticks.
     fn hear_far(&mut self, rt: &impl Abort) -> Result<(), Fail> {
         for step in 0..500 {
             self.hear(rt, 0, &[change(10 + step * 20_000, Zero)])?;
@@ -156,7 +155,8 @@ impl<'d> Probe<'d> {
         self.hear(rt, 0, &[Null(10_000_001)])
     }
 
-    // The pin at this place is told of so many ticks, one after the other, and nothing comes of it.
+    // The pin at this place receives null messages for this number of ticks, one after the other, and nothing
+    // is sent.
     fn hear_nulls(&mut self, rt: &impl Abort, place: u32, ticks: u64) -> Result<(), Fail> {
         for tick in 0..ticks {
             self.hear_null(rt, place, tick.saturating_add(1))?;
@@ -165,7 +165,7 @@ impl<'d> Probe<'d> {
         Ok(())
     }
 
-    // It tells as much of that.
+    // It sends a thousand changes, too.
     fn tells_far(&mut self, rt: &impl Abort, first: Value) -> Result<(), Fail> {
         let messages = self.advance(rt)?;
         are_between(rt, &messages, 1_001, change(11, first), Null(10_000_001));
@@ -220,7 +220,7 @@ fn change(tick: u64, value: Value) -> Message {
     Message::Change(Change { tick, value })
 }
 
-// So many messages, of which these are the first and the last.
+// This number of messages, of which these are the first and the last.
 fn are_between(rt: &impl Abort, messages: &[Message], count: usize, first: Message, last: Message) {
     assert!(rt; messages.len() == count);
     assert!(rt; messages.first() == Some(&first));

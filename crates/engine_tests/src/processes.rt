@@ -1,4 +1,4 @@
-//! The process of one net, told step by step.
+//! The process of one net, step by step.
 use crate::circuits::{CROSSING, Circuit, INVERTER, SAMPLER, WIRED_INVERTER, WIRED_XOR};
 use crate::probe::{Probe, Step};
 use Message::Null;
@@ -99,7 +99,7 @@ const LOW_9: Change = Change {
     value: Zero,
 };
 
-// What the input of the inverter tells.
+// What the input of the inverter sends.
 const TOLD: [Message; 3] = [Message::Change(LOW_0), Message::Change(HIGH_3), Null(6)];
 
 const OF_AN_INPUT: [Step; 4] = [Knows(6, 0), Tells(&TOLD), Tells(&[]), Knows(6, 6)];
@@ -125,7 +125,7 @@ const AND: Circuit = Circuit {
     ..CROSSING
 };
 
-// Its first pin is told all, and then its second.
+// Its first pin receives all, and then its second.
 const OF_AND: [Step; 14] = [
     PinKnows(0, 0, Unknown),
     Hears(
@@ -181,7 +181,7 @@ const STAYS_LOW: [Message; 2] = [Message::Change(LOW_0), Null(7)];
 
 const STAYS_HIGH: [Message; 2] = [Message::Change(HIGH_0), Null(7)];
 
-// What is told by a gate that its first pin settles, while nothing is known of the others.
+// What a gate sends that its first pin settles, while nothing is known of the others.
 const SETTLED_LOW: [Step; 4] = [
     Hears(0, &STAYS_HIGH),
     Tells(&[Message::Change(LOW_1), Null(7)]),
@@ -211,7 +211,7 @@ const SETTLED_BY_THE_LAST: [Step; 4] = [
     Tells(&[]),
 ];
 
-// The pin that settles it isn't known farther, and then lets go.
+// The pin that settles it isn't known further, and then no longer settles it.
 const RELEASED: [Step; 8] = [
     Hears(0, &[Message::Change(LOW_0), Null(4)]),
     Tells(&[Message::Change(LOW_1), Null(5)]),
@@ -223,7 +223,7 @@ const RELEASED: [Step; 8] = [
     Knows(5, 6),
 ];
 
-// It lets go for a tick.
+// The pin doesn't settle it for one tick.
 const RELEASED_FOR_A_TICK: [Step; 3] = [
     Hears(
         0,
@@ -255,7 +255,7 @@ fn lookahead(rt: HostRuntime) -> Result<(), Fail> {
     Ok(())
 }
 
-// It waits for its first pin, whatever its second is told, and each look costs the same.
+// It waits for its first pin, whatever its second receives, and each check costs the same.
 const HELD: [Step; 5] = [
     Hears(0, &[Message::Change(LOW_0), Null(9_000_000)]),
     Tells(&[Message::Change(LOW_1), Null(9_000_001)]),
@@ -308,7 +308,7 @@ const OF_A_WIRED_GATE: [Step; 12] = [
     Tells(&[Null(9)]),
 ];
 
-// The wire takes longer than the run: nothing that its pin is told plays a part.
+// The wire takes longer than the run: nothing that its pin receives plays a part.
 const OF_A_FAR_GATE: [Step; 5] = [
     Knows(1_000_000, 0),
     Tells(&[Null(6)]),

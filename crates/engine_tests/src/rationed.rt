@@ -1,5 +1,5 @@
-//! The kernel over a fabric that carries so many messages and no more: each of a run's messages goes
-//! through the fabric, and is taken from it; a kernel whose fabric refuses memory has failed.
+//! The kernel over a fabric that carries only a given number of messages: each of a run's messages goes
+//! through the fabric, and is taken from it; a kernel whose fabric runs out of memory has failed.
 ghost use Rattle.std.specs.Prelude.{◌≡◌};
 
 use crate::circuits::{Circuit, GATED_OSCILLATOR, INVERTER, RING_COUNTER};
@@ -14,7 +14,8 @@ use std::process::Abort;
 use std::test::Fail;
 use timing_text::Horizon;
 
-/// Queues that refuse memory once they have carried so many messages, or once more were taken.
+/// Queues that run out of memory once they have carried `SENT` messages, or once more than `TAKEN` were
+/// taken.
 #[derive(Drop)]
 struct Rationed<const SENT: usize, const TAKEN: usize> {
     queues: Queues,
@@ -56,7 +57,7 @@ impl<const SENT: usize, const TAKEN: usize> Fabric for Rationed<SENT, TAKEN> {
     }
 }
 
-// A run of the design completes where this fabric carries as much as it sends, and else it fails.
+// A run of the design completes if this fabric carries as much as it sends, and otherwise fails.
 fn ends<F: Fabric>(
     rt: &impl Abort,
     alloc: Global,
@@ -84,7 +85,8 @@ fn needs<F: Fabric, G: Fabric>(
     ends::<G>(rt, alloc, &design, horizon, false)
 }
 
-// Each of these runs sends so many changes and null messages, and takes so many before the last one is sent.
+// Each of these runs sends this number of changes and of null messages, and takes this number before the last
+// one is sent.
 #[test]
 fn carries_each_message(rt: HostRuntime) -> Result<(), Fail> {
     needs::<Rationed<7, 3>, Rationed<6, 3>>(&rt, rt.alloc(), INVERTER, 5)?;
@@ -105,7 +107,7 @@ enum Call {
     Complete,
 }
 
-// What the kernel answers to a call; a sweep names nets that are there.
+// What the kernel returns for a call; a sweep names nets that exist.
 fn answer<F: Fabric>(
     rt: &impl Abort,
     design: &Design,
@@ -127,7 +129,7 @@ fn answer<F: Fabric>(
     }
 }
 
-// A drain answers that the kernel has failed, and adds nothing to the list.
+// A drain returns that the kernel has failed, and adds nothing to the list.
 fn refuses_drains<F: Fabric>(
     rt: &impl Abort,
     kernel: &mut Kernel<F>,
@@ -140,7 +142,7 @@ fn refuses_drains<F: Fabric>(
     assert!(rt; taken.is_empty());
 }
 
-// The kernel answers to every call that it has failed, whatever is wrong with the call.
+// The kernel returns for every call that it has failed, whatever is wrong with the call.
 fn has_failed<F: Fabric>(
     rt: &impl Abort,
     kernel: &mut Kernel<F>,
@@ -161,7 +163,7 @@ fn has_failed<F: Fabric>(
     assert!(rt; kernel.is_failed());
 }
 
-// A call that has something to send is refused memory, and the kernel has failed from then on.
+// A call that has something to send runs out of memory, and the kernel has failed from then on.
 fn fails_for_good(
     rt: &impl Abort,
     alloc: Global,
@@ -184,7 +186,7 @@ static CALLS: [Call; 5] = [
     Call::Complete,
 ];
 
-// So many events are too many for a kernel that hasn't failed.
+// This number of events is too large for a kernel that hasn't failed.
 #[test]
 fn refused_at_once(rt: HostRuntime) -> Result<(), Fail> {
     let design = INVERTER.build(rt.alloc())?;

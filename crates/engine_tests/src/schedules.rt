@@ -7,7 +7,7 @@ use std::alloc::{AllocError, Global};
 use std::process::Abort;
 use std::test::Fail;
 
-// There is a schedule, and it has just these events.
+// There is a schedule, and it has exactly these events.
 fn gives(rt: &impl Abort, answer: Result<Schedule, ScheduleFault>, events: &[Event]) {
     match answer {
         Ok(schedule) => assert!(rt; schedule.events() == events),
@@ -19,7 +19,7 @@ fn is_refused(rt: &impl Abort, answer: Result<Schedule, ScheduleFault>, fault: S
     assert!(rt; answer.err() == Some(fault));
 }
 
-// What is said of a schedule's text for a circuit.
+// The result for a schedule's text for a circuit.
 fn read_for(
     alloc: Global,
     circuit: Circuit,
@@ -111,7 +111,7 @@ fn most_bytes() -> usize {
     16_777_216
 }
 
-// A text of the most bytes that begins like this and goes on in the letter `x`.
+// A text of the most bytes that begins like this and continues with the letter `x`.
 fn longest(alloc: Global, start: &[u8]) -> Result<Vec<u8>, AllocError> {
     let mut text = Vec::from_slice(alloc, start)?;
     for _ in start.len()..most_bytes() {
@@ -131,7 +131,7 @@ fn limit_of_a_schedule_text(rt: HostRuntime) -> Result<(), Fail> {
     Ok(())
 }
 
-// So many events that are picked for a circuit.
+// This number of events, picked for a circuit.
 fn seeded_for(
     alloc: Global,
     circuit: Circuit,
@@ -142,9 +142,9 @@ fn seeded_for(
     Ok(Schedule::seeded(alloc, seed, picks, &design))
 }
 
-// The picks were computed apart, by a few lines of Python after the published algorithms: the
-// reference code of PCG-XSH-RR 64/32 (which gives 0xa15c02b7, 0x7b47f409, 0xba1d3330 from state 42
-// and stream 54), seeded as `rand_core` expands a number to a seed.
+// The picks were computed independently, by a few lines of Python after the published algorithms: the
+// reference code of PCG-XSH-RR 64/32 (which gives 0xa15c02b7, 0x7b47f409, 0xba1d3330 from state 42 and stream
+// 54), seeded as `rand_core` expands a number to a seed.
 #[test]
 fn seeded_picks(rt: HostRuntime) -> Result<(), Fail> {
     let of_inverter = [

@@ -1,5 +1,5 @@
-//! Streams by direct calls: the text after each span, wherever the spans are cut, and what is left of
-//! a stream after a fault.
+//! Streams by direct calls: the text after each span, wherever the spans are cut, and the state of a stream
+//! after a fault.
 ghost use Rattle.std.specs.Prelude.{◌≡◌, ◌+◌, ◌<◌, ◌≤◌, [], ◌∷◌, false, true, IfOk, OnOk, OnErr};
 ghost use Rattle.vcd_dump.specs.Spans.{with_parts, spanned, IsPart};
 
@@ -39,10 +39,10 @@ fn part(
     Ok(part)
 }
 
-// A span up to a tick, the changes of both nets in it, and how many bytes went out by its end.
+// A span up to a tick, the changes of both nets in it, and how many bytes have been written by its end.
 type Span = (u64, [&'static [Change]; 2], usize);
 
-// What a stream of two nets answers that is given the changes of both, and then writes them.
+// The result of a stream of two nets that is given the changes of both, and then writes them.
 fn write_both<W: Write>(
     stream: &mut Stream,
     out: &mut W,
@@ -95,7 +95,7 @@ impl Pair {
         Ok(Pair { stream, net_by_net })
     }
 
-    // What a span up to a tick answers.
+    // The result of a span up to a tick.
     fn span<W: Write>(
         &mut self,
         rt: &impl Abort,
@@ -125,7 +125,7 @@ impl Pair {
         }
     }
 
-    // What the end answers, of a stream that wrote all spans.
+    // The result of the end of a stream that wrote all spans.
     fn finish<W: Write>(self, rt: &impl Abort, out: &mut W) -> Result<(), DumpFault> {
         assert!(rt; self.stream.written() == 6);
         self.stream.finish(out)
@@ -197,7 +197,7 @@ fn streamed_inverter(rt: HostRuntime) -> Result<(), Fail> {
     Ok(())
 }
 
-// A span of all that is left, of which this is answered; the stream has failed then.
+// A span of all that is left, with this result; the stream has failed then.
 fn stops<W: Write>(
     rt: &impl Abort,
     alloc: Global,
@@ -212,8 +212,8 @@ fn stops<W: Write>(
     Ok(())
 }
 
-// The stream of the design to this writer stops with a fault at its second span; from then on it
-// answers that it has failed.
+// The stream of the design to this writer stops with a fault at its second span; from then on it returns that
+// it has failed.
 fn fails<W: Write>(
     rt: &impl Abort,
     alloc: Global,
@@ -231,7 +231,7 @@ fn fails<W: Write>(
     Ok(())
 }
 
-// The writer is called no more after a fault, though it would take all that it is given.
+// The writer isn't called again after a fault, though it would take all that it is given.
 #[test]
 fn failed_streams(rt: HostRuntime) -> Result<(), Fail> {
     let design = INVERTER.build(rt.alloc())?;
@@ -250,7 +250,7 @@ fn failed_streams(rt: HostRuntime) -> Result<(), Fail> {
     Ok(())
 }
 
-// What went out before the fault is a prefix of the dump.
+// What was written before the fault is a prefix of the dump.
 #[test]
 fn cut_streams(rt: HostRuntime) -> Result<(), Fail> {
     let design = INVERTER.build(rt.alloc())?;

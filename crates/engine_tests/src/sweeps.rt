@@ -171,7 +171,7 @@ fn by_sweeps(rt: HostRuntime) -> Result<(), Fail> {
     Ok(())
 }
 
-// The ticks at which windows of so many ticks end, one more of them than the horizon has ticks.
+// The ticks at which windows of this number of ticks end, one more of them than the horizon has ticks.
 fn ends_of_windows(alloc: Global, horizon: u64, width: u64) -> Result<Vec<u64>, AllocError> {
     let mut ticks = Vec::new(alloc);
     for window in 0..horizon.saturating_add(1) {
@@ -181,7 +181,7 @@ fn ends_of_windows(alloc: Global, horizon: u64, width: u64) -> Result<Vec<u64>, 
     Ok(ticks)
 }
 
-// Sweeps in the order of flow, over windows of so many ticks.
+// Sweeps in the order of flow, over windows of this number of ticks.
 fn run_over_windows(
     rt: &impl Abort,
     alloc: Global,

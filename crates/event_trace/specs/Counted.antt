@@ -4,32 +4,32 @@ use Rattle.cmb_channels.specs.declared.message.Message.{Message}
 use Rattle.cmb_channels.specs.Kinds.{is_change, is_null}
 use Rattle.event_trace.specs.Lines.{Line, begins, advances, delivers, ends}
 
--- the line is of an event
+-- the line reports an event
 abbrev pub is_event : Line → Bool
 is_event (begins number) = false
 is_event (advances net from to told) = true
 is_event (delivers net place taken) = true
 is_event (ends counts) = false
 
--- the line is of a round's beginning
+-- the line reports the beginning of a round
 abbrev pub is_beginning : Line → Bool
 is_beginning (begins number) = true
 is_beginning (advances net from to told) = false
 is_beginning (delivers net place taken) = false
 is_beginning (ends counts) = false
 
--- what an advance told stands in its line
+-- the messages in the line of an advance
 abbrev pub told_in : Line → List Message
 told_in (begins number) = []
 told_in (advances net from to told) = told
 told_in (delivers net place taken) = []
 told_in (ends counts) = []
 
--- as much as a u64 holds
+-- a number, at most the largest u64
 abbrev pub held : ℕ → ℕ
 held count = min count 18_446_744_073_709_551_615
 
--- how many changes, and how many null messages, advances told
+-- the numbers of changes and of null messages that advances sent
 abbrev pub changes_told : List Line → ℕ
 changes_told lines = count_by is_change (flat_map told_in lines)
 

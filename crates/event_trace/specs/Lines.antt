@@ -8,15 +8,15 @@ use Rattle.vcd_dump.specs.Dump.{line}
 use Rattle.vcd_dump.specs.Traces.{name_of}
 use Rattle.cmb_kernel.specs.declared.counts.Counts.{Counts}
 
--- what a line tells
+-- the content of a line
 pub data Line : Type 0 where
-  -- a round begins, of this number
+  -- the round with this number begins
   begins : (number : ℕ) → Line
-  -- a net advances from one frontier to another, and tells these messages
+  -- a net advances from one frontier to another, and sends these messages
   advances : (net from to : ℕ) (told : List Message) → Line
-  -- the pin at a place of a net takes the message that waited there, if one did
+  -- the pin at a place of a net takes the oldest message that waited there, if any
   delivers : (net place : ℕ) (taken : List Message) → Line
-  -- the run is complete, and so much was counted
+  -- the run is complete, with these counts
   ends : (counts : Counts) → Line
 
 -- a change as its value and its tick, a null message as its tick
@@ -24,21 +24,21 @@ abbrev pub message_text : Message → List ℕ
 message_text (Changes change) = value_text change.value ++ codes "@" ++ decimal change.tick
 message_text (Null bound) = codes "null " ++ decimal bound
 
--- a blank and a message
+-- a space and a message
 abbrev pub spaced_text : Message → List ℕ
 spaced_text message = codes " " ++ message_text message
 
--- the messages in order, or a word where there are none
+-- the messages in order, or a word if there are none
 abbrev pub messages_text : List Message → List ℕ
 messages_text [] = codes " idle"
 messages_text (message ∷ messages) = flat_map spaced_text (message ∷ messages)
 
--- the line of an advance, of a net of this name
+-- the line of an advance of the net with this name
 abbrev pub advance_text : List ℕ → ℕ → ℕ → List Message → List ℕ
 advance_text name from to told =
     line (codes "advance " ++ name ++ codes " " ++ decimal from ++ codes " -> " ++ decimal to ++ codes ":" ++ messages_text told)
 
--- the line of a delivery, to the pin at a place of a net of this name
+-- the line of a delivery to the pin at a place of the net with this name
 abbrev pub deliver_text : List ℕ → ℕ → List Message → List ℕ
 deliver_text name place taken =
     line (codes "deliver " ++ name ++ codes " " ++ decimal place ++ codes ":" ++ messages_text taken)

@@ -1,4 +1,4 @@
--- What a reader sees of a net in a trace.
+-- The changes of a net in a trace.
 use Rattle.std.specs.Prelude.{ℕ, ◌==◌, if◌then◌else◌, List, [], ◌∷◌, flat_map}
 use Rattle.logic3.specs.declared.change.Change.{Change}
 use Rattle.cmb_channels.specs.declared.message.Message.{Message}
@@ -11,13 +11,13 @@ changes_in [] = []
 changes_in (Changes change ∷ messages) = change ∷ changes_in messages
 changes_in (Null bound ∷ messages) = changes_in messages
 
--- the changes of a net that a line tells
+-- the changes of a net in a line
 abbrev pub told_of : ℕ → Line → List Change
 told_of net (begins number) = []
 told_of net (advances other from to told) = if other == net then changes_in told else []
 told_of net (delivers other place taken) = []
 told_of net (ends counts) = []
 
--- the changes of a net that some lines tell, one after another
+-- the changes of a net in some lines, in order
 abbrev pub changes_told_of : ℕ → List Line → List Change
 changes_told_of net lines = flat_map (told_of net) lines

@@ -8,7 +8,7 @@ use Rattle.cmb_kernel.specs.State.{State, started, nets_of, frontier_at, is_comp
 use Rattle.cmb_kernel.specs.Step.{one_more, news_at, step, steps, round_events, round_of, completed_within}
 use Rattle.event_trace.specs.Lines.{Line, begins, advances, delivers, ends, lines_text}
 
--- the line of an event, from the state that it happens in
+-- the line of an event that is applied to a state
 abbrev pub line_of : State → Event → Line
 line_of state (Deliver pin) =
     delivers (net_of_pin (nets_of state) pin) (place_of_pin (nets_of state) pin) (take 1 (slice_index_or state.lists pin []))
@@ -24,12 +24,12 @@ lines_of state (event ∷ events) = line_of state event ∷ lines_of (step state
 abbrev pub round_lines : State → List Line
 round_lines state = begins (one_more state.counts.rounds) ∷ lines_of state (round_events state)
 
--- the lines of the fewest rounds that complete a state, if so many are enough
+-- the lines of the fewest rounds that complete a state, up to a limit
 abbrev pub lines_within : ℕ → State → List Line
 lines_within zero state = []
 lines_within (suc count) state = if is_complete state then [] else round_lines state ++ lines_within count (round_of state)
 
--- the state at the end of a run: some events happen, and then rounds until it is complete
+-- the state at the end of a run: after some events, and then rounds until it is complete
 abbrev pub state_at_end : Circuit → ℕ → List Event → State
 state_at_end circuit end events = completed_within (most_rounds end circuit) (steps (started circuit end) events)
 

@@ -1,4 +1,4 @@
-//! Events, each with its line.
+//! Applying events and adding their lines.
 ghost use Rattle.std.specs.Prelude.{◌≡◌, ◌<◌, ◌+◌, ◌++◌, false, length, IfErr, IfOk, OnOk};
 ghost use Rattle.design.specs.Circuit.{pin_count};
 ghost use Rattle.cmb_events.specs.Schedule.{Exists};
@@ -18,10 +18,10 @@ use std::alloc::Global;
 use timing_text::Horizon;
 use vcd_dump::DumpFault;
 
-/// The kernel of a run that is traced, and the channels that its messages go through.
+/// The kernel of a traced run, with the channels that it uses.
 pub type TracedKernel<'d> = Kernel<'d, Logs>;
 
-/// A kernel to which nothing happened yet. Its fault is `Memory`.
+/// Makes a kernel to which no event has been applied. The fault is `Memory`.
 pub fn fresh_kernel<'d>(
     alloc: Global,
     design: &'d Design,
@@ -36,7 +36,7 @@ pub fn fresh_kernel<'d>(
     }
 }
 
-/// Applies an event of a pin or a net that is there. Its fault is `Memory`.
+/// Applies an event of a pin or a net of the design. The fault is `Memory`.
 fn apply(kernel: &mut TracedKernel<'_>, event: Event) -> Result<(), DumpFault>
     requires running { kernel.old.failed ≡ false }
     requires exists { Exists kernel.old.circuit event }
@@ -74,7 +74,7 @@ fn push_advanced(
     Ok(())
 }
 
-/// Lets a pin take the message that waits there first, and adds the line. The fault is `Memory`.
+/// Lets a pin take the oldest message that waits there, and adds the line. The fault is `Memory`.
 fn push_delivered(
     kernel: &mut TracedKernel<'_>,
     design: &Design,
@@ -101,7 +101,7 @@ fn push_delivered(
     Ok(())
 }
 
-/// Applies an event of a pin or a net that is there, and adds its line. The fault is `Memory`.
+/// Applies an event of a pin or a net of the design, and adds its line. The fault is `Memory`.
 pub fn push_event(
     kernel: &mut TracedKernel<'_>,
     design: &Design,

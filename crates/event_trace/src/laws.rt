@@ -11,8 +11,8 @@ ghost use Rattle.event_trace.specs.Shown.{changes_told_of};
 
 use cmb_kernel::laws::{no_deadlock, truth};
 
-/// What a reader counts in the lines of a trace is what the kernel counts: the lines of events, the
-/// messages that advances tell, and the beginnings of rounds.
+/// The numbers of events, of messages that advances send, and of rounds in the lines of a trace are
+/// those that the kernel counts.
 pub fn lines_are_counted()
     ensures events { (circuit : Circuit) (end : ℕ) (events : List Event) →
         (state_at_end circuit end events).counts.events ≡ held (count_by is_event (trace_lines circuit end events)) }
@@ -24,8 +24,8 @@ pub fn lines_are_counted()
         (state_at_end circuit end events).counts.rounds ≡ held (count_by is_beginning (trace_lines circuit end events)) }
 {}
 
-/// The changes that the lines of a net's advances tell, one after another, are those that the equations
-/// give the net, whatever events were given.
+/// The changes in the lines of a net's advances, in order, are those that the equations give the net,
+/// for any given events.
 pub fn lines_tell_waveforms()
     ensures { (circuit : Circuit) → IsCircuit circuit → (end : ℕ) (events : List Event) → All (Exists circuit) events →
         (net : ℕ) → net < length circuit →

@@ -1,4 +1,4 @@
-//! Traces of runs: a line for each event, of what it did.
+//! Traces of runs: a line for each event, with what it did.
 #![tactic(auto)]
 
 mod events;

@@ -27,7 +27,7 @@ fn push_changes(text: &mut Vec<u8>, changes: &[Change]) -> Result<(), AllocError
     Ok(())
 }
 
-// Whether some changes tell of a net up to a tick, of which nothing is told before another.
+// Returns whether some changes make a net known up to the tick `to`, if it is known up to `from`.
 fn tell_up_to(changes: &[Change], from: u64, to: u64) -> bool
     ensures { IsTrue result ↔ (told_to from changes.now ≡ to) }
 {
@@ -37,7 +37,7 @@ fn tell_up_to(changes: &[Change], from: u64, to: u64) -> bool
     }
 }
 
-// What tells of a net from one tick up to another, between which it has these changes.
+// Adds the messages that make a net known from one tick up to another, between which it has these changes.
 fn push_messages(
     text: &mut Vec<u8>,
     changes: &[Change],
@@ -79,8 +79,8 @@ pub fn push_advance(
     Ok(())
 }
 
-/// Adds the line of a delivery, by which the pin's frontier rises from one tick to another, between which
-/// its source has these changes.
+/// Adds the line of a delivery that raises the pin's frontier from one tick to another, between which its
+/// source has these changes.
 pub fn push_delivery(
     text: &mut Vec<u8>,
     name: &[u8],

@@ -1,4 +1,4 @@
-//! Rounds, each with its lines.
+//! Rounds with their lines.
 ghost use Rattle.std.specs.Prelude.{◌≡◌, ◌≢◌, ◌++◌, ◌∷◌, false, [], length, replicate, slice_index_or, IfErr, IfOk, OnOk, OnErr};
 ghost use Rattle.cmb_events.specs.Schedule.{Exists};
 ghost use Rattle.cmb_events.specs.declared.event.Event.TheVariants.{Deliver};
@@ -20,7 +20,7 @@ use std::alloc::{AllocError, Global};
 use std::io::Write;
 use vcd_dump::DumpFault;
 
-// A delivery for each message that waits at a pin.
+// Adds a delivery for each message that waits at a pin.
 fn push_deliveries(
     kernel: &TracedKernel<'_>,
     pin: u32,
@@ -37,7 +37,7 @@ fn push_deliveries(
     Ok(())
 }
 
-/// The events of a round.
+/// Returns the events of a round.
 fn events_of_round(
     alloc: Global,
     kernel: &TracedKernel<'_>,
@@ -58,7 +58,7 @@ fn events_of_round(
     Ok(events)
 }
 
-/// Does a round, and writes its lines behind the text that waits.
+/// Applies a round, and writes its lines after the waiting text.
 fn walk_round<W: Write>(
     alloc: Global,
     kernel: &mut TracedKernel<'_>,
@@ -86,8 +86,8 @@ fn walk_round<W: Write>(
     walk(kernel, design, out, text, events.as_slice())
 }
 
-/// Does rounds until the kernel is complete, writes their lines behind the text that waits, and answers
-/// what was counted in all.
+/// Applies rounds until the kernel is complete, writes their lines after the waiting text, and returns
+/// the counts of the whole run.
 pub fn walk_rounds<W: Write>(
     alloc: Global,
     kernel: &mut TracedKernel<'_>,
@@ -108,7 +108,7 @@ pub fn walk_rounds<W: Write>(
         (lines_within (most_rounds kernel.old.end kernel.old.circuit) kernel.old.state))) }
     ensures fault { IfErr result (λ fault. fault ≢ DumpFault.Failed) }
 {
-    // Each round brings the run nearer to its end.
+    // Each round makes progress.
     no_deadlock();
     prove!(!kernel.is_failed());
     let mut rounds = kernel.counts().rounds;

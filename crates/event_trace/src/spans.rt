@@ -5,7 +5,7 @@ ghost use Rattle.logic3.specs.Wave.{changes_between, wave_of};
 
 use logic3::{Change, Waveform};
 
-/// The changes from one tick up to but not including another. Takes logarithmic time.
+/// Returns the changes from one tick up to but not including another. Takes logarithmic time.
 pub fn changes_between(wave: &Waveform, from: u64, to: u64) -> &[Change]
     ensures { (signal : ℕ → Value) (known : ℕ) → wave.now ≡ wave_of signal 0 known → from ≤ to → to ≤ known →
         result.now ≡ changes_between signal from to }

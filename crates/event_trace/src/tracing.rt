@@ -20,24 +20,24 @@ use timing_text::Horizon;
 use vcd_dump::{DumpFault, write_all_bytes};
 
 /// Runs a design up to a horizon, and writes a line for each event that the kernel applies: first the
-/// events that are given, each of a pin or a net of the design, one after another, and then those of
-/// rounds, until each net is known up to the horizon. Answers what was counted in all, which the last
-/// line tells.
+/// given events, each of a pin or a net of the design, in order, and then those of rounds, until each
+/// net is known up to the horizon. Returns the counts of the whole run, which are also in the last
+/// line.
 ///
-/// - `advance NET OLD -> NEW: WHAT`: the net's frontier before and after, and the messages that it told
-///   in order, each behind a blank: a change as `VALUE@TICK`, a null message as `null TICK`; or `idle`
-///   where it told none.
+/// - `advance NET OLD -> NEW: WHAT`: the net's frontier before and after, and the messages that it sent
+///   in order, each after a space: a change as `VALUE@TICK`, a null message as `null TICK`; or `idle`
+///   if it sent none.
 /// - `deliver NET PLACE: WHAT`: the pin at a place of the net, counted from 0, and the message that it
-///   took, or `idle` where none waited.
+///   took, or `idle` if none waited.
 /// - `round N` before the events of each round, N counted from 1.
 /// - `events E changes C nulls N rounds R` at the end.
 ///
-/// It goes out in pieces of some 64 KiB. Nothing is written after a fault, and nothing is flushed.
+/// It is written in pieces of about 64 KiB. Nothing is written after a fault, and `out` isn't flushed.
 ///
 /// # Errors
-/// [`DumpFault::Write`] where a `write` answers a fault, also an interruption,
-/// [`DumpFault::WroteNothing`] where a `write` takes none of some bytes, and [`DumpFault::Memory`]; a
-/// first part of the trace went out then. Never [`DumpFault::Failed`].
+/// [`DumpFault::Write`] if a `write` returns an error, including an interruption,
+/// [`DumpFault::WroteNothing`] if a `write` takes none of its bytes, and [`DumpFault::Memory`] if an
+/// allocation fails; never [`DumpFault::Failed`]. A prefix of the trace has been written then.
 pub fn trace<W: Write>(
     alloc: Global,
     out: &mut W,
@@ -58,7 +58,7 @@ pub fn trace<W: Write>(
     trace_kernel(alloc, out, design, &mut kernel, events)
 }
 
-/// Writes the lines of a kernel to which some events happen, and then those of rounds.
+/// Applies some events to a kernel, and then rounds, and writes their lines.
 fn trace_kernel<W: Write>(
     alloc: Global,
     out: &mut W,

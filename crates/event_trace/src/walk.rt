@@ -1,4 +1,4 @@
-//! A walk through some events.
+//! Applying a list of events.
 ghost use Rattle.std.specs.Prelude.{◌≡◌, ◌≢◌, ◌++◌, false, All, IfErr, OnOk, OnErr};
 ghost use Rattle.cmb_events.specs.Schedule.{Exists};
 ghost use Rattle.cmb_kernel.specs.State.{IsUndrained};
@@ -14,7 +14,7 @@ use design::Design;
 use std::io::Write;
 use vcd_dump::{DumpFault, send_long};
 
-/// Applies some events, one after another, and writes their lines behind the text that waits.
+/// Applies some events in order, and writes their lines after the waiting text.
 pub fn walk<W: Write>(
     kernel: &mut TracedKernel<'_>,
     design: &Design,

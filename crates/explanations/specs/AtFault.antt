@@ -1,4 +1,4 @@
--- What is told of the word at fault, by what the lines of its text say alone.
+-- The message about the word at fault, as far as the lines of its text determine it.
 use Rattle.std.specs.Prelude.{ℕ, ◌==◌, ◌||◌, ◌&&◌, not, nat_lt, Bool, false, if◌then◌else◌, List, [], ◌∷◌, ◌++◌, drop, filter, length, slice_get, codes, bytes_eq, Option, None, Some, unwrap_or}
 use Rattle.std.specs.List.{find, last_or, list_any, prefix_len, slice_split}
 use Rattle.std.specs.Option.{option_map_or}
@@ -17,7 +17,7 @@ word_at place code = slice_get (words_of code) place
 abbrev pub is_gap : ℕ → Bool
 is_gap byte = is_white byte || list_any (λ mark. mark == byte) (codes "(),=")
 
--- what stands between them in a .bench line: names, and words such as NAND
+-- what is between them in a .bench line: names, and words such as NAND
 abbrev pub names_in : List ℕ → List (List ℕ)
 names_in code = filter (λ name. not (is_empty name)) (slice_split is_gap code)
 
@@ -44,13 +44,13 @@ defined_by code =
     else if begins_with_input code then nth_name 1 code
     else None
 
--- the nets that it uses: the pins of a gate, or an output
+-- the nets that the line uses: the pins of a gate, or an output
 abbrev pub used_by : List ℕ → List (List ℕ)
 used_by code = drop (if is_assignment code then 2 else 1) (names_in code)
 
--- ---- what a line is of
+-- ---- the topic of a line
 
--- its net; of a delay text in the second version also its first word, and of wires the place of the pin. Each is empty where it isn't there
+-- its net; in a delay text of version 2 also its first word, and for wires the place of the pin. An absent part is empty
 pub record Topic : Type 0 where
   pub net : List ℕ
   pub form : List ℕ
@@ -82,20 +82,20 @@ topic_of other code = of_net None
 abbrev pub is_same : Topic → Topic → Bool
 is_same one other = not (is_empty one.net) && (bytes_eq one.net other.net && (bytes_eq one.form other.form && bytes_eq one.pin other.pin))
 
--- ---- the earlier line that is of the same
+-- ---- the earlier line with the same topic
 
 abbrev pub is_above : Subject → ℕ → Topic → ℕ × List ℕ → Bool
 is_above subject number topic line = nat_lt line.0 number && is_same topic (topic_of subject line.1)
 
--- the number of a line, and 0 for none
+-- the number of a line, or 0 for none
 abbrev pub number_or_none : Option (ℕ × List ℕ) → ℕ
 number_or_none line = option_map_or (λ (line : ℕ × List ℕ). line.0) line 0
 
--- the number of the last line above this one that is of the same
+-- the number of the last line before this one that has the same topic
 abbrev pub line_above : Subject → ℕ → Topic → List ℕ → ℕ
 line_above subject number topic text = number_or_none (last_or None (filter (is_above subject number topic) (code_lines text)))
 
--- what is said of it
+-- the words for it
 abbrev pub too : Subject → List ℕ
 too Bench = codes " defines it too: "
 too Stimuli = codes " is of this input too: "
@@ -117,7 +117,7 @@ defines name line = is_net (defined_by line.1) name
 abbrev pub is_undefined : List ℕ → List ℕ → Bool
 is_undefined text name = not (list_any (defines name) (code_lines text))
 
--- the first that the line uses
+-- the first such name that the line uses
 abbrev pub undefined_in : List ℕ → List ℕ → Option (List ℕ)
 undefined_in code text = find (is_undefined text) (used_by code)
 
@@ -126,11 +126,11 @@ undefined_in code text = find (is_undefined text) (used_by code)
 abbrev pub is_among : List (List ℕ) → List ℕ → Bool
 is_among names name = list_any (bytes_eq name) names
 
--- the faults of a net that isn't there, or isn't of the kind that is wanted
+-- the faults about a net that doesn't exist, or isn't of the kind that is needed
 abbrev pub of_nets : List (List ℕ)
 of_nets = codes "UnknownNet" ∷ codes "IsInput" ∷ codes "NotAFlop" ∷ codes "NotAnInput" ∷ []
 
--- the faults of the third word
+-- the faults about the third word
 abbrev pub of_thirds : List (List ℕ)
 of_thirds = codes "BadPin" ∷ codes "BadPeriod" ∷ codes "BadValue" ∷ []
 
@@ -138,7 +138,7 @@ of_thirds = codes "BadPin" ∷ codes "BadPeriod" ∷ codes "BadValue" ∷ []
 abbrev pub is_long : List ℕ → Bool
 is_long name = nat_lt 255 (length name)
 
--- the first net that is: the one that an assignment defines, or else one that the line uses
+-- the first net with such a name: the one that an assignment defines, or else one that the line uses
 abbrev pub long_net : List ℕ → Option (List ℕ)
 long_net code =
     if is_assignment code && is_long (unwrap_or (nth_name 0 code) []) then nth_name 0 code
@@ -147,7 +147,7 @@ long_net code =
 abbrev pub is_unplain : List ℕ → Bool
 is_unplain word = not (is_plain word)
 
--- of faults of .bench lines
+-- for faults of .bench lines
 abbrev pub bench_word : List ℕ → List ℕ → Option (List ℕ)
 bench_word name code =
     if bytes_eq name (codes "UnknownGate") then nth_name 1 code
@@ -164,24 +164,24 @@ word_at_fault subject name code =
     else if bytes_eq name (codes "TickTooLarge") then word_at 0 code
     else bench_word name code
 
--- ---- what is told of it
+-- ---- the message about it
 
 abbrev pub word_told : List ℕ → Option (List ℕ) → List ℕ
 word_told said None = []
 word_told said (Some word) = said ++ shown_line word ++ codes "\n"
 
--- the faults of a line that is of the same as an earlier one
+-- the faults about a line with the same topic as an earlier one
 abbrev pub of_repeats : List (List ℕ)
 of_repeats = codes "DefinedTwice" ∷ codes "Twice" ∷ codes "NotRising" ∷ []
 
--- of a line without its comment, in a text
+-- for a line without its comment, in a text
 abbrev pub at_fault_in : Subject → List ℕ → ℕ → List ℕ → List ℕ → List ℕ
 at_fault_in subject name number text code =
     if is_among of_repeats name then earlier_line subject number (topic_of subject code) text
     else if bytes_eq name (codes "Undefined") then word_told (codes "no line defines ") (undefined_in code text)
     else word_told (codes "the word is: ") (word_at_fault subject name code)
 
--- of the line of this number, if the text is known and has it
+-- for the line with this number, if the text is known and has it
 abbrev pub at_fault : Subject → List ℕ → ℕ → Option (List ℕ) → List ℕ
 at_fault subject name number None = []
 at_fault subject name number (Some text) =

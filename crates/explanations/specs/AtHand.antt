@@ -1,4 +1,5 @@
--- What is told of a fault at hand: the line of its text, the word at fault, what the system says, what it means and what is wanted.
+-- The message about a fault that occurred: the line of its text, the word at fault, the system's message, what it means and what
+-- is needed.
 use Rattle.std.specs.Prelude.{ℕ, ◌==◌, if◌then◌else◌, List, [], ◌++◌, flat_map, codes, decimal, option_and_then, Option, None, Some}
 use Rattle.explanations.specs.declared.explanation.Explanation.{Explanation}
 use Rattle.explanations.specs.declared.subject.Subject.{Subject}
@@ -27,7 +28,7 @@ subject_number Program = 10
 abbrev pub hint_of : Subject → Explanation → List ℕ
 hint_of subject one = meaning_line (title_of subject) one ++ wanted_line one
 
--- what the fault of a name means, and what is wanted
+-- what the fault with a name means, and what is needed
 abbrev pub hint_if_called : Subject → List ℕ → Explanation → List ℕ
 hint_if_called subject name one = (if is_called name one then hint_of subject one else [])
 
@@ -36,17 +37,17 @@ abbrev pub hints_in : Subject → List ℕ → Table → List ℕ
 hints_in subject name table =
     (if subject_number table.subject == subject_number subject then flat_map (hint_if_called subject name) table.explanations.now else [])
 
--- what the system says of a read or a write that failed, if it says something
+-- the system's message about a failed read or write, if any
 abbrev pub reason_line : Option (List ℕ) → List ℕ
 reason_line reason = word_told (codes "the system says: ") reason
 
--- a number that is out of its range, or at odds with another
+-- a number that is out of its range, or conflicts with another
 abbrev pub number_line : Option ℕ → List ℕ
 number_line None = []
 number_line (Some number) = codes "the number is: " ++ decimal number ++ codes "\n"
 
--- a fault as it was met: what it is of, its name and its line, and where they are known the text at fault, the word and the number at
--- fault that no text has, and what the system says
+-- a fault that occurred: its subject, its name and its line, and, if known, the text at fault, the word and the number at fault
+-- that no text contains, and the system's message
 pub record FaultView : Type 0 where
   pub subject : Subject
   pub name : List ℕ
@@ -56,7 +57,7 @@ pub record FaultView : Type 0 where
   pub number : Option ℕ
   pub reason : Option (List ℕ)
 
--- all that is told of it
+-- the whole message
 abbrev pub told_at_hand : List Table → FaultView → List ℕ
 told_at_hand tables fault =
     excerpt fault.line (option_and_then (line_at fault.line) fault.text)

@@ -10,7 +10,7 @@ line_at number text = if number == 0 then None else slice_get (lines_of text) (n
 abbrev pub shown_byte : ℕ → ℕ
 shown_byte byte = if byte == 9 || byte == 13 then 32 else if nat_lt 31 byte && nat_lt byte 127 then byte else 63
 
--- behind a line of more than a hundred bytes
+-- the mark after a line of more than a hundred bytes
 abbrev pub cut_mark : ℕ → List ℕ
 cut_mark count = (if nat_lt 100 count then codes " .." else [])
 
@@ -18,7 +18,7 @@ cut_mark count = (if nat_lt 100 count then codes " .." else [])
 abbrev pub shown_line : List ℕ → List ℕ
 shown_line line = map shown_byte (take 100 line) ++ cut_mark (length line)
 
--- the line of a number, if there is one, behind what is said of it
+-- the line with a number, if any, after the message about it
 abbrev pub line_told : List ℕ → ℕ → Option (List ℕ) → List ℕ
 line_told said number None = []
 line_told said number (Some line) = codes "line " ++ decimal number ++ said ++ shown_line line ++ codes "\n"

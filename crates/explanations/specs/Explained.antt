@@ -1,4 +1,4 @@
--- What is told of faults.
+-- The explanations of faults.
 use Rattle.std.specs.Prelude.{ℕ, Bool, List, [], ◌++◌, if◌then◌else◌, flat_map, codes, decimal, Option, None, Some}
 use Rattle.std.specs.List.{list_any}
 use Rattle.std.specs.Str.{str_eq_ignore_ascii_case}
@@ -8,7 +8,7 @@ use Rattle.explanations.specs.declared.subject.Subject.{Subject}
 use Rattle.explanations.specs.declared.table.Table.{Table}
 use Rattle.explanations.specs.declared.subject.Subject.TheVariants.{Bench, Delays, Stimuli, Schedule, Deck, Settings, Columns, Drives, Ticks, Names, Program}
 
--- what a subject is called
+-- the title of a subject
 abbrev pub title_of : Subject → List ℕ
 title_of Bench = codes "a .bench text"
 title_of Delays = codes "a delay text"
@@ -29,7 +29,7 @@ example_circuit Stimuli = codes " for INPUT(a), y = NAND(a, q), q = DFF(y)"
 example_circuit Schedule = codes " for INPUT(a), y = NAND(a, q), q = DFF(y)"
 example_circuit other = []
 
--- an example, if there is one: the faulty text with its line, and the text mended
+-- an example, if any: the faulty text with its line, and the corrected text
 abbrev pub example_line : List ℕ → ℕ → List ℕ
 example_line circuit number = codes "for example" ++ circuit ++ codes ", refused at line " ++ decimal number ++ codes ":\n"
 
@@ -40,40 +40,40 @@ abbrev pub example_text : List ℕ → Option Example → List ℕ
 example_text circuit None = []
 example_text circuit (Some example) = example_line circuit example.line ++ both_texts example
 
--- what it means, and what is wanted
+-- what it means, and what is needed
 abbrev pub meaning_line : List ℕ → Explanation → List ℕ
 meaning_line title one = one.name.now ++ codes " of " ++ title ++ codes ": " ++ one.meaning.now ++ codes "\n"
 
 abbrev pub wanted_line : Explanation → List ℕ
 wanted_line one = codes "want " ++ one.wanted.now ++ codes "\n"
 
--- all that is told of a fault of a subject
+-- the whole explanation of a fault of a subject
 abbrev pub explanation_of : Subject → Explanation → List ℕ
 explanation_of subject one =
     meaning_line (title_of subject) one ++ wanted_line one ++ example_text (example_circuit subject) one.example
 
--- without regard to case
+-- the explanation is of the fault with this name, in any case of its letters
 abbrev pub is_called : List ℕ → Explanation → Bool
 is_called name one = str_eq_ignore_ascii_case one.name.now name
 
--- ---- what is told of the faults of a name
+-- ---- the explanations of the faults with a name
 
--- of one fault of a subject: nothing where it has another name
+-- of one fault of a subject: empty if it has another name
 abbrev pub told_if_called : Subject → List ℕ → Explanation → List ℕ
 told_if_called subject name one = (if is_called name one then explanation_of subject one else [])
 
--- of those of one subject, whose explanations these are
+-- of the faults of one subject, which has these explanations
 abbrev pub told_of : Subject → List ℕ → List Explanation → List ℕ
 told_of subject name table = flat_map (told_if_called subject name) table
 
 abbrev pub told_by : List ℕ → Table → List ℕ
 told_by name table = told_of table.subject name table.explanations.now
 
--- of those of each table, in order
+-- of the faults of each table, in order
 abbrev pub explained : List Table → List ℕ → List ℕ
 explained tables name = flat_map (told_by name) tables
 
--- there is one
+-- the table has a fault with this name
 abbrev pub has_called : List ℕ → Table → Bool
 has_called name table = list_any (is_called name) table.explanations.now
 

@@ -1,4 +1,4 @@
--- The code's topics and faults, which borrow the bytes of texts, as those of the definitions.
+-- The topics and faults of the code, which borrow the bytes of texts, as those of the definitions.
 use Rattle.std.specs.Prelude.{option_map}
 use Rattle.explanations.specs.AtFault as at_fault
 use Rattle.explanations.specs.AtHand.{FaultView}

@@ -1,4 +1,4 @@
-//! The earlier line that is of the same as a line.
+//! The earlier line with the same topic as a line.
 ghost use Rattle.std.specs.Prelude.{◌≡◌, option_map};
 ghost use Rattle.explanations.specs.AtFault.{is_above, line_above, number_or_none};
 ghost use Rattle.explanations.specs.Seen.{seen_topic};
@@ -7,8 +7,8 @@ use crate::subject::Subject;
 use crate::topic::{Topic, is_same, topic_of};
 use text_lines::code_lines;
 
-/// The number of the last line above the one of this number that is of the same, and 0 for none. Goes
-/// through the text once.
+/// Returns the number of the last line before the one with this number that has the same topic, or 0
+/// if there is none. Reads the text once.
 pub(crate) fn line_above(subject: Subject, number: u64, topic: Topic<'_>, text: &[u8]) -> u64
     ensures { result ≡ line_above subject number (seen_topic topic.entry) text.now }
 {
@@ -19,7 +19,7 @@ pub(crate) fn line_above(subject: Subject, number: u64, topic: Topic<'_>, text: 
     )
 }
 
-/// The number of a line, and 0 for none.
+/// Returns the number of a line, or 0 for `None`.
 fn number_or_none(line: Option<(u64, &[u8])>) -> u64
     ensures { result ≡ number_or_none (option_map (λ line. (line.0, line.1.now)) line.entry) }
 {
@@ -29,7 +29,8 @@ fn number_or_none(line: Option<(u64, &[u8])>) -> u64
     }
 }
 
-/// Whether a line, without its comment, is above the one of this number and of the same.
+/// Returns whether a line, without its comment, is before the one with this number and has the same
+/// topic.
 fn is_above(subject: Subject, number: u64, topic: &Topic<'_>, other: u64, code: &[u8]) -> bool
     ensures { result ≡ is_above subject number (seen_topic topic.now) (other, code.now) }
 {

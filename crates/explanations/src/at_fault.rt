@@ -1,4 +1,4 @@
-//! What is told of the word at fault.
+//! The message about the word at fault.
 ghost use Rattle.std.specs.Prelude.{◌≡◌, ◌++◌, option_map, None, OnOk};
 ghost use Rattle.std.specs.List.{find, last_or};
 ghost use Rattle.explanations.specs.AtFault.{at_fault, at_fault_in, bench_word, earlier_line, is_among, is_unplain, of_nets, of_repeats, of_thirds, too, topic_of, word_at_fault, word_told};
@@ -13,7 +13,7 @@ use crate::undefined::undefined_in;
 use std::alloc::{AllocError, Global};
 use text_lines::{code_of, is_plain, words_of};
 
-/// Adds what is told of the word at fault, where the text is known and has the line of this number.
+/// Adds the message about the word at fault, if the text is known and has the line with this number.
 pub(crate) fn push_at_fault(
     alloc: Global,
     told: &mut Vec<u8>,
@@ -34,7 +34,7 @@ pub(crate) fn push_at_fault(
     push_at_fault_in(alloc, told, subject, name, number, text, code_of(line))
 }
 
-/// Adds what is told of the word at fault in a line, without its comment, of a text.
+/// Adds the message about the word at fault in a line, without its comment, of a text.
 fn push_at_fault_in(
     alloc: Global,
     told: &mut Vec<u8>,
@@ -56,7 +56,7 @@ fn push_at_fault_in(
     }
 }
 
-/// Adds the earlier line that is of the same, if there is one.
+/// Adds the earlier line with the same topic, if any.
 fn push_earlier(
     alloc: Global,
     told: &mut Vec<u8>,
@@ -72,7 +72,7 @@ fn push_earlier(
     push_line(alloc, told, too(subject), other, line_at(text, other))
 }
 
-/// What is said of a line that is of the same.
+/// Returns the words for an earlier line with the same topic.
 fn too(subject: Subject) -> &'static str
     ensures { result.now ≡ too subject }
 {
@@ -83,28 +83,28 @@ fn too(subject: Subject) -> &'static str
     }
 }
 
-/// Whether a fault is of a line that is of the same as an earlier one.
+/// Returns whether a fault is about a line with the same topic as an earlier one.
 fn is_of_repeats(name: &str) -> bool
     ensures { result ≡ is_among of_repeats name.now }
 {
     name == "DefinedTwice" || name == "Twice" || name == "NotRising"
 }
 
-/// Whether a fault is of a net that isn't there, or isn't of the kind that is wanted.
+/// Returns whether a fault is about a net that doesn't exist, or isn't of the kind that is needed.
 fn is_of_nets(name: &str) -> bool
     ensures { result ≡ is_among of_nets name.now }
 {
     name == "UnknownNet" || name == "IsInput" || name == "NotAFlop" || name == "NotAnInput"
 }
 
-/// Whether a fault is of the third word of its line.
+/// Returns whether a fault is about the third word of its line.
 fn is_of_thirds(name: &str) -> bool
     ensures { result ≡ is_among of_thirds name.now }
 {
     name == "BadPin" || name == "BadPeriod" || name == "BadValue"
 }
 
-/// The word at fault, by its place in a line without its comment.
+/// Returns the word at fault, by its place in a line without its comment.
 fn word_at_fault<'a>(subject: Subject, name: &str, code: &'a [u8]) -> Option<&'a [u8]>
     ensures { option_map (λ word. word.now) result ≡ word_at_fault subject name.now code.now }
 {
@@ -123,7 +123,7 @@ fn word_at_fault<'a>(subject: Subject, name: &str, code: &'a [u8]) -> Option<&'a
     }
 }
 
-/// The same for faults of .bench lines.
+/// Does the same for faults of .bench lines.
 fn bench_word<'a>(name: &str, code: &'a [u8]) -> Option<&'a [u8]>
     ensures { option_map (λ word. word.now) result ≡ bench_word name.now code.now }
 {
@@ -138,21 +138,21 @@ fn bench_word<'a>(name: &str, code: &'a [u8]) -> Option<&'a [u8]>
     }
 }
 
-/// The last word of a line.
+/// Returns the last word of a line.
 fn last_word(code: &[u8]) -> Option<&[u8]>
     ensures { option_map (λ word. word.now) result ≡ last_or None (words_of code.now) }
 {
     words_of(code).last()
 }
 
-/// The first word of a line that has a byte which isn't printable.
+/// Returns the first word of a line with a byte that isn't printable.
 fn unplain_word(code: &[u8]) -> Option<&[u8]>
     ensures { option_map (λ word. word.now) result ≡ find is_unplain (words_of code.now) }
 {
     words_of(code).find(|word| !is_plain(word))
 }
 
-/// Adds a word behind what is said of it, and a line feed, if there is one.
+/// Adds the message about a word, the word, and a line feed, if there is a word.
 pub(crate) fn push_word(
     told: &mut Vec<u8>,
     said: &[u8],

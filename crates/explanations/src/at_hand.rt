@@ -1,4 +1,4 @@
-//! What is told of a fault at hand.
+//! The message about a fault that occurred.
 ghost use Rattle.std.specs.Prelude.{◌≡◌, ◌++◌, flat_map, option_and_then, option_map, string_bytes, IfOk, OnOk};
 ghost use Rattle.explanations.specs.AtHand.{hint_if_called, hint_of, hints_in, number_line, told_at_hand};
 ghost use Rattle.explanations.specs.Excerpt.{line_at};
@@ -12,28 +12,28 @@ use crate::table::Table;
 use crate::telling::{push_meaning, push_wanted};
 use std::alloc::{AllocError, Global};
 
-/// A fault as it was met.
+/// A fault that occurred.
 #[derive(Clone, Copy, Debug)]
 pub struct AtHand<'a> {
-    /// What it is of.
+    /// The kind of input that it is about.
     pub subject: Subject,
     pub name: &'a str,
-    /// Its line, from 1, and 0 for a fault without a line.
+    /// Its line, from 1, or 0 for a fault without a line.
     pub line: u64,
-    /// The text at fault, where it is known.
+    /// The text at fault, if known.
     pub text: Option<&'a [u8]>,
-    /// The name at fault, where no text has it: one that the words of a command give.
+    /// The name at fault, if no text contains it: one from the arguments.
     pub word: Option<&'a [u8]>,
-    /// The number at fault, where no text has it.
+    /// The number at fault, if no text contains it.
     pub number: Option<u64>,
-    /// What the system says of a read or a write that failed, where it says something.
+    /// The system's message about a failed read or write, if any.
     pub reason: Option<&'a [u8]>,
 }
 
-/// What is told of a fault: the line of its text, where the text is known, the word at fault, or the
-/// earlier line that is of the same, where the lines alone tell it, the word or the number at fault that no
-/// text has, what the system says, what it means, and what is wanted. Of a long line the first 100 bytes
-/// are shown, and a byte that isn't printable as `?`.
+/// Returns the message about a fault: the line of its text, if known; the word at fault or the earlier line
+/// with the same topic, if the lines determine it; the word or number at fault that no text contains; the
+/// system's message; what the fault means; and what is needed. Of a long line the first 100 bytes are
+/// shown, and a byte that isn't printable as `?`.
 pub fn fault_text(alloc: Global, tables: &[Table], fault: AtHand<'_>) -> Result<Vec<u8>, AllocError>
     ensures { IfOk result (λ told. told.items ≡ told_at_hand tables.now (seen_fault fault.entry)) }
 {
@@ -60,7 +60,7 @@ pub fn fault_text(alloc: Global, tables: &[Table], fault: AtHand<'_>) -> Result<
     Ok(told)
 }
 
-/// Adds a number behind what is said of it, and a line feed, if there is one.
+/// Adds the message about a number, the number, and a line feed, if there is a number.
 fn push_number(alloc: Global, told: &mut Vec<u8>, number: Option<u64>) -> Result<(), AllocError>
     ensures { OnOk result (told.new.items ≡ told.old.items ++ number_line number) }
 {
@@ -125,7 +125,7 @@ fn push_hints(
     Ok(())
 }
 
-/// Adds what a fault means and what is wanted, where it has this name.
+/// Adds what a fault means and what is needed, if it has this name.
 fn push_if_called(
     text: &mut String,
     subject: Subject,

@@ -6,10 +6,10 @@ ghost use Rattle.explanations.specs.AtFault.{begins_with_input, defined_by, is_a
 use std::alloc::{AllocError, Global};
 use text_lines::is_white;
 
-/// The most bytes that a name may have.
+/// The largest number of bytes in a name.
 const LONGEST_NAME: usize = 255;
 
-/// The net that a line without its comment defines.
+/// Returns the net that a line without its comment defines.
 pub(crate) fn defined_by(code: &[u8]) -> Option<&[u8]>
     ensures { option_map (λ net. net.now) result ≡ defined_by code.now }
 {
@@ -22,21 +22,21 @@ pub(crate) fn defined_by(code: &[u8]) -> Option<&[u8]>
     }
 }
 
-/// The nets that a line without its comment uses.
+/// Returns the nets that a line without its comment uses.
 pub(crate) fn used_by(alloc: Global, code: &[u8]) -> Result<Vec<&[u8]>, AllocError>
     ensures { IfOk result (λ nets. map (λ net. net.now) nets.items ≡ used_by code.now) }
 {
     names_behind(alloc, code, before_nets(code))
 }
 
-/// How many names come before those that are used.
+/// Returns the number of names before those that are used.
 fn before_nets(code: &[u8]) -> usize
     ensures { result ≡ (if is_assignment code.now then 2 else 1) }
 {
     if is_assignment(code) { 2 } else { 1 }
 }
 
-/// The names of a line behind so many.
+/// Returns the names of a line after the first `count`.
 fn names_behind(alloc: Global, code: &[u8], count: usize) -> Result<Vec<&[u8]>, AllocError>
     ensures { IfOk result (λ names. map (λ name. name.now) names.items ≡ drop count (names_in code.now)) }
 {
@@ -46,7 +46,7 @@ fn names_behind(alloc: Global, code: &[u8], count: usize) -> Result<Vec<&[u8]>, 
         .collect(alloc)
 }
 
-/// The name at a place of a line, from 0.
+/// Returns the name at a place of a line, from 0.
 pub(crate) fn nth_name(code: &[u8], place: usize) -> Option<&[u8]>
     ensures { option_map (λ name. name.now) result ≡ nth_name place code.now }
 {
@@ -55,7 +55,7 @@ pub(crate) fn nth_name(code: &[u8], place: usize) -> Option<&[u8]>
         .nth(place)
 }
 
-/// The first net of a line whose name is longer than a name may be.
+/// Returns the first net of a line whose name is too long.
 pub(crate) fn long_net(code: &[u8]) -> Option<&[u8]>
     ensures { option_map (λ net. net.now) result ≡ long_net code.now }
 {
@@ -73,7 +73,7 @@ fn is_long(name: &[u8]) -> bool
     name.len() > LONGEST_NAME
 }
 
-/// The first long one of the names of a line behind so many.
+/// Returns the first name that is too long among those of a line after the first `count`.
 fn long_name_behind(code: &[u8], count: usize) -> Option<&[u8]>
     ensures { option_map (λ name. name.now) result ≡ find is_long (drop count (names_in code.now)) }
 {
@@ -83,7 +83,7 @@ fn long_name_behind(code: &[u8], count: usize) -> Option<&[u8]>
         .find(|name| is_long(name))
 }
 
-/// Whether a byte stands between names.
+/// Returns whether a byte separates names.
 fn is_gap(byte: u8) -> bool
     ensures { result ≡ is_gap byte }
 {

@@ -1,14 +1,14 @@
-//! The line of a text at fault, as it is shown.
+//! The line at fault, as it is shown.
 ghost use Rattle.std.specs.Prelude.{◌≡◌, ◌++◌, OnOk, option_map, slice_get, take};
 ghost use Rattle.explanations.specs.Excerpt.{cut_mark, excerpt, line_at, line_told, shown_byte, shown_line};
 ghost use Rattle.text_lines.specs.Text.{lines_of};
 
 use std::alloc::{AllocError, Global};
 
-/// The most bytes of a line that are shown.
+/// The largest number of bytes of a line that are shown.
 pub(crate) const LONGEST_SHOWN: usize = 100;
 
-/// The line of a text by its number, from 1.
+/// Returns the line of a text by its number, from 1.
 pub(crate) fn line_at(text: &[u8], number: u64) -> Option<&[u8]>
     ensures { option_map (λ line. line.now) result ≡ line_at number text.now }
 {
@@ -19,14 +19,14 @@ pub(crate) fn line_at(text: &[u8], number: u64) -> Option<&[u8]>
     }
 }
 
-/// The line of a text by its place, from 0.
+/// Returns the line of a text by its place, from 0.
 fn nth_line(text: &[u8], place: usize) -> Option<&[u8]>
     ensures { option_map (λ line. line.now) result ≡ slice_get (lines_of text.now) place }
 {
     text.split(|byte| *byte == b'\n').nth(place)
 }
 
-/// Adds `line N is: ` and the line, if there is one, and a line feed.
+/// Adds `line N is: `, the line and a line feed, if there is such a line.
 pub(crate) fn push_excerpt(
     alloc: Global,
     told: &mut Vec<u8>,
@@ -38,7 +38,7 @@ pub(crate) fn push_excerpt(
     push_line(alloc, told, " is: ", number, line)
 }
 
-/// Adds `line N`, what is said of it, and the line, if there is one, and a line feed.
+/// Adds `line N`, the message about it, the line and a line feed, if there is such a line.
 pub(crate) fn push_line(
     alloc: Global,
     told: &mut Vec<u8>,
@@ -59,7 +59,7 @@ pub(crate) fn push_line(
     Ok(())
 }
 
-/// Adds a line: its first bytes where it is long, and `?` for each that isn't printable.
+/// Adds a line: only its first bytes if it is long, and `?` for each byte that isn't printable.
 pub(crate) fn push_shown(told: &mut Vec<u8>, line: &[u8]) -> Result<(), AllocError>
     ensures { OnOk result (told.new.items ≡ told.old.items ++ shown_line line.now) }
 {
@@ -69,14 +69,14 @@ pub(crate) fn push_shown(told: &mut Vec<u8>, line: &[u8]) -> Result<(), AllocErr
     push_cut(told, line.len())
 }
 
-/// The bytes of a line that are shown.
+/// Returns the bytes of a line that are shown.
 fn head_of(line: &[u8]) -> &[u8]
     ensures { result.now ≡ take 100 line.now }
 {
     &line[..LONGEST_SHOWN.min(line.len())]
 }
 
-/// Adds two dots behind a line that is cut off.
+/// Adds two dots after a line that is cut off.
 fn push_cut(told: &mut Vec<u8>, length: usize) -> Result<(), AllocError>
     ensures { OnOk result (told.new.items ≡ told.old.items ++ cut_mark length) }
 {
@@ -87,7 +87,7 @@ fn push_cut(told: &mut Vec<u8>, length: usize) -> Result<(), AllocError>
     }
 }
 
-/// A byte as it is shown: white space as a space, and what isn't printable as `?`.
+/// Returns a byte as it is shown: white space as a space, and a byte that isn't printable as `?`.
 fn shown_byte(byte: u8) -> u8
     ensures { result ≡ shown_byte byte }
 {

@@ -1,5 +1,5 @@
-//! What each fault means, with a text that has it, and the text mended; and what is told of a fault at
-//! hand.
+//! What each fault means, with a text that has it and the corrected text; and the message about a fault
+//! that occurred.
 #![tactic(auto)]
 
 mod above;

@@ -1,4 +1,4 @@
-//! Faults of what the words of a command line ask for.
+//! Faults of what the arguments request.
 use crate::explanation::{Example, Explanation};
 
 /// The circuit's file in all examples is `circuit.bench`.

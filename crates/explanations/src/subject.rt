@@ -1,9 +1,9 @@
-//! What a fault may be of.
+//! The subjects of faults.
 ghost use Rattle.std.specs.Prelude.{◌≡◌};
 ghost use Rattle.explanations.specs.AtHand.{subject_number};
 ghost use Rattle.explanations.specs.Explained.{example_circuit, title_of};
 
-/// What a fault may be of: a text, or what the words of a command line ask for.
+/// What a fault may be about: a text, or what the arguments request.
 #[derive(Clone, Copy, Debug, PartialEq, Eq)]
 pub enum Subject {
     Bench,
@@ -15,18 +15,18 @@ pub enum Subject {
     Settings,
     /// The columns of a timing diagram.
     Columns,
-    /// What is to drive inputs.
+    /// The drives of inputs.
     Drives,
     /// The ticks at which runs are compared.
     Ticks,
-    /// The nets that a command is asked for.
+    /// The nets that the arguments name.
     Names,
     /// Reading, writing and memory.
     Program,
 }
 
 impl Subject {
-    /// Subjects by number.
+    /// Returns the number of the subject.
     pub(crate) fn number(self) -> u64
         ensures { result ≡ subject_number self }
     {
@@ -45,7 +45,7 @@ impl Subject {
         }
     }
 
-    /// What it is called.
+    /// Returns the title of the subject.
     pub fn title(self) -> &'static str
         ensures { result.now ≡ title_of self }
     {
@@ -64,7 +64,7 @@ impl Subject {
         }
     }
 
-    /// The circuit that its examples are for, where they are for one.
+    /// Returns the circuit that its examples are for, if any.
     pub fn circuit(self) -> &'static str
         ensures { result.now ≡ example_circuit self }
     {

@@ -16,7 +16,7 @@ pub struct Table {
     pub explanations: &'static [Explanation],
 }
 
-/// All tables. What stands in them is in no contract, and tested.
+/// Returns all tables. Their content isn't in a contract, but tested.
 pub fn tables() -> [Table; 11] {
     [
         table_of(Subject::Bench, &BENCH),

@@ -1,4 +1,4 @@
-//! What is told of faults, as text.
+//! The explanations of faults, as text.
 ghost use Rattle.std.specs.Prelude.{◌≡◌, ◌++◌, flat_map, string_bytes, IfOk, OnOk};
 ghost use Rattle.std.specs.List.{list_any};
 ghost use Rattle.explanations.specs.Explained.{all_names, both_texts, example_line, example_text, explained, explanation_of, has_called, meaning_line, name_behind, names_line, told_if_called, told_of, wanted_line};
@@ -9,7 +9,7 @@ use crate::table::Table;
 use std::alloc::{AllocError, Global};
 use std::fmt::Write;
 
-/// Whether a table has a fault of a name, without regard to case.
+/// Returns whether a table has a fault with this name, in any case of its letters.
 pub fn is_explained(tables: &[Table], name: &str) -> bool
     ensures { result ≡ list_any (has_called name.now) tables.now }
 {
@@ -25,8 +25,8 @@ fn has_called(table: &Table, name: &str) -> bool
         .any(|one| one.name.eq_ignore_ascii_case(name))
 }
 
-/// What the faults of a name mean, without regard to case: an explanation for each table that has
-/// one of this name, in their order; nothing where none has.
+/// Returns what the faults with this name, in any case of its letters, mean: an explanation for each
+/// table that has one, in the order of the tables. The text is empty if none has.
 pub fn explanation_text(alloc: Global, tables: &[Table], name: &str) -> Result<String, AllocError>
     ensures { IfOk result (λ text. string_bytes text ≡ explained tables.now name.now) }
 {
@@ -37,7 +37,7 @@ pub fn explanation_text(alloc: Global, tables: &[Table], name: &str) -> Result<S
     Ok(text)
 }
 
-/// Adds the explanations of the faults of a name.
+/// Adds the explanations of the faults with a name.
 fn push_called(
     text: &mut String,
     subject: Subject,
@@ -52,7 +52,7 @@ fn push_called(
     Ok(())
 }
 
-/// Adds the explanation of a fault that has this name.
+/// Adds the explanation of a fault, if it has this name.
 fn push_if_called(
     text: &mut String,
     subject: Subject,
@@ -81,7 +81,7 @@ fn push_explanation(
     push_example(text, subject.circuit(), &one.example)
 }
 
-/// Adds the line of what a fault means.
+/// Adds the line that says what a fault means.
 pub(crate) fn push_meaning(
     text: &mut String,
     title: &str,
@@ -93,7 +93,7 @@ pub(crate) fn push_meaning(
     write!(text, "{name} of {title}: {meaning}\n")
 }
 
-/// Adds the line of what is wanted.
+/// Adds the line that says what is needed.
 pub(crate) fn push_wanted(text: &mut String, one: &Explanation) -> Result<(), AllocError>
     ensures { OnOk result (string_bytes text.new ≡ string_bytes text.old ++ wanted_line one.now) }
 {
@@ -128,7 +128,7 @@ fn push_both(text: &mut String, example: &Example) -> Result<(), AllocError>
     write!(text, "{faulty}mended:\n{mended}")
 }
 
-/// The names of all faults: a line for each table, with the subject's title and the names.
+/// Returns the names of all faults: a line for each table, with the subject's title and the names.
 pub fn names_text(alloc: Global, tables: &[Table]) -> Result<String, AllocError>
     ensures { IfOk result (λ text. string_bytes text ≡ all_names tables.now) }
 {

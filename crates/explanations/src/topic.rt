@@ -1,4 +1,4 @@
-//! What a line is of.
+//! The topics of lines.
 ghost use Rattle.std.specs.Prelude.{◌≡◌, ◌==◌, ◌≤◌, length, option_map};
 ghost use Rattle.std.specs.List.{prefix_len};
 ghost use Rattle.explanations.specs.AtFault.{delay_topic, is_same, of_net, pin_of, topic_of, without_zeros, word_at};
@@ -9,8 +9,8 @@ use crate::bench_lines::defined_by;
 use crate::subject::Subject;
 use text_lines::words_of;
 
-/// What a line is of: its net; of a delay text in the second version also its first word, and of wires
-/// the place of the pin, without the zeros that it begins with. Each is empty where it isn't there.
+/// The topic of a line: its net; in a delay text of version 2 also its first word, and for wires the
+/// place of the pin, without leading zeros. An absent part is empty.
 #[derive(Clone, Copy)]
 pub(crate) struct Topic<'a> {
     pub(crate) net: &'a [u8],
@@ -30,7 +30,7 @@ impl<'a> Topic<'a> {
     }
 }
 
-/// What a line without its comment is of.
+/// Returns the topic of a line without its comment.
 pub(crate) fn topic_of(subject: Subject, code: &[u8]) -> Topic<'_>
     ensures { seen_topic result ≡ topic_of subject code.now }
 {
@@ -57,7 +57,7 @@ fn delay_topic(code: &[u8]) -> Topic<'_>
     }
 }
 
-/// The place of a pin, where the form is of wires.
+/// Returns the place of a pin, if the form is that of a wire.
 fn pin_of<'a>(form: &[u8], place: &'a [u8]) -> &'a [u8]
     ensures { result.now ≡ pin_of form.now place.now }
 {
@@ -81,14 +81,14 @@ fn zeros_before(digits: &[u8]) -> usize
     digits.iter().take_while(|digit| **digit == b'0').count()
 }
 
-/// The word at a place of a line, from 0.
+/// Returns the word at a place of a line, from 0.
 pub(crate) fn word_at(code: &[u8], place: usize) -> Option<&[u8]>
     ensures { option_map (λ word. word.now) result ≡ word_at place code.now }
 {
     words_of(code).nth(place)
 }
 
-/// Whether two lines are of the same.
+/// Returns whether two lines have the same topic.
 pub(crate) fn is_same(one: &Topic<'_>, other: &Topic<'_>) -> bool
     ensures { result ≡ is_same (seen_topic one.now) (seen_topic other.now) }
 {

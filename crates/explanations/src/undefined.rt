@@ -6,8 +6,8 @@ use crate::bench_lines::{defined_by, used_by};
 use std::alloc::{AllocError, Global};
 use text_lines::code_lines;
 
-/// The first name that a line without its comment uses and no line of the text defines. Goes through the
-/// text once, whatever the number of names.
+/// Returns the first name that a line without its comment uses and no line of the text defines. Reads the
+/// text once, for any number of names.
 pub(crate) fn undefined_in<'a>(
     alloc: Global,
     code: &'a [u8],
@@ -22,7 +22,7 @@ pub(crate) fn undefined_in<'a>(
     Ok(left.first().copied())
 }
 
-/// Takes a name that is defined out of those that may not be.
+/// Removes a name that is defined from those that may be undefined.
 fn take_out(left: &mut Vec<&[u8]>, defined: Option<&[u8]>)
     ensures { map (λ name. name.now) left.new.items ≡ filter (λ name. not (is_net (option_map (λ net. net.now) defined.entry) name)) (map (λ name. name.now) left.old.items) }
 {

@@ -7,11 +7,11 @@ use Rattle.design.specs.Design.{DesignView, IsDesign}
 use Rattle.design.specs.Equations.{value_of}
 use Rattle.fanin_cone.specs.Cone.{pin_names}
 
--- the net of a name
+-- the net with a name
 abbrev pub net_of : DesignView → List ℕ → Option Net
 net_of design name = find (λ (net : Net). bytes_eq net.name name) design.circuit
 
--- the design has a net of this name
+-- the design has a net with this name
 abbrev pub HasNet : DesignView → List ℕ → Type 0
 HasNet design name = IsSome (net_of design name)
 
@@ -19,7 +19,7 @@ HasNet design name = IsSome (net_of design name)
 abbrev pub stimuli_to : ℕ → List Change → List Change
 stimuli_to horizon stimuli = filter (λ (change : Change). nat_le change.tick horizon) stimuli
 
--- the same delay, for a flip-flop the same clock and initial value, wires of the same delays at the pins in order, and the same
+-- the same delay, for a flip-flop the same clock and initial value, the same wire delays at the pins in order, and the same
 -- stimuli up to the horizon
 pub record HasSameTiming (horizon : ℕ) (x y : Net) : Type 0 where
   pub timing : x.timing ≡ y.timing
@@ -32,7 +32,7 @@ pub record IsSameNet (a b : DesignView) (horizon : ℕ) (x y : Net) : Type 0 whe
   pub pins : pin_names a.netlist x.pins ≡ pin_names b.netlist y.pins
   pub timing : HasSameTiming horizon x y
 
--- the name is a net of both designs, the same but for its number
+-- the name is a net of both designs, the same except for its number
 pub record AgreesAt (a b : DesignView) (horizon : ℕ) (name : List ℕ) : Type 0 where
   pub x : Net
   pub y : Net
@@ -50,7 +50,7 @@ pub record DesignsAgree (a b : DesignView) (K : List ℕ → Type 0) (horizon : 
   pub second : IsDesign b
   pub agree : AgreesOn a b K horizon
 
--- the nets that two designs have of one name show the same, at each tick up to the horizon
+-- the nets with one name in two designs show the same, at each tick up to the horizon
 abbrev pub ShowTheSame : DesignView → DesignView → ℕ → List ℕ → Type 0
 ShowTheSame a b horizon name =
     (m n tick : ℕ) → net_named a.netlist name ≡ Some m → net_named b.netlist name ≡ Some n → tick ≤ horizon →

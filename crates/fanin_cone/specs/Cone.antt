@@ -11,11 +11,11 @@ pin_names netlist pins = map (name_at netlist) pins
 abbrev pub Passes : (List ℕ → Bool) → List ℕ → Type 0
 Passes test name = IsTrue (test name)
 
--- the set holds the pin names of each of its nets, flip-flops too
+-- the set contains the pin names of each of its nets, including flip-flops
 abbrev pub IsClosed : NetlistView → (List ℕ → Type 0) → Type 0
 IsClosed netlist K = All (λ (net : NetView). K net.name → All K (pin_names netlist net.pins)) netlist.nets
 
--- the fan-in cone, which is the least closed set that holds these names: they are in it, and the pin names of each net in it are
+-- the fan-in cone, the least closed set that contains these names: they are in it, and so are the pin names of each net in it
 pub data InCone (netlist : NetlistView) (names : List (List ℕ)) : List ℕ → Type 0 where
   start : (name : List ℕ) → Contains names name → InCone netlist names name
   pin : (net : NetView) (name : List ℕ) → Contains netlist.nets net → InCone netlist names net.name →

@@ -14,26 +14,26 @@ use Rattle.fanin_cone.specs.Agreement.{net_of, HasSameTiming}
 abbrev pub first_unknown : NetlistView → List (List ℕ) → Option ℕ
 first_unknown netlist names = position (λ name. is_none (net_named netlist name)) names
 
--- the nets in the cones of these names, in their old order, with these names as the outputs, each where it stands first
+-- the nets in the cones of these names, in their old order, with these names as the outputs, each at its first place
 pub record IsExtract (netlist : NetlistView) (names : List (List ℕ)) (extract : NetlistView) : Type 0 where
   pub keep : List ℕ
   pub cone : IsConeOf netlist names keep
   pub picked_so : extract ≡ picked netlist keep (distinct (filter_map (net_named netlist) names))
 
--- each net of the extract has the timing that the net of its name has in the whole
+-- each net of the extract has the timing that the net with its name has in the whole
 abbrev pub KeepsTiming : DesignView → DesignView → ℕ → Type 0
 KeepsTiming whole extract horizon =
     (name : List ℕ) (x y : Net) → net_of extract name ≡ Some x → net_of whole name ≡ Some y → HasSameTiming horizon x y
 
--- a design of what is extracted from another one for these names, with the timing that its nets have there
+-- a design of the extract of another one for these names, with the timing that its nets have there
 pub record IsDesignOfExtract (whole extract : DesignView) (names : List (List ℕ)) (horizon : ℕ) : Type 0 where
   pub first : IsDesign whole
   pub second : IsDesign extract
   pub nets : IsExtract whole.netlist names extract.netlist
   pub timing : KeepsTiming whole extract horizon
 
--- the nets in the cones of these nets with all that they have in the whole, in their old order, and these nets as the outputs,
--- in this order
+-- the nets in the cones of these nets, with their timing and stimuli, in their old order, and these nets as the outputs, in this
+-- order
 pub record IsDesignOfCones (whole : DesignView) (nets : List ℕ) (part : DesignView) : Type 0 where
   pub first : IsDesign whole
   pub second : IsDesign part

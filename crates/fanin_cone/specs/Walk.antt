@@ -12,7 +12,7 @@ is_marked marks net = slice_index_or marks net false
 abbrev pub unmarked : List Bool → ℕ
 unmarked marks = count_by not marks
 
--- these nets are marked too, and those that were not before stand behind the list, each once
+-- these nets are marked too, and those that were not before are added at the end of the list, each once
 pub record Marks (nets : List ℕ) (old new : List Bool) (before after : List ℕ) : Type 0 where
   pub size : length new ≡ length old
   pub marks : (net : ℕ) → is_marked new net ≡ (is_marked old net || list_any (λ other. net == other) nets)
@@ -24,7 +24,7 @@ pub record NumbersMarked (marks : List Bool) (numbers : List ℕ) : Type 0 where
   pub rising : Rises numbers
   pub marked : (net : ℕ) → Contains numbers net ↔ IsTrue (is_marked marks net)
 
--- just the nets in the cone of these names are marked
+-- exactly the nets in the cone of these names are marked
 abbrev pub MarksCone : NetlistView → List (List ℕ) → List Bool → Type 0
 MarksCone netlist names marks =
     (net : ℕ) → IsTrue (is_marked marks net) ↔ ((net < length netlist.nets) × InCone netlist names (name_at netlist net))

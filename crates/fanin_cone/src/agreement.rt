@@ -13,16 +13,16 @@ use logic3::Change;
 use std::alloc::{AllocError, Global};
 use timing_text::Horizon;
 
-/// Whether two designs agree, at ticks up to the horizon, on the fan-in cone that the net of this
-/// name has in the first one; None where one of them has no net of this name.
+/// Returns whether two designs agree, at ticks up to the horizon, on the fan-in cone that the net with
+/// this name has in the first one; `None` if one of them has no net with this name.
 ///
-/// They agree where each name of the cone is a net of both, with the same part, the same names at its
-/// pins in order, the same delay, the same period, phase and initial value if it is a flip-flop, wires of
-/// the same delays at its pins in order, and the same stimuli at ticks up to the horizon. The numbers of
-/// nets play no part.
+/// They agree if each name of the cone is a net of both, with the same part, the same names at its pins in
+/// order, the same delay, the same period, phase and initial value if it is a flip-flop, the same wire
+/// delays at its pins in order, and the same stimuli at ticks up to the horizon. The numbers of nets may
+/// differ.
 ///
 /// # Errors
-/// An `AllocError` where a growth was refused.
+/// `AllocError` if an allocation fails.
 pub fn agree(
     alloc: Global,
     first: &Design,
@@ -51,7 +51,8 @@ pub fn agree(
     Ok(Some(true))
 }
 
-/// Whether the second design has a net of this one's name, the same but for its number.
+/// Returns whether the second design has a net with this one's name that is the same except for its
+/// number.
 fn agrees_at(first: &Design, net: u32, second: &Design, horizon: Horizon) -> bool
     requires first { IsDesign first.now }
     requires second { IsDesign second.now }
@@ -64,7 +65,7 @@ fn agrees_at(first: &Design, net: u32, second: &Design, horizon: Horizon) -> boo
     }
 }
 
-/// Whether two nets are the same, but for their numbers.
+/// Returns whether two nets are the same, except for their numbers.
 fn is_same_net(first: &Design, net: u32, second: &Design, other: u32, horizon: Horizon) -> bool
     requires first { IsDesign first.now }
     requires second { IsDesign second.now }
@@ -82,7 +83,7 @@ fn is_same_net(first: &Design, net: u32, second: &Design, other: u32, horizon: H
         && same_stimuli
 }
 
-/// Whether the pins of two nets have the same names, in order.
+/// Returns whether the pins of two nets have the same names, in order.
 fn has_same_names(first: &Design, pins: &[u32], second: &Design, others: &[u32]) -> bool
     requires first { IsDesign first.now }
     requires second { IsDesign second.now }
@@ -101,7 +102,7 @@ fn has_same_names(first: &Design, pins: &[u32], second: &Design, others: &[u32])
     true
 }
 
-/// Whether the stimuli of two nets are the same at ticks up to the horizon.
+/// Returns whether the stimuli of two nets are the same at ticks up to the horizon.
 fn has_same_stimuli(stimuli: &[Change], others: &[Change], horizon: Horizon) -> bool
     requires stimuli { TicksRise stimuli.now }
     requires others { TicksRise others.now }
@@ -110,7 +111,7 @@ fn has_same_stimuli(stimuli: &[Change], others: &[Change], horizon: Horizon) -> 
     up_to(stimuli, horizon) == up_to(others, horizon)
 }
 
-/// The stimuli at ticks up to the horizon.
+/// Returns the stimuli at ticks up to the horizon.
 fn up_to(stimuli: &[Change], horizon: Horizon) -> &[Change]
     requires { TicksRise stimuli.now }
     ensures { result.now ≡ stimuli_to horizon stimuli.now }

@@ -9,16 +9,17 @@ use crate::cones::{marked_cone, marked_nets};
 use design::Design;
 use std::alloc::{AllocError, Global};
 
-/// The nets in the fan-in cones of these nets as a design of their own, in their old order and with
-/// the timing, the wires and the stimuli that they have. Its outputs are these nets, in this order.
-/// None where all nets are in the cones, so that there is nothing to leave out.
+/// Returns the nets in the fan-in cones of these nets as a design of their own, in their old order and
+/// with their timing, wire delays and stimuli. Its outputs are these nets, in this order. Returns
+/// `None` if all nets are in the cones, so that none can be left out.
 ///
-/// At least one net is asked for, and none twice.
+/// There is at least one of these nets, and none is listed twice.
 ///
-/// Takes time and memory in proportion to the nets and pins, and for what is kept also to the stimuli.
+/// Takes time and memory in proportion to the nets and pins, and to the stimuli of the nets that are
+/// kept.
 ///
 /// # Errors
-/// An `AllocError` where a growth was refused.
+/// `AllocError` if an allocation fails.
 pub fn cones_alone(
     alloc: Global,
     design: &Design,
@@ -42,7 +43,7 @@ pub fn cones_alone(
     Ok(Some(part))
 }
 
-/// Whether all nets are marked.
+/// Returns whether all nets are marked.
 fn are_all(marks: &[bool]) -> bool
     ensures { result ≡ list_all (λ mark. mark) marks.now }
 {

@@ -8,13 +8,13 @@ use design::Design;
 use netlist::Netlist;
 use std::alloc::{AllocError, Global};
 
-/// The numbers of the nets in a net's fan-in cone, rising.
+/// Returns the numbers of the nets in a net's fan-in cone, rising.
 ///
-/// The cone is the least set of nets that holds the net and, with each of its nets, the nets at that
-/// one's pins, those of flip-flops too.
+/// The cone is the least set of nets that contains the net and, with each of its nets, the nets at
+/// that net's pins, including those of flip-flops.
 ///
 /// # Errors
-/// An `AllocError` where a growth was refused.
+/// `AllocError` if an allocation fails.
 pub fn cone(alloc: Global, design: &Design, net: u32) -> Result<Vec<u32>, AllocError>
     requires { net < length design.now.circuit }
     ensures { IfOk result
@@ -24,7 +24,7 @@ pub fn cone(alloc: Global, design: &Design, net: u32) -> Result<Vec<u32>, AllocE
     cone_of(alloc, design.netlist(), &[net])
 }
 
-/// The numbers of the nets in the cone of these nets, rising.
+/// Returns the numbers of the nets in the cone of these nets, rising.
 pub(crate) fn cone_of(
     alloc: Global,
     netlist: &Netlist,
@@ -38,12 +38,13 @@ pub(crate) fn cone_of(
     marked_nets(alloc, marks.as_slice())
 }
 
-/// The numbers of the nets outside the cone of these nets, rising: none of these hangs on them.
+/// Returns the numbers of the nets outside the cone of these nets, rising: none of these depends on
+/// them.
 ///
 /// Takes time and memory in proportion to the nets and pins.
 ///
 /// # Errors
-/// An `AllocError` where a growth was refused.
+/// `AllocError` if an allocation fails.
 pub fn outside(alloc: Global, netlist: &Netlist, starts: &[u32]) -> Result<Vec<u32>, AllocError>
     requires { All (λ start. start < length netlist.now.nets) starts.now }
     ensures { IfOk result
@@ -54,7 +55,7 @@ pub fn outside(alloc: Global, netlist: &Netlist, starts: &[u32]) -> Result<Vec<u
     marked_nets(alloc, marks.as_slice())
 }
 
-/// Marks what isn't marked, and nothing else.
+/// Inverts all marks.
 fn flip(marks: &mut [bool])
     ensures { marks.new ≡ map not marks.old }
 {
@@ -63,7 +64,7 @@ fn flip(marks: &mut [bool])
     }
 }
 
-/// Which nets are in the cone of these nets.
+/// Returns which nets are in the cone of these nets.
 pub(crate) fn marked_cone(
     alloc: Global,
     netlist: &Netlist,
@@ -84,7 +85,7 @@ pub(crate) fn marked_cone(
     Ok(marks)
 }
 
-/// Marks these nets, and puts those that were not marked yet behind the list, each once.
+/// Marks these nets, and adds those that were not marked yet at the end of the list, each once.
 pub(crate) fn mark(nets: &[u32], marks: &mut [bool], list: &mut Vec<u32>) -> Result<(), AllocError>
     requires { All (λ net. net < length marks.old) nets.now }
     ensures { OnOk result (Marks nets.now marks.old marks.new list.old.items list.new.items) }
@@ -98,7 +99,7 @@ pub(crate) fn mark(nets: &[u32], marks: &mut [bool], list: &mut Vec<u32>) -> Res
     Ok(())
 }
 
-/// The numbers of the marked nets, rising.
+/// Returns the numbers of the marked nets, rising.
 pub(crate) fn marked_nets(alloc: Global, marks: &[bool]) -> Result<Vec<u32>, AllocError>
     requires { length marks.now ≤ 2 ^ 32 }
     ensures { IfOk result (λ nets. NumbersMarked marks.now nets.items) }

@@ -9,14 +9,15 @@ use crate::fault::ConeFault;
 use netlist::{Netlist, without_repeats};
 use std::alloc::Global;
 
-/// The nets in the fan-in cones of the nets of these names, in their old order, as a netlist of
-/// their own, whose outputs are the nets of these names, each where its name stands first.
+/// Returns the nets in the fan-in cones of the nets with these names, in their old order, as a
+/// netlist of their own. Its outputs are the nets with these names, in the order of their first
+/// places.
 ///
-/// At least one name is asked for.
+/// There is at least one name.
 ///
 /// # Errors
-/// [`ConeFault::UnknownNet`] at the first name that no net has, or [`ConeFault::Memory`] where a
-/// growth was refused.
+/// [`ConeFault::UnknownNet`] with the place of the first name that no net has, or
+/// [`ConeFault::Memory`] if an allocation fails.
 pub fn extract(alloc: Global, netlist: &Netlist, names: &[&[u8]]) -> Result<Netlist, ConeFault>
     requires { 0 < length names.now }
     ensures unknown { result ≢ Err ConeFault.Memory → (at : ℕ) →
@@ -30,7 +31,7 @@ pub fn extract(alloc: Global, netlist: &Netlist, names: &[&[u8]]) -> Result<Netl
     Ok(extract)
 }
 
-/// The numbers of the nets of these names, in their order and with repeats.
+/// Returns the numbers of the nets with these names, in their order and with repeats.
 ///
 /// # Errors
 /// As [`extract`].

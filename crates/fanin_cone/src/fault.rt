@@ -7,10 +7,10 @@ use thiserror::Error;
 /// Why no netlist was extracted.
 #[derive(Clone, Copy, Debug, PartialEq, Eq, Error)]
 pub enum ConeFault {
-    /// No net has the name at this place, counted from 0; each name before it is a net's.
+    /// No net has the name at this place, counted from 0. Each name before it is that of a net.
     #[error("UnknownNet")]
     UnknownNet { at: u64 },
-    /// A growth was refused.
+    /// An allocation failed.
     #[error("Memory")]
     Memory,
 }

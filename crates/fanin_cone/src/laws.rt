@@ -1,4 +1,4 @@
-//! Facts about cones and agreement alone. A set of names is a test here.
+//! Facts about cones and agreement alone. A set of names is given by a test here.
 ghost use Rattle.std.specs.Prelude.{◌≡◌, ℕ, ◌<◌, ◌↔◌, ◌∷◌, [], Bool, List, length, map, All, Contains};
 ghost use Rattle.netlist.specs.Netlist.{NetlistView, name_at};
 ghost use Rattle.design.specs.Design.{DesignView};
@@ -7,8 +7,8 @@ ghost use Rattle.fanin_cone.specs.Cone.{Passes, IsClosed, InCone};
 ghost use Rattle.fanin_cone.specs.Agreement.{HasNet, AgreesOn, DesignsAgree, ShowTheSame};
 ghost use Rattle.fanin_cone.specs.Extract.{IsDesignOfCones, IsDesignOfExtract};
 
-/// The cone of some names is the least closed set that holds them, and it is the cones of each of
-/// them, together.
+/// The cone of some names is the least closed set that contains them, and the union of the cones of
+/// each of them.
 pub fn least_closed()
     ensures closed { (netlist : NetlistView) (names : List (List ℕ)) → IsClosed netlist (InCone netlist names) }
     ensures holds { (netlist : NetlistView) (names : List (List ℕ)) → All (InCone netlist names) names }
@@ -19,8 +19,8 @@ pub fn least_closed()
         InCone netlist names name ↔ ((start : List ℕ) × Contains names start × InCone netlist (start ∷ []) name) }
 {}
 
-/// Where two designs agree, up to a tick, on a closed set of names of the first one, the nets of
-/// such a name show the same in both, at every tick up to that one. So it is with a cone.
+/// If two designs agree, up to a tick, on a closed set of names of the first one, such as a cone, the
+/// nets with such a name show the same in both, at every tick up to that one.
 pub fn agreeing_designs_show_the_same()
     ensures closed { (a b : DesignView) (K : List ℕ → Bool) (horizon : ℕ) →
         IsClosed a.netlist (Passes K) → DesignsAgree a b (Passes K) horizon →
@@ -30,17 +30,17 @@ pub fn agreeing_designs_show_the_same()
         (name : List ℕ) → InCone a.netlist names name → ShowTheSame a b horizon name }
 {}
 
-/// Where two designs agree, up to some tick, on the cone that some names have in the first one, they
-/// have the same cone in the second.
+/// If two designs agree, up to some tick, on the cone that some names have in the first one, these
+/// names have the same cone in the second.
 pub fn agreeing_designs_have_the_same_cone()
     ensures { (a b : DesignView) (names : List (List ℕ)) (horizon : ℕ) →
         DesignsAgree a b (InCone a.netlist names) horizon →
         (name : List ℕ) → InCone a.netlist names name ↔ InCone b.netlist names name }
 {}
 
-/// Where the nets of an extracted netlist have, up to a tick, the timing and stimuli that they have
-/// in the whole, the two designs agree on them, and they show the same in both, at every tick up to
-/// that one.
+/// If the nets of an extracted netlist have, up to a tick, the timing and stimuli that they have in
+/// the whole, the two designs agree on them, and they show the same in both, at every tick up to that
+/// one.
 pub fn extracted_nets_show_the_same()
     ensures agree { (whole extract : DesignView) (names : List (List ℕ)) (horizon : ℕ) →
         IsDesignOfExtract whole extract names horizon → AgreesOn extract whole (HasNet extract) horizon }
@@ -48,9 +48,9 @@ pub fn extracted_nets_show_the_same()
         IsDesignOfExtract whole extract names horizon → (name : List ℕ) → ShowTheSame extract whole horizon name }
 {}
 
-/// Where the nets in the cones of some nets stand alone, they are an extract with the timing and the
-/// stimuli of the whole. The outputs there are these nets, in order: they have their names, and show
-/// at every tick what these show in the whole.
+/// The nets in the cones of some nets, as a design of their own, are an extract with the timing and
+/// the stimuli of the whole. Its outputs are these nets, in order: they keep their names, and show at
+/// every tick what they show in the whole.
 pub fn cones_alone_show_the_same()
     ensures extract { (whole part : DesignView) (nets : List ℕ) (horizon : ℕ) →
         All (λ net. net < length whole.netlist.nets) nets → IsDesignOfCones whole nets part →

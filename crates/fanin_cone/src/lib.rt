@@ -1,4 +1,4 @@
-//! Fan-in cones: the nets that a net's value can come from, whether two designs agree on them, and
+//! Fan-in cones: the nets that a net's value can depend on, whether two designs agree on them, and
 //! a netlist and a design of them alone.
 #![tactic(auto)]
 

@@ -1,4 +1,4 @@
--- What is known of a net, and what messages tell of it.
+-- What is known of a net, and the messages that report it.
 use Rattle.std.specs.Prelude.{◌≡◌, ◌==◌, if◌then◌else◌, ℕ, ◌+◌, ◌-◌, ◌<◌, ◌≤◌, min, List, [], ◌∷◌, ◌++◌, map, All, Option, None, Some}
 use Rattle.logic3.specs.declared.value.Value.{Value}
 use Rattle.logic3.specs.declared.value.Value.TheVariants.{Unknown}
@@ -13,25 +13,25 @@ pub record Knowledge : Type 0 where
   pub wave : Wave
   pub frontier : ℕ
 
--- what is known is a waveform, and tells nothing of the ticks from the frontier on
+-- what is known is a waveform, and says nothing of the ticks from the frontier on
 pub record IsKnowledge (known : Knowledge) : Type 0 where
   pub wave : IsWave known.wave
   pub past : All (λ (change : Change). change.tick < known.frontier) known.wave.changes
 
--- what a pin was told of its source, up to the last tick that a horizon may name
+-- what a pin has received from its source, up to the last tick that a horizon may have
 pub record IsReceived (received : Knowledge) : Type 0 where
   pub known : IsKnowledge received
   pub within : received.frontier ≤ most_ticks + 1
 
--- changes, so many ticks later
+-- changes, later by this number of ticks
 abbrev pub delayed_changes : ℕ → List Change → List Change
 delayed_changes ticks changes = map (λ (change : Change). record { tick = change.tick + ticks; value = change.value }) changes
 
--- a waveform, so many ticks later
+-- a waveform, later by this number of ticks
 abbrev pub delayed : ℕ → Wave → Wave
 delayed ticks wave = record { before = wave.before; changes = delayed_changes ticks wave.changes }
 
--- what is known of a pin, as its net sees it: what it was told of its source, later by the delay of its wire
+-- what is known of a pin, as its net sees it: what it has received, later by the delay of its wire
 abbrev pub seen : ℕ → Knowledge → Knowledge
 seen wire known = record { wave = delayed wire known.wave; frontier = known.frontier + wire }
 
@@ -40,7 +40,7 @@ abbrev pub seen_pins : List ℕ → List Knowledge → List Knowledge
 seen_pins (wire ∷ wires) (known ∷ received) = seen wire known ∷ seen_pins wires received
 seen_pins _ _ = []
 
--- what is known up to a tick shows X from there on; what is known to the end shows no more
+-- what is known up to a tick changes to X there; what is known to the end doesn't
 abbrev pub unknown_from : Option ℕ → List Change
 unknown_from None = []
 unknown_from (Some frontier) = record { tick = frontier; value = Unknown } ∷ []
@@ -49,11 +49,11 @@ unknown_from (Some frontier) = record { tick = frontier; value = Unknown } ∷ [
 abbrev pub as_known : Knowledge → Wave
 as_known known = record { before = known.wave.before; changes = known.wave.changes ++ unknown_from (Some known.frontier) }
 
--- what is known before anything was told
+-- what is known before anything is received
 abbrev pub nothing_known : Knowledge
 nothing_known = record { wave = record { before = Unknown; changes = [] }; frontier = 0 }
 
--- knowing a signal at the ticks from one up to but not including another
+-- the knowledge of a signal at the ticks from one up to but not including another
 abbrev pub knowledge_of : (ℕ → Value) → ℕ → ℕ → Knowledge
 knowledge_of signal from to = record { wave = wave_of signal from to; frontier = to }
 
@@ -68,25 +68,25 @@ abbrev pub told_all : Knowledge → List Message → Knowledge
 told_all known [] = known
 told_all known (message ∷ messages) = told_all (told known message) messages
 
--- of the ticks known so far those are kept that begin here: from the oldest that is asked for on, but always the last one
+-- the first of the known ticks that is kept: the oldest that is asked for, or the last one known if that is earlier
 abbrev pub kept_since : ℕ → ℕ → ℕ
 kept_since oldest frontier = min oldest (frontier - 1)
 
--- the same at the ticks from there on
+-- what is known, at the ticks from one on
 abbrev pub forgetting : ℕ → Knowledge → Knowledge
 forgetting tick known = knowledge_of (value_at known.wave) tick known.frontier
 
--- the same at the ticks that are kept
+-- what is known, at the ticks that are kept
 abbrev pub keeping : ℕ → Knowledge → Knowledge
 keeping oldest known = forgetting (kept_since oldest known.frontier) known
 
--- the messages that tell of these changes and of a frontier
+-- the messages that report these changes and a frontier
 abbrev pub news_of : List Change → ℕ → List Message
 news_of [] to = Null to ∷ []
 news_of (change ∷ []) to = Changes change ∷ (if change.tick + 1 == to then [] else Null to ∷ [])
 news_of (change ∷ changes) to = Changes change ∷ news_of changes to
 
--- these messages tell of a signal, from a tick known so far up to another, each one raising what is known
+-- these messages report a signal, from a tick known so far up to another, and each raises what is known
 abbrev pub Tells : (ℕ → Value) → ℕ → ℕ → List Message → Type 0
 Tells signal from to [] = from ≡ to
 Tells signal from to (Changes change ∷ messages) =

@@ -1,11 +1,11 @@
--- The changes that a walk has before it.
+-- The changes that a walk hasn't passed yet.
 use Rattle.std.specs.Prelude.{List}
 use Rattle.logic3.specs.declared.change.Change.{Change}
 use Rattle.gate_process.specs.declared.later.Source.{Source}
 use Rattle.gate_process.specs.declared.later.Source.TheVariants.{Stimuli, Pin}
 use Rattle.gate_process.specs.Knowledge.{delayed_changes}
 
--- at the ticks at which they are seen
+-- the changes of a source, at the ticks at which they are seen
 abbrev pub changes_of : Source → List Change
 changes_of (Stimuli changes) = changes.now
 changes_of (Pin changes wire) = delayed_changes wire changes.now

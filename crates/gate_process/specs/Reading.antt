@@ -1,4 +1,4 @@
--- What a net reads, and what it shows of that.
+-- What a net reads, and what it shows over that.
 use Rattle.std.specs.Prelude.{ℕ, List, [], ◌∷◌, length, map, Option, Some}
 use Rattle.std.specs.Option.{option_map_or}
 use Rattle.logic3.specs.declared.value.Value.{Value}
@@ -22,7 +22,7 @@ read_by_part Flop net received = map as_known received
 abbrev pub read_by : Net → List Knowledge → List Wave
 read_by net received = read_by_part net.part net received
 
--- how many waveforms that are
+-- how many waveforms it reads
 abbrev pub reads_of_part : Part → Net → ℕ
 reads_of_part Input net = 1
 reads_of_part (Gate kind) net = length net.pins
@@ -31,7 +31,7 @@ reads_of_part Flop net = length net.pins
 abbrev pub reads : Net → ℕ
 reads net = reads_of_part net.part net
 
--- how far it can be reckoned at most: a gate to the end, the others as far as all their pins are known
+-- how far it can be computed at most: a gate to the end, the others as far as all their pins are known
 abbrev pub most_of_part : Part → ℕ → ℕ → ℕ
 most_of_part (Gate kind) end sure = end
 most_of_part Input end sure = sure
@@ -43,7 +43,7 @@ read_tick Input timing tick = Some tick
 read_tick (Gate kind) timing tick = asked_of_part (Gate kind) timing tick
 read_tick Flop timing tick = asked_of_part Flop timing tick
 
--- what it makes of the values there
+-- its value over the values there
 abbrev pub made_of : Part → List Value → Value
 made_of Input values = only_pin values
 made_of (Gate kind) values = value_of_gate kind values
@@ -54,7 +54,7 @@ abbrev pub unread : Part → Timing → Value
 unread Flop timing = timing.initial
 unread _ timing = Unknown
 
--- what it shows where it reads these waveforms
+-- what it shows if it reads these waveforms
 abbrev pub shown : Net → List Wave → ℕ → Value
 shown net read tick =
     option_map_or (λ at. made_of net.part (values_at at (map value_at read))) (read_tick net.part net.timing tick) (unread net.part net.timing)

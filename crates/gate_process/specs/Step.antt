@@ -20,12 +20,12 @@ abbrev pub least : ℕ → List ℕ → ℕ
 least bound [] = bound
 least bound (x ∷ xs) = least (min bound x) xs
 
--- the least of some numbers, and of none what stands for it
+-- the least of some numbers, or a default if there are none
 abbrev pub least_or : ℕ → List ℕ → ℕ
 least_or none [] = none
 least_or none (x ∷ xs) = least x xs
 
--- the state of a net's process: what it is, how far it reckons, what it knows of itself and of its pins
+-- the state of a net's process: its net, how far it computes, and what it knows of its net and of its pins
 pub record ProcessState : Type 0 where
   pub net : Net
   pub end : ℕ
@@ -33,12 +33,12 @@ pub record ProcessState : Type 0 where
   pub known : Knowledge
   pub received : List Knowledge
 
--- what a process is seen as: its state, unless want of memory broke an advance off
+-- the view of a process: its state, and whether an advance ran out of memory
 pub record ProcessView : Type 0 where
   pub failed : Bool
   pub state : ProcessState
 
--- a process that memory sufficed for
+-- a process that hasn't failed
 abbrev pub running : ProcessState → ProcessView
 running state = record { failed = false; state = state }
 
@@ -56,7 +56,7 @@ started_process end net = record {
 abbrev pub pin_frontier : ProcessState → ℕ → Option ℕ
 pin_frontier process place = option_map (λ (known : Knowledge). known.frontier) (slice_get process.received place)
 
--- the value of the last change that it was told
+-- the value of the last change that it has received
 abbrev pub pin_last : ProcessState → ℕ → Option Value
 pin_last process place = option_map (λ (known : Knowledge). last_value known.wave) (slice_get process.received place)
 
@@ -64,21 +64,21 @@ pin_last process place = option_map (λ (known : Knowledge). last_value known.wa
 abbrev pub seen_by : ProcessState → List Knowledge
 seen_by process = seen_pins process.net.wires process.received
 
--- up to here all pins are known, as the net sees them
+-- the tick up to which all pins are known, as the net sees them
 abbrev pub safe_of : ProcessState → ℕ
 safe_of process = least_or process.end (map (λ (known : Knowledge). known.frontier) (seen_by process))
 
--- how far a net can be reckoned where all its pins are known so far: to the first tick that asks for more, but not past the end
+-- how far a net can be computed if all its pins are known up to a tick: to the first tick that asks for more, but not past the end
 abbrev pub frontier_of : Net → ℕ → ℕ → ℕ
 frontier_of net end safe = option_map_or (min end) (first_asker net safe) end
 
--- the first tick, of so many from one on, at which a signal is X; where there is none, the tick behind them
+-- the first of this number of ticks, from one on, at which a signal is X, or the tick after them if none
 abbrev pub first_unknown : (ℕ → Value) → ℕ → ℕ → ℕ
 first_unknown signal from zero = from
 first_unknown signal from (suc ticks) = if is_same (signal from) Unknown then from else first_unknown signal (from + 1) ticks
 
--- a gate is reckoned on where what is known of its pins settles its value: from its frontier on, and from where some pin isn't
--- known, to the first tick at which it doesn't
+-- a gate advances further while what is known of its pins settles its value: from its frontier, and from where some pin
+-- isn't known, to the first tick at which it doesn't
 abbrev pub reach_of_part : Part → (ℕ → Value) → ℕ → ℕ → ℕ → ℕ
 reach_of_part (Gate kind) signal end frontier sure = min end (first_unknown signal (max frontier sure) (end - max frontier sure))
 reach_of_part Input signal end frontier sure = sure
@@ -105,7 +105,7 @@ all_kept process place (received ∷ others) = kept process place received ∷ a
 abbrev pub signals_of : List Knowledge → List (ℕ → Value)
 signals_of received = map (λ (known : Knowledge). value_at (as_known known)) received
 
--- how far a net is reckoned from a frontier on, where its pins show these signals and all of them are known so far
+-- how far a net is computed from a frontier on, if its pins show these signals and all of them are known up to a tick
 abbrev pub reach : Net → ℕ → ℕ → ℕ → List (ℕ → Value) → ℕ
 reach net end frontier safe signals = reach_of_part net.part (equation net signals) end frontier (frontier_of net end safe)
 
@@ -117,11 +117,11 @@ next_frontier process =
 abbrev pub continued : Wave → ℕ → (ℕ → Value) → ℕ → Value
 continued wave from signal tick = if nat_lt tick from then value_at wave tick else signal tick
 
--- the net's signal as the process reckons it: what it knew, and from its frontier on its equation over what its pins show
+-- the net's signal as the process computes it: what it knew, and from its frontier on its equation over what its pins show
 abbrev pub reckoned : ProcessState → ℕ → Value
 reckoned process = continued process.known.wave process.known.frontier (equation process.net (signals_of (seen_by process)))
 
--- the process when it has reckoned its net as far as it can
+-- the process after it has computed its net as far as it can
 abbrev pub extended : ProcessState → ProcessState
 extended process = record process { known = knowledge_of (reckoned process) process.floor (next_frontier process) }
 
@@ -129,20 +129,21 @@ extended process = record process { known = knowledge_of (reckoned process) proc
 abbrev pub advanced : ProcessState → ProcessState
 advanced process = record (extended process) { received = all_kept (extended process) 0 process.received }
 
--- what it tells then
+-- the messages that it then sends
 abbrev pub news : ProcessState → List Message
 news process =
     if next_frontier process == process.known.frontier then [] else
     news_of (changes_between (reckoned process) process.known.frontier (next_frontier process)) (next_frontier process)
 
--- the process after a message came at a place
+-- the process after it receives a message at a place
 abbrev pub heard : ℕ → Message → ProcessState → ProcessState
 heard place message process =
     record process {
       received = update (λ (known : Knowledge). kept process place (told known message)) place process.received;
     }
 
--- the process after its changes before a tick were taken out: it is known from there on, unless it was already from a later tick on alone
+-- the process after its changes before a tick were taken out: its waveform is kept from there on, or from its old floor
+-- if that is later
 abbrev pub drained : ℕ → ProcessState → ProcessState
 drained bound process =
     let floor = max process.floor bound in record process { floor = floor; known = forgetting floor process.known }
@@ -151,7 +152,7 @@ drained bound process =
 abbrev pub drained_changes : ℕ → ProcessState → List Change
 drained_changes bound process = changes_between (value_at process.known.wave) process.floor bound
 
--- the delay of a gate or flip-flop; an input waits for nothing, which a bound stands for
+-- the delay of a gate or flip-flop, or a bound for an input, which waits for nothing
 abbrev pub own_delay : Part → ℕ → ℕ → ℕ
 own_delay Input bound delay = bound
 own_delay (Gate kind) bound delay = delay

@@ -1,4 +1,4 @@
--- What is true of a process, and of one whose channels tell the truth.
+-- What is true of a process, and of one that receives true messages.
 use Rattle.std.specs.Prelude.{◌≡◌, ◌≢◌, ℕ, ◌+◌, ◌<◌, ◌≤◌, true, List, length, slice_get, Some}
 use Rattle.logic3.specs.declared.value.Value.{Value}
 use Rattle.logic3.specs.declared.change.Change.{Change}
@@ -37,7 +37,7 @@ pub record IsTruthful (signals : ℕ → ℕ → Value) (number : ℕ) (process 
   pub meets : Meets signals number process.net
   pub knows : KnowsTruth signals number process
 
--- messages come to a truthful process at a place: they tell of the source of its pin, from what was received so far up to a tick
+-- messages come to a truthful process at a place: they report the source of its pin, from what was received so far up to a tick
 pub record HearsTruth (signals : ℕ → ℕ → Value) (number : ℕ) (process : ProcessState) (place to : ℕ) (messages : List Message) : Type 0 where
   pub truthful : IsTruthful signals number process
   pub source : ℕ
@@ -51,7 +51,7 @@ pub record IsNet (net : Net) : Type 0 where
   pub timed : IsTimed net
   pub arity : takes_pins net.part (length net.pins) ≡ true
 
--- a process whose messages raise frontiers, whatever they tell: it never falls back, and keeps no more than it must
+-- a process whose messages raise frontiers, whatever they report: it never falls back, and keeps no more than it must
 pub record IsProcess (process : ProcessState) : Type 0 where
   pub timed : IsTimed process.net
   pub arity : takes_pins process.net.part (length process.net.pins) ≡ true
@@ -66,13 +66,13 @@ pub record IsProcess (process : ProcessState) : Type 0 where
   pub heard : (place : ℕ) (received : Knowledge) → slice_get process.received place ≡ Some received →
       received ≡ kept process place received
 
--- the process can be told this message at a place: it raises what the pin knows, goes on with its waveform, and isn't past the end
+-- the process can receive this message at a place: it raises what the pin knows, continues its waveform, and isn't past the end
 abbrev pub CanHear : ProcessState → ℕ → Message → Type 0
 CanHear process place message =
     (known : Knowledge) → slice_get process.received place ≡ Some known →
     (known.frontier < (told known message).frontier) × ((told known message).frontier ≤ process.end) × IsWave (told known message).wave
 
--- a change that goes on with what the pin at a place was told so far: later than all that is known, up to the end, and to another value
+-- a change that continues what the pin at a place has received: later than all that is known, up to the end, and to another value
 pub record GoesOn (process : ProcessState) (place frontier : ℕ) (last : Value) (change : Change) : Type 0 where
   pub frontier_is : pin_frontier process place ≡ Some frontier
   pub last_is : pin_last process place ≡ Some last

@@ -18,8 +18,8 @@ use cmb_channels::Message;
 use logic3::{Change, Value, Waveform};
 use std::alloc::AllocError;
 
-/// The ticks at which a net is reckoned: those from its frontier on; up to where all its pins are known,
-/// and, if it is a gate, on from there, but never past the end.
+/// The ticks at which a net is computed: those from its frontier up to `sure`, where all its pins are known,
+/// and for a gate also those after that, but none past the end.
 #[derive(Clone, Copy, Debug)]
 pub struct Span {
     pub from: u64,
@@ -27,11 +27,11 @@ pub struct Span {
     pub end: u64,
 }
 
-/// Carries a net's waveform on by its equation, and puts the messages that tell of it into the list.
-/// Answers how far that is: as far as what is known of its pins leads.
+/// Extends a net's waveform by its equation as far as its pins allow, adds the messages to the list, and
+/// returns the new frontier.
 ///
-/// It looks at a tick only where a pin's change or a stimulus may show, so ticks between cost nothing.
-/// Where it stays it takes no memory.
+/// It evaluates the net only at ticks at which a change of a pin or a stimulus may show, so the ticks between
+/// cost nothing. If the frontier stays, it takes no memory.
 pub fn extend(
     net: &OwnNet<'_>,
     received: &[Received],
@@ -64,7 +64,7 @@ pub fn extend(
     reckon(net, received, span, most, wave, messages)
 }
 
-/// Whether [`extend`] would carry a net on. Takes no memory.
+/// Returns whether [`extend`] would raise the net's frontier. Takes no memory.
 pub fn goes_on(net: &OwnNet<'_>, received: &[Received], span: Span) -> bool
     requires pins { length received.now ≡ length net.now.pins }
     requires sure { span.sure ≤ span.end }
@@ -78,8 +78,8 @@ pub fn goes_on(net: &OwnNet<'_>, received: &[Received], span: Span) -> bool
     !stays(net, received, span, most)
 }
 
-/// Carries a net's waveform on by its equation, and puts the messages that tell of it into the list.
-/// Answers how far that is: to the first tick of X, where not all pins are known.
+/// Extends a net's waveform by its equation, adds the messages to the list, and returns the new frontier: the
+/// first tick at which not all pins are known and the net would show X, or `most`.
 fn reckon(
     net: &OwnNet<'_>,
     received: &[Received],
@@ -103,7 +103,7 @@ fn reckon(
         (continued wave.old span.from (equation net.now (signals_of (seen_pins net.now.wires received.now)))) span.from to) to)) }
 {
     let wires = net.wires();
-    // Most gates have one pin or two, and these want no list of cursors. An input alone has none.
+    // Most gates have one or two pins, which need no list of cursors. Only an input has none.
     match received {
         [] => walk(net, &mut [net.stimuli()], span, most, wave, messages),
         [pin] => walk(net, &mut [pin.cursor(wires[0])], span, most, wave, messages),
@@ -118,7 +118,7 @@ fn reckon(
     }
 }
 
-/// Whether a net can't be reckoned past its frontier.
+/// Returns whether a net can't be computed past its frontier.
 fn stays(net: &OwnNet<'_>, received: &[Received], span: Span, most: u64) -> bool
     requires pins { length received.now ≡ length net.now.pins }
     requires inputs { net.now.part ≡ Input → most ≤ span.sure }
@@ -133,8 +133,9 @@ fn stays(net: &OwnNet<'_>, received: &[Received], span: Span, most: u64) -> bool
     span.sure <= span.from && net.shows(received, span.from) == Value::Unknown
 }
 
-/// Carries a net's waveform on by what the net shows of what it reads, and puts the messages that tell
-/// of it into the list. Answers how far that is: to the first tick of X, where not all pins are known.
+/// Extends a net's waveform by what the net shows over what it reads, adds the messages to the list, and
+/// returns the new frontier: the first tick at which not all pins are known and the net would show X, or
+/// `most`.
 fn walk(
     net: &OwnNet<'_>,
     read: &mut [Cursor<'_>],
@@ -157,7 +158,7 @@ fn walk(
     ensures news { IfOk result (λ to. messages.new.items ≡ (if to == span.from then [] else
         news_of (changes_between (continued wave.old span.from (shown net.now read.old)) span.from to) to)) }
 {
-    // The messages so far tell of the net up to here.
+    // The messages so far report the net up to here.
     let mut told = span.from;
     let mut tick = span.from;
     while tick < most {
@@ -179,8 +180,8 @@ fn walk(
     tell_up_to(tick, told, messages)
 }
 
-/// Up to where a net is looked at from a tick on: to where not all of its pins are known, and then as far
-/// as it can be reckoned at most.
+/// Returns the tick up to which a net is evaluated from a tick on: first to where not all of its pins are
+/// known, and then to `most`.
 fn limit_at(tick: u64, sure: u64, most: u64) -> u64
     requires before { tick < most }
     requires sure { sure ≤ most }
@@ -191,8 +192,8 @@ fn limit_at(tick: u64, sure: u64, most: u64) -> u64
     if tick < sure { sure } else { most }
 }
 
-/// Whether a net waits at a tick at which it would show this value: not all of its pins are known, and
-/// those that are don't settle what it shows.
+/// Returns whether a net waits at a tick at which it would show this value: not all of its pins are known,
+/// and those that are don't settle what it shows.
 fn waits(sure: u64, tick: u64, value: Value) -> bool
     ensures yes { result ≡ true → (sure ≤ tick) × (value ≡ Unknown) }
     ensures no { result ≡ false → (tick < sure) ⊎ (value ≢ Unknown) }
@@ -200,7 +201,8 @@ fn waits(sure: u64, tick: u64, value: Value) -> bool
     sure <= tick && value == Value::Unknown
 }
 
-/// Tells that the net is known up to a tick, where what was told so far doesn't say so, and answers it.
+/// Adds a null message that the net is known up to a tick, unless the messages so far say so, and returns the
+/// tick.
 fn tell_up_to(tick: u64, told: u64, messages: &mut Vec<Message>) -> Result<u64, AllocError>
     ensures to { IfOk result (λ to. to ≡ tick) }
     ensures messages { OnOk result (messages.new.items ≡
@@ -212,7 +214,7 @@ fn tell_up_to(tick: u64, told: u64, messages: &mut Vec<Message>) -> Result<u64, 
     Ok(tick)
 }
 
-/// Forgets at each pin what is before the oldest tick of its source that the net asks for from a frontier
+/// Forgets at each pin the ticks before the oldest tick of its source that the net asks for from a frontier
 /// on, but never the last one known.
 pub fn keep_all(net: &OwnNet<'_>, received: &mut [Received], frontier: u64)
     requires pins { length received.old ≡ length net.now.pins }

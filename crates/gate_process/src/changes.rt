@@ -6,7 +6,7 @@ ghost use Rattle.logic3.specs.Wave.{value_in_the_end};
 
 use logic3::{Change, Value};
 
-/// Whether the tick from which on nothing is known, if any, is not after this tick.
+/// Returns whether the tick from which on nothing is known, if any, is not after this tick.
 pub fn is_unknown_at(unknown: Option<u64>, tick: u64) -> bool
     ensures { result ≡ option_map_or (λ from. nat_le from tick) unknown false }
 {
@@ -16,14 +16,14 @@ pub fn is_unknown_at(unknown: Option<u64>, tick: u64) -> bool
     }
 }
 
-/// The value of the last of the changes, else the value before them.
+/// Returns the value of the last change, or the value before them if there is none.
 pub fn last_value(before: Value, changes: &[Change]) -> Value
     ensures { result ≡ value_in_the_end before changes.now }
 {
     changes.last().map_or(before, |change| change.value)
 }
 
-/// How many changes come first that aren't after a tick. Takes a step for each of them.
+/// Returns the number of leading changes that aren't after a tick, in as many steps.
 pub fn due_changes(changes: &[Change], tick: u64) -> usize
     ensures count { result ≡ prefix_len (λ (change : Change). nat_le change.tick tick) changes.now }
     ensures within { result ≤ length changes.now }

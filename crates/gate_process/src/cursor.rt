@@ -15,13 +15,13 @@ use crate::later::Later;
 use logic3::{Change, Summary, Value};
 use std::marker::Model;
 
-/// Of so many pins, the most that gates have as a rule, what is read is kept without a list in memory.
+/// The number of pins, enough for most gates, up to which what is read is kept without a list in memory.
 pub const FEW: usize = 4;
 
-/// Where a walk over the ticks has come in some changes: it is seen as the waveform that is left, at the
-/// ticks at which its changes are seen.
+/// The position of a walk over the ticks in some changes. Its view is the waveform that is left, at the ticks
+/// at which its changes are seen.
 ///
-/// A whole walk costs as much as it passes changes.
+/// A whole walk takes a step for each change that it passes.
 #[derive(Debug, Drop)]
 pub struct Cursor<'c> {
     // What is shown before the changes that are left.
@@ -57,7 +57,7 @@ impl<'c> Default for Cursor<'c> {
 }
 
 impl<'c> Cursor<'c> {
-    /// Before all stimuli of an input.
+    /// Returns a cursor before all stimuli of an input.
     pub fn stimuli(changes: &'c [Change]) -> Cursor<'c>
         requires { TicksRise changes.now }
         ensures { result ≡ record { before = Unknown; changes = changes.now } }
@@ -69,8 +69,8 @@ impl<'c> Cursor<'c> {
         }
     }
 
-    /// Before all changes that a pin keeps, which are seen later by the delay of the wire, and before the
-    /// tick from which on nothing is known.
+    /// Returns a cursor before all changes that a pin keeps, which are seen later by the delay of the wire,
+    /// and before the tick from which on nothing is known.
     pub fn received(
         before: Value,
         changes: &'c [KeptChange],
@@ -88,7 +88,7 @@ impl<'c> Cursor<'c> {
         }
     }
 
-    /// Passes the changes up to and at a tick, and answers the value at it.
+    /// Passes the changes up to and including a tick, and returns the value at that tick.
     pub fn go_to(&mut self, tick: u64) -> Value
         ensures value { result ≡ value_at self.old tick }
         ensures left { (t : ℕ) → tick ≤ t → value_at self.new t ≡ value_at self.old t }
@@ -103,7 +103,7 @@ impl<'c> Cursor<'c> {
         self.value
     }
 
-    /// The tick of the first change that is left, at most the limit: up to there the value stays.
+    /// Returns the tick of the first change that is left, at most the limit. The value stays until then.
     pub fn next_change(&self, limit: u64) -> u64
         ensures later { (tick : ℕ) → tick < limit → All (λ (change : Change). tick < change.tick) self.now.changes →
             tick < result }
@@ -135,8 +135,8 @@ pub struct Reading {
     pub next: u64,
 }
 
-/// Moves the cursors to a tick, and answers what they show there and the tick of the first change after
-/// it, at most the limit.
+/// Moves the cursors to a tick, and returns what they show there and the tick of the first change after it,
+/// at most the limit.
 pub fn read_at(cursors: &mut [Cursor<'_>], tick: u64, limit: u64) -> Reading
     requires { tick < limit }
     ensures pins { result.pins ≡ summary_of (values_at tick (map value_at cursors.old)) }

@@ -9,10 +9,10 @@ use logic3::{Change, Value};
 use std::alloc::{AllocError, Global};
 use std::marker::Model;
 
-/// So many changes may have room where none is kept.
+/// The number of changes for which memory is kept even if the list is empty.
 const FEW: usize = 16;
 
-/// A change in eight bytes, since four hold the tick of every run, and pins keep many changes.
+/// A change in eight bytes: four hold the tick of any run, and pins keep many changes.
 #[derive(Debug, Drop)]
 pub struct KeptChange {
     tick: u32,
@@ -28,21 +28,21 @@ impl Model for KeptChange {
 }
 
 impl KeptChange {
-    /// The tick at which it is seen, later by the delay of a wire.
+    /// Returns the tick at which the change is seen, later by the delay of a wire.
     pub fn seen_tick(&self, wire: u32) -> u64
         ensures { result ≡ self.now.tick + wire }
     {
         u64::from(self.tick) + u64::from(wire)
     }
 
-    /// The value from its tick on.
+    /// Returns the value from the change's tick on.
     pub fn value(&self) -> Value
         ensures { result ≡ self.now.value }
     {
         self.value
     }
 
-    /// Whether it is before a tick.
+    /// Returns whether the change is before a tick.
     fn is_before(&self, tick: u64) -> bool
         ensures { result ≡ nat_lt self.now.tick tick }
     {
@@ -52,7 +52,7 @@ impl KeptChange {
 
 /// The changes that a pin keeps: added at the end, and dropped from the front.
 ///
-/// Each takes constant time, on the whole, and the memory follows what is kept.
+/// Both take constant time on average, and the memory in use follows the number of changes kept.
 #[derive(Debug, Drop)]
 pub struct KeptChanges {
     changes: Vec<KeptChange>,
@@ -72,7 +72,7 @@ impl Model for KeptChanges {
 }
 
 impl KeptChanges {
-    /// No changes.
+    /// Returns an empty list.
     pub fn new(alloc: Global) -> KeptChanges
         ensures { result ≡ [] }
     {
@@ -82,7 +82,7 @@ impl KeptChanges {
         }
     }
 
-    /// The changes, in order.
+    /// Returns the changes, in order.
     pub fn as_slice(&self) -> &[KeptChange]
         ensures { result.now ≡ self.now }
     {
@@ -102,7 +102,7 @@ impl KeptChanges {
         Ok(())
     }
 
-    /// Drops the first changes, so many. Where few of many are left, it gives memory back.
+    /// Drops this number of changes from the front. If few of many are left, it frees memory.
     pub fn drop_front(&mut self, count: usize)
         requires { count ≤ length self.old }
         ensures { self.new ≡ drop count self.old }
@@ -120,7 +120,7 @@ impl KeptChanges {
         }
     }
 
-    /// Gives memory back where it is for more than a few changes and less than a quarter is used.
+    /// Frees memory if there is room for more than a few changes and less than a quarter is used.
     fn give_back(&mut self)
         ensures { self.new ≡ self.old }
     {
@@ -131,7 +131,7 @@ impl KeptChanges {
     }
 }
 
-/// The value of the last of the changes, else the value before them.
+/// Returns the value of the last change, or the value before them if there is none.
 pub fn last_kept(before: Value, changes: &[KeptChange]) -> Value
     ensures { result ≡ value_in_the_end before changes.now }
 {
@@ -141,7 +141,7 @@ pub fn last_kept(before: Value, changes: &[KeptChange]) -> Value
     }
 }
 
-/// How many changes come first that are before a tick. Takes a step for each of them.
+/// Returns the number of leading changes before a tick, in as many steps.
 pub fn kept_below(changes: &[KeptChange], tick: u64) -> usize
     ensures count { result ≡ prefix_len (λ (change : Change). nat_lt change.tick tick) changes.now }
     ensures within { result ≤ length changes.now }
@@ -152,7 +152,7 @@ pub fn kept_below(changes: &[KeptChange], tick: u64) -> usize
         .count()
 }
 
-/// How many changes come first that aren't seen after a tick. Takes a step for each of them.
+/// Returns the number of leading changes that aren't seen after a tick, in as many steps.
 pub fn kept_due(changes: &[KeptChange], wire: u32, tick: u64) -> usize
     ensures count { result ≡ prefix_len (λ (change : Change). nat_le (change.tick + wire) tick) changes.now }
     ensures within { result ≤ length changes.now }

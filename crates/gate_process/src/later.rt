@@ -1,4 +1,4 @@
-//! The changes that a walk has before it.
+//! The changes that a walk hasn't passed yet.
 ghost use Rattle.std.specs.Prelude.{◌≡◌, take, drop, nat_le, option_map, slice_get};
 ghost use Rattle.std.specs.List.{prefix_len};
 ghost use Rattle.logic3.specs.declared.change.Change.{Change};
@@ -36,7 +36,7 @@ impl<'c> Model for Later<'c> {
 }
 
 impl<'c> Later<'c> {
-    /// The stimuli of an input.
+    /// Returns the stimuli of an input.
     pub fn stimuli(changes: &'c [Change]) -> Later<'c>
         ensures { result ≡ changes.now }
     {
@@ -45,7 +45,7 @@ impl<'c> Later<'c> {
         }
     }
 
-    /// What a pin received, seen later by the delay of its wire.
+    /// Returns what a pin received, seen later by the delay of its wire.
     pub fn received(changes: &'c [KeptChange], wire: u32) -> Later<'c>
         ensures { result ≡ delayed_changes wire changes.now }
     {
@@ -54,7 +54,7 @@ impl<'c> Later<'c> {
         }
     }
 
-    /// The tick of the first change.
+    /// Returns the tick of the first change.
     pub fn first_tick(&self) -> Option<u64>
         ensures { result ≡ option_map (λ (change : Change). change.tick) (slice_get self.now 0) }
     {
@@ -64,8 +64,8 @@ impl<'c> Later<'c> {
         }
     }
 
-    /// Passes the changes up to and at a tick, and returns the value of the last of them, else the value
-    /// before.
+    /// Passes the changes up to and including a tick, and returns the value of the last of them, or the value
+    /// before them if there is none.
     pub fn pass(&mut self, before: Value, tick: u64) -> Value
         ensures value { result ≡ value_in_the_end before
             (take (prefix_len (λ (change : Change). nat_le change.tick tick) self.old) self.old) }

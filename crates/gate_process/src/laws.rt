@@ -12,9 +12,9 @@ ghost use Rattle.gate_process.specs.Knowledge.{Tells, knowledge_of, told_all};
 ghost use Rattle.gate_process.specs.Step.{ProcessState, pin_frontier, seen_by, safe_of, signals_of, frontier_of, next_frontier, advanced, news, heard};
 ghost use Rattle.gate_process.specs.Truth.{KnowsTruth, IsTruthful, HearsTruth, IsProcess, CanHear, GoesOn};
 
-/// A process that knows the truth, and whose net's equation the signals meet, goes on to know it: when
-/// it advances, and when it hears the first of some messages that tell the truth of a pin's source.
-/// What it tells itself is true too.
+/// What a process knows stays true if the signals meet its net's equation: after it advances, and after it
+/// receives the first of some messages that are true of a pin's source. The messages that it sends are true,
+/// too.
 pub fn truth_stays()
     ensures advanced { (signals : ℕ → ℕ → Value) (number : ℕ) (process : ProcessState) →
         IsTruthful signals number process → KnowsTruth signals number (advanced process) }
@@ -27,10 +27,10 @@ pub fn truth_stays()
         Tells (signals number) process.known.frontier (next_frontier process) (news process) }
 {}
 
-/// How far an advance brings a process: never back, never past the end, and never less far than all of
-/// its pins are known, which is just how far it brings an input and a flip-flop. From there, and from its
-/// frontier, a gate looks ahead: it passes the ticks at which what is known of its pins settles its value,
-/// the rest read as X, and stops at the first at which it doesn't.
+/// How far a process advances: never back, never past the end, and at least as far as its net can be computed
+/// from ticks at which all pins are known. An input and a flip-flop advance exactly that far. From there, and
+/// from its frontier, a gate looks ahead: it passes the ticks at which what is known of its pins settles its
+/// value, with the rest read as X, and stops at the first tick at which it doesn't.
 pub fn lookahead()
     ensures never_back { (process : ProcessState) → IsProcess process → process.known.frontier ≤ next_frontier process }
     ensures within { (process : ProcessState) → next_frontier process ≤ process.end }
@@ -46,14 +46,15 @@ pub fn lookahead()
         equation process.net (signals_of (seen_by process)) (next_frontier process) ≡ Unknown }
 {}
 
-/// Who knows a signal up to a tick, and is told of it from there up to another, knows it up to there.
+/// A pin that knows a signal up to one tick, and receives messages that report it from there up to another,
+/// knows it up to the second tick.
 pub fn messages_suffice()
     ensures { (signal : ℕ → Value) (from known to : ℕ) (messages : List Message) → from ≤ known →
         Tells signal known to messages →
         told_all (knowledge_of signal from known) messages ≡ knowledge_of signal from to }
 {}
 
-/// What a process can be told at a pin, by what `received` and `last` answer of it: a later change to
+/// What a process can receive at a pin, by what `received` and `last` return for it: a later change to
 /// another value, or a null message that raises the frontier, both up to the end.
 pub fn can_hear()
     ensures change { (process : ProcessState) (place frontier : ℕ) (last : Value) (change : Change) →

@@ -1,15 +1,16 @@
-//! The logical process of a net: it reckons what the net shows from what its pins were told.
+//! The logical process of a net: it computes what the net shows from what its pins have received.
 //!
-//! Times are in ticks, from tick 0 on. A frontier is how many ticks are known: of a net by its own process,
-//! of the source of a pin by the process that has the pin. A process hears what comes at its pins
-//! ([`Process::receive`]), and advances ([`Process::advance`]): it reckons its net as far as all that it
-//! heard leads, and says by messages what is new. To move messages from process to process is no part of
-//! this crate: `cmb_channels` has the channels, `cmb_kernel` the events. [`Processes`] holds one process for
-//! each net of a design, and [`laws`] says why what processes tell each other is true.
+//! Times are in ticks, from tick 0 on. A frontier is the number of known ticks: of a net in its own process,
+//! of the source of a pin in the process that has the pin. A process receives messages at its pins
+//! ([`Process::receive`]), and advances ([`Process::advance`]): it computes its net as far as all that it has
+//! received allows, and returns messages with what is new. Moving messages from process to process is not
+//! part of this crate: `cmb_channels` has the channels, `cmb_kernel` the events. [`Processes`] holds one
+//! process for each net of a design, and [`laws`] states why the messages between processes are true.
 //!
-//! That a process is never ahead of what it was told, so that nothing is ever taken back, makes the method
-//! conservative; how far it may go past that is its lookahead, here the delay of its net and more where
-//! known pins settle its value (J. Misra, "Distributed discrete-event simulation", 1986).
+//! The method is conservative: a process computes only what the messages that it has received settle, so
+//! nothing is ever taken back. How far it advances past what its pins know is its lookahead, here the delay
+//! of its net, and more if known pins settle its value (J. Misra, "Distributed discrete-event simulation",
+//! 1986).
 #![tactic(auto)]
 
 mod advance;

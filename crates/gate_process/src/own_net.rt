@@ -20,7 +20,7 @@ use netlist::Part;
 use std::marker::Model;
 use timing_text::Timing;
 
-/// What a net shows at a tick, and the tick up to which it stays.
+/// What a net shows at a tick, and the tick up to which that value stays.
 #[derive(Clone, Copy, Debug)]
 pub struct Look {
     pub value: Value,
@@ -64,12 +64,12 @@ impl<'d> Model for OwnNet<'d> {
 }
 
 impl<'d> OwnNet<'d> {
-    /// A net of the design.
+    /// Returns a net of the design.
     pub fn of(design: &'d Design, net: u32) -> OwnNet<'d>
         requires { net < length design.now.circuit }
         ensures { slice_get design.now.circuit net ≡ Some result }
     {
-        // Asked for what it ensures: that the design is well formed.
+        // Called for its contract: the design is well formed.
         let nets = design.nets();
         prove!(net < nets);
         OwnNet {
@@ -82,7 +82,7 @@ impl<'d> OwnNet<'d> {
         }
     }
 
-    /// How many pins the net has.
+    /// Returns the number of pins of the net.
     pub fn pins(&self) -> usize
         ensures count { result ≡ length self.now.pins }
         ensures well_formed { IsNet self.now }
@@ -90,7 +90,7 @@ impl<'d> OwnNet<'d> {
         self.pins.len()
     }
 
-    /// How many ticks the wire to each pin takes, in order.
+    /// Returns the delay of the wire to each pin, in ticks, in order.
     pub fn wires(&self) -> &[u32]
         ensures wires { result.now ≡ self.now.wires }
         ensures well_formed { IsNet self.now }
@@ -98,8 +98,8 @@ impl<'d> OwnNet<'d> {
         self.wires
     }
 
-    /// From this frontier of the net on no tick before this one is asked for of the source of the pin at
-    /// this place.
+    /// Returns a tick such that the net, from this frontier on, asks for no earlier tick of the source of the
+    /// pin at this place.
     pub fn oldest_asked(&self, place: usize, frontier: u64) -> u64
         requires { place < length self.now.pins }
         ensures { result ≡ oldest_asked self.now place frontier }
@@ -109,7 +109,7 @@ impl<'d> OwnNet<'d> {
             .saturating_sub(u64::from(self.wires[place]))
     }
 
-    /// How far the net can be reckoned where all its pins are known so far, as it sees them.
+    /// Returns how far the net can be computed if all its pins, as it sees them, are known up to `safe`.
     pub fn sure_frontier(&self, end: u64, safe: u64) -> u64
         requires end { end ≤ most_ticks + 1 }
         requires safe { safe ≤ most_ticks + 1 + most_delay }
@@ -121,7 +121,7 @@ impl<'d> OwnNet<'d> {
         }
     }
 
-    /// How far it can be reckoned at most, where it is known how far all its pins lead.
+    /// Returns how far the net can be computed at most, if its known pins suffice up to `sure`.
     pub fn most(&self, end: u64, sure: u64) -> u64
         ensures { result ≡ most_of_part self.now.part end sure }
     {
@@ -131,16 +131,17 @@ impl<'d> OwnNet<'d> {
         }
     }
 
-    /// What an input shows, before any tick.
+    /// Returns a cursor before all stimuli of an input.
     pub fn stimuli(&self) -> Cursor<'_>
         ensures { result ≡ record { before = Unknown; changes = self.now.stimuli } }
     {
         Cursor::stimuli(self.stimuli)
     }
 
-    /// What the net shows at a tick of what it reads, and up to where it stays, at most up to the limit.
+    /// Returns what the net shows at a tick over what it reads, and the tick up to which that value stays, at
+    /// most the limit.
     ///
-    /// The cursors move to the tick that decides it, and serve ticks from this one on.
+    /// The cursors move to the tick that decides the value, and can be used for ticks from this one on.
     pub fn look(&self, read: &mut [Cursor<'_>], tick: u64, limit: u64) -> Look
         requires read { length read.old ≡ reads self.now }
         requires before { tick < limit }
@@ -154,7 +155,7 @@ impl<'d> OwnNet<'d> {
         ensures length { length read.new ≡ length read.old }
     {
         let Some(at) = self.read_tick(tick) else {
-            // Until it reads anything, it waits for tick 0.
+            // Before it reads anything, it waits for tick 0.
             return Look {
                 value: self.timing.initial,
                 until: self.until(0, limit),
@@ -167,7 +168,8 @@ impl<'d> OwnNet<'d> {
         }
     }
 
-    /// What a net that is no input shows at a tick of what was received at its pins. Takes no memory.
+    /// Returns what a net that isn't an input shows at a tick over what its pins have received. Takes no
+    /// memory.
     pub fn shows(&self, received: &[Received], tick: u64) -> Value
         requires pins { length received.now ≡ length self.now.pins }
         requires not_input { self.now.part ≢ Input }
@@ -179,7 +181,7 @@ impl<'d> OwnNet<'d> {
         }
     }
 
-    /// The tick of what it reads that decides what it shows at a tick.
+    /// Returns the tick of what the net reads that decides what it shows at a tick.
     fn read_tick(&self, tick: u64) -> Option<u64>
         ensures tick { result ≡ read_tick self.now.part self.now.timing tick }
         ensures well_formed { IsNet self.now }
@@ -190,7 +192,7 @@ impl<'d> OwnNet<'d> {
         }
     }
 
-    /// What the net makes of the values that it reads.
+    /// Returns the net's value over the values that it reads.
     fn made_of(&self, pins: &Summary) -> Value
         ensures { (values : List Value) → pins.now ≡ summary_of values → length values ≡ reads self.now →
             result ≡ made_of self.now.part values }
@@ -201,7 +203,8 @@ impl<'d> OwnNet<'d> {
         }
     }
 
-    /// Up to where the net stays where what it reads changes at a tick, at most up to the limit.
+    /// Returns the tick up to which the net's value stays if what it reads changes at a tick, at most the
+    /// limit.
     fn until(&self, change: u64, limit: u64) -> u64
         requires within { change ≤ limit }
         requires end { limit ≤ most_ticks + 1 }

@@ -17,12 +17,12 @@ use timing_text::Horizon;
 
 /// The logical process of a net.
 ///
-/// It shares nothing with other processes: messages tell it what the sources of its pins show, and by
-/// messages it tells what its net shows. A frontier is how many ticks of a net are known, from tick 0 on.
-/// What it hears of a source it keeps at the source's ticks; its net sees it later, by the delay of the
-/// wire to the pin.
+/// It shares nothing with other processes: it receives messages with what the sources of its pins show, and
+/// sends messages with what its net shows. A frontier is the number of known ticks of a net, from tick 0 on.
+/// What a pin receives is kept at the source's ticks; the net sees it later, by the delay of the wire to the
+/// pin.
 ///
-/// After [`advance`](Self::advance) ran out of memory it has failed, and only
+/// If [`advance`](Self::advance) runs out of memory, the process has failed, and only
 /// [`is_failed`](Self::is_failed) may be called.
 #[derive(Debug, Drop)]
 pub struct Process<'d> {
@@ -33,7 +33,7 @@ pub struct Process<'d> {
     floor: u64,
     wave: Waveform,
     frontier: u64,
-    // What each pin was told of its source, in order.
+    // What each pin has received from its source, in order.
     received: Vec<Received>,
     failed: bool,
 }
@@ -66,9 +66,10 @@ impl<'d> Model for Process<'d> {
 }
 
 impl<'d> Process<'d> {
-    /// The process of a net, which knows nothing yet: all frontiers are 0. It reckons up to the horizon.
+    /// Returns the process of a net, which knows nothing yet: all frontiers are 0. It computes the net up to
+    /// the horizon.
     ///
-    /// An `AllocError` leaves nothing behind.
+    /// On an `AllocError` nothing stays allocated.
     pub fn new(
         alloc: Global,
         design: &'d Design,
@@ -92,12 +93,12 @@ impl<'d> Process<'d> {
         })
     }
 
-    /// Hears a message at the pin at this place among the pins of the net, from 0 on. The net isn't reckoned
-    /// by that: its frontier and its waveform stay until it advances.
+    /// Receives a message at the pin at this place among the pins of the net, from 0 on. This doesn't compute
+    /// the net: its frontier and its waveform stay until the process advances.
     ///
-    /// The message tells of the pin's source, at the source's ticks. It raises what is known of it, but
-    /// not past the horizon, and a change goes on with the waveform that the pin was told. A null message
-    /// takes no memory. An `AllocError` leaves the process as it was.
+    /// The message is about the pin's source, at the source's ticks. It must raise what is known of the
+    /// source, but not past the horizon, and a change must continue the waveform that the pin has received. A
+    /// null message takes no memory. On an `AllocError` the process is unchanged.
     pub fn receive(&mut self, place: u32, message: Message) -> Result<(), AllocError>
         requires running { self.old.failed ≡ false }
         requires place { place < length self.old.state.received }
@@ -112,15 +113,15 @@ impl<'d> Process<'d> {
         Ok(())
     }
 
-    /// Reckons the net as far as what is known of its pins leads, and returns the messages that tell of it:
-    /// each change, in order, and at the end a null message where no change comes at the last tick. Each
-    /// raises what is known of the net, so there is none where the frontier stays.
+    /// Computes the net as far as its pins allow, and returns the messages: each change, in order, and at the
+    /// end a null message unless there is a change at the last known tick. Each message raises what is known
+    /// of the net, so there is none if the frontier stays.
     ///
-    /// A gate doesn't wait for all of its pins: where those that are known settle its value, as a 0 does at
-    /// an AND, it looks ahead to the first tick at which they don't.
+    /// A gate doesn't wait for all of its pins: if the known ones settle its value, as a 0 does for an AND,
+    /// it looks ahead to the first tick at which they don't.
     ///
-    /// The cost grows with the changes and the pins, not with the ticks. Where the frontier stays, it
-    /// takes no memory. After an `AllocError` the process has failed.
+    /// The cost grows with the changes and the pins, not with the ticks. If the frontier stays, it takes no
+    /// memory. After an `AllocError` the process has failed.
     pub fn advance(&mut self) -> Result<Vec<Message>, AllocError>
         requires running { self.old.failed ≡ false }
         ensures news { IfOk result (λ messages. messages.items ≡ news self.old.state) }
@@ -134,15 +135,15 @@ impl<'d> Process<'d> {
         Ok(messages)
     }
 
-    /// Advances as [`advance`](Self::advance) does, and puts the messages in the place of what a list held.
-    /// So a list serves many advances.
+    /// Advances as [`advance`](Self::advance) does, and replaces what a list held with the messages. So one
+    /// list serves many advances.
     pub fn advance_into(&mut self, messages: &mut Vec<Message>) -> Result<(), AllocError>
         requires running { self.old.failed ≡ false }
         ensures news { OnOk result (messages.new.items ≡ news self.old.state) }
         ensures state { OnOk result (self.new ≡ running (advanced self.old.state)) }
         ensures err { OnErr result (self.new.failed ≡ true) }
         ensures memory { OnErr result (self.old.state.known.frontier < next_frontier self.old.state) }
-        // Until it hears a message, to advance again would change nothing.
+        // Until it receives a message, another advance would change nothing.
         ensures quiet { OnOk result (IsQuiet self.new.state) }
     {
         messages.clear();
@@ -167,8 +168,8 @@ impl<'d> Process<'d> {
         Ok(())
     }
 
-    /// Whether [`advance`](Self::advance) would reckon the net farther, and so tell something. It looks at
-    /// each pin once, and takes no memory.
+    /// Returns whether [`advance`](Self::advance) would raise the net's frontier, and so return messages. It
+    /// looks at each pin once, and takes no memory.
     pub fn can_advance(&self) -> bool
         requires running { self.now.failed ≡ false }
         ensures { result ≡ nat_lt self.now.state.known.frontier (next_frontier self.now.state) }
@@ -183,7 +184,7 @@ impl<'d> Process<'d> {
     /// Takes out the net's changes before a tick up to which it is known, returns them in order, and forgets
     /// what the net showed before that tick.
     ///
-    /// An `AllocError` leaves the process as it was.
+    /// On an `AllocError` the process is unchanged.
     pub fn drain_below(&mut self, bound: u64) -> Result<Vec<Change>, AllocError>
         requires running { self.old.failed ≡ false }
         requires known { bound ≤ self.old.state.known.frontier }
@@ -200,7 +201,7 @@ impl<'d> Process<'d> {
 
     /// Drains as [`drain_below`](Self::drain_below) does, and adds the changes in order to the end of a list.
     ///
-    /// An `AllocError` leaves the process and the list as they were.
+    /// On an `AllocError` the process and the list are unchanged.
     pub fn drain_below_into(
         &mut self,
         bound: u64,
@@ -220,9 +221,9 @@ impl<'d> Process<'d> {
         Ok(())
     }
 
-    /// How many ticks are known of all pins, as the net sees them: the least of their frontiers, each
-    /// later than its source's by the delay of the wire, and for an input all ticks up to the horizon.
-    /// It may be past the horizon by a wire.
+    /// Returns the number of ticks known at all pins, as the net sees them: the least of their frontiers,
+    /// each later than its source's by the delay of the wire, and for an input all ticks up to the horizon.
+    /// It may be past the horizon by the delay of a wire.
     pub fn safe(&self) -> u64
         requires running { self.now.failed ≡ false }
         ensures { result ≡ safe_of self.now.state }
@@ -230,8 +231,8 @@ impl<'d> Process<'d> {
         least_frontier(self.end, self.received.as_slice(), self.net.wires())
     }
 
-    /// The tick from which on the net's waveform is kept: the latest before which changes were taken out, 0
-    /// until then.
+    /// Returns the tick from which on the net's waveform is kept: the latest tick before which changes were
+    /// taken out, or 0 if none were.
     pub fn floor(&self) -> u64
         requires running { self.now.failed ≡ false }
         ensures { result ≡ self.now.state.floor }
@@ -239,7 +240,7 @@ impl<'d> Process<'d> {
         self.floor
     }
 
-    /// How many ticks of the net are known, from tick 0 on: at most the horizon and one more.
+    /// Returns the number of known ticks of the net, from tick 0 on: at most the horizon and one more.
     pub fn frontier(&self) -> u64
         requires running { self.now.failed ≡ false }
         ensures { result ≡ self.now.state.known.frontier }
@@ -247,7 +248,7 @@ impl<'d> Process<'d> {
         self.frontier
     }
 
-    /// The first tick past the horizon, where each frontier ends: at most 10,000,001.
+    /// Returns the first tick past the horizon, at which each frontier ends: at most 10,000,001.
     pub fn end(&self) -> u64
         requires running { self.now.failed ≡ false }
         ensures end { result ≡ self.now.state.end }
@@ -256,7 +257,7 @@ impl<'d> Process<'d> {
         self.end
     }
 
-    /// How many pins the net has, which are numbered by their places from 0: at most 1,024.
+    /// Returns the number of pins of the net, at most 1,024. They are numbered by their places, from 0.
     pub fn pins(&self) -> u32
         requires running { self.now.failed ≡ false }
         ensures count { result ≡ length self.now.state.received }
@@ -265,8 +266,8 @@ impl<'d> Process<'d> {
         self.received.len() as u32
     }
 
-    /// How many ticks are known of the source of the pin at this place among the pins of the net: the
-    /// source's own ticks, whatever the delay of the wire.
+    /// Returns the number of known ticks of the source of the pin at this place among the pins of the net:
+    /// the source's own ticks, whatever the delay of the wire.
     pub fn received(&self, place: u32) -> u64
         requires running { self.now.failed ≡ false }
         requires place { place < length self.now.state.received }
@@ -275,8 +276,7 @@ impl<'d> Process<'d> {
         self.received[place as usize].frontier()
     }
 
-    /// The value of the last change that the pin at this place was told of its source, X where there was
-    /// none.
+    /// Returns the value of the last change that the pin at this place has received, or X if none.
     pub fn last(&self, place: u32) -> Value
         requires running { self.now.failed ≡ false }
         requires place { place < length self.now.state.received }
@@ -285,7 +285,7 @@ impl<'d> Process<'d> {
         self.received[place as usize].last()
     }
 
-    /// What the net shows at the ticks that are known, from its [`floor`](Self::floor) on.
+    /// Returns what the net shows at the known ticks, from its [`floor`](Self::floor) on.
     pub fn waveform(&self) -> &Waveform
         requires running { self.now.failed ≡ false }
         ensures { result.now ≡ self.now.state.known.wave }
@@ -293,7 +293,7 @@ impl<'d> Process<'d> {
         &self.wave
     }
 
-    /// Whether an advance ran out of memory. Then what the process knows is of no use any more.
+    /// Returns whether an advance ran out of memory. What the process knows can't be used then.
     pub fn is_failed(&self) -> bool
         ensures failed { result ≡ self.now.failed }
         ensures well_formed { self.now.failed ≡ false → IsProcess self.now.state }

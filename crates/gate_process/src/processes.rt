@@ -16,12 +16,12 @@ use timing_text::Horizon;
 
 /// A process for each net of a design.
 ///
-/// It knows which processes are quiet: they heard nothing since they last advanced, so they would find
-/// nothing new. Such a process is passed over where it is to advance, and not even fetched from memory.
+/// It knows which processes are quiet: they have received nothing since they last advanced, so an advance
+/// would change nothing. A quiet process that is to advance is skipped, and not even fetched from memory.
 #[derive(Debug, Drop)]
 pub struct Processes<'d> {
     processes: Vec<Process<'d>>,
-    // Whether the process of the same place is quiet. It takes much less memory than a process.
+    // Whether the process at the same place is quiet. A flag takes much less memory than a process.
     quiet: Vec<bool>,
 }
 
@@ -38,8 +38,8 @@ impl<'d> Model for Processes<'d> {
 }
 
 impl<'d> Processes<'d> {
-    /// A process for each net of a design, in order, which knows nothing yet. An `AllocError` leaves
-    /// nothing behind.
+    /// Returns a process for each net of a design, in order, each of which knows nothing yet. On an
+    /// `AllocError` nothing stays allocated.
     pub fn new(
         alloc: Global,
         design: &'d Design,
@@ -54,14 +54,14 @@ impl<'d> Processes<'d> {
         Ok(Processes { processes, quiet })
     }
 
-    /// How many processes there are: one for each net.
+    /// Returns the number of processes: one for each net.
     pub fn len(&self) -> usize
         ensures { result ≡ length self.now }
     {
         self.processes.len()
     }
 
-    /// The process of a net.
+    /// Returns the process of a net.
     pub fn of_net(&self, net: u32) -> &Process<'d>
         requires { net < length self.now }
         ensures { slice_get self.now net ≡ Some result.now }
@@ -69,7 +69,7 @@ impl<'d> Processes<'d> {
         &self.processes[net as usize]
     }
 
-    /// Lets the process of a net hear a message, as [`Process::receive`] does. An `AllocError` changes
+    /// Lets the process of a net receive a message, as [`Process::receive`] does. An `AllocError` changes
     /// nothing.
     pub fn receive(&mut self, net: u32, place: u32, message: Message) -> Result<(), AllocError>
         requires net { net < length self.old }
@@ -88,9 +88,9 @@ impl<'d> Processes<'d> {
         Ok(())
     }
 
-    /// Advances the process of a net, as [`Process::advance_into`] does. A quiet one isn't touched, has nothing
-    /// to tell, and takes no memory. After an `AllocError` the process has failed, and the others are as they
-    /// were.
+    /// Advances the process of a net, as [`Process::advance_into`] does. A quiet one isn't touched, sends
+    /// nothing, and takes no memory. After an `AllocError` the process has failed, and the others are
+    /// unchanged.
     pub fn advance_into(&mut self, net: u32, messages: &mut Vec<Message>) -> Result<(), AllocError>
         requires net { net < length self.old }
         requires running { ForSome (slice_get self.old net) (λ (process : ProcessView). process.failed ≡ false) }
@@ -132,13 +132,13 @@ impl<'d> Processes<'d> {
         ensures memory { OnErr result (ForSome (slice_get self.old net) (λ (process : ProcessView).
             0 < length (drained_changes bound process.state))) }
     {
-        // A quiet process stays quiet: what is taken out plays no part in what it reckons.
+        // A quiet process stays quiet: what is taken out plays no part in what it computes.
         self.processes[net as usize].drain_below_into(bound, changes)?;
         Ok(())
     }
 }
 
-/// A process for each net of a design, in order.
+/// Returns a process for each net of a design, in order.
 fn started<'d>(
     alloc: Global,
     design: &'d Design,
@@ -155,7 +155,7 @@ fn started<'d>(
     Ok(processes)
 }
 
-/// The flags of so many processes that haven't advanced yet.
+/// Returns the flags of this number of processes, none of which has advanced yet.
 fn none_quiet(alloc: Global, count: usize) -> Result<Vec<bool>, AllocError>
     ensures { IfOk result (λ quiet. quiet.items ≡ replicate count false) }
 {

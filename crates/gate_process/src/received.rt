@@ -16,7 +16,7 @@ use smallvec::SmallVec;
 use std::alloc::{AllocError, Global};
 use std::marker::Model;
 
-/// What a pin was told of its source, as far as it is kept, at the source's ticks.
+/// What a pin has received from its source, as far as it is kept, at the source's ticks.
 #[derive(Debug, Drop)]
 pub struct Received {
     // The value before the first change that is kept.
@@ -37,7 +37,7 @@ impl Model for Received {
 }
 
 impl Received {
-    /// What is known before anything was told.
+    /// Returns what is known before anything is received.
     pub fn nothing(alloc: Global) -> Received
         ensures { result ≡ nothing_known }
     {
@@ -48,7 +48,7 @@ impl Received {
         }
     }
 
-    /// How many ticks of the source are known, from tick 0 on.
+    /// Returns the number of known ticks of the source, from tick 0 on.
     pub fn frontier(&self) -> u64
         ensures frontier { result ≡ self.now.frontier }
         ensures within { result ≤ most_ticks + 1 }
@@ -56,7 +56,7 @@ impl Received {
         self.frontier
     }
 
-    /// Knows a message more. A null message takes no memory. An `AllocError` changes nothing.
+    /// Adds a message to what is known. A null message takes no memory. An `AllocError` changes nothing.
     pub fn hear(&mut self, message: Message) -> Result<(), AllocError>
         requires raises { self.old.frontier < (told self.old message).frontier }
         requires fits { (told self.old message).frontier ≤ most_ticks + 1 }
@@ -97,15 +97,15 @@ impl Received {
         self.changes.drop_front(early);
     }
 
-    /// Before all of the changes that are kept, which are seen later by the delay of the wire; from where
-    /// nothing is known X is seen.
+    /// Returns a cursor before all changes that are kept, which are seen later by the delay of the wire. From
+    /// where nothing is known, X is seen.
     pub fn cursor(&self, wire: u32) -> Cursor<'_>
         ensures { result ≡ as_known (seen wire self.now) }
     {
         Cursor::received(self.before, self.changes.as_slice(), self.frontier, wire)
     }
 
-    /// The value of the last change, X where there was none.
+    /// Returns the value of the last change, or X if none.
     pub fn last(&self) -> Value
         ensures { result ≡ last_value self.now.wave }
     {
@@ -113,7 +113,7 @@ impl Received {
     }
 }
 
-/// What so many pins know before anything was told.
+/// Returns what this number of pins know before anything is received.
 pub fn nothing_received(alloc: Global, pins: usize) -> Result<Vec<Received>, AllocError>
     ensures { IfOk result (λ received. received.items ≡ replicate pins nothing_known) }
 {
@@ -124,7 +124,7 @@ pub fn nothing_received(alloc: Global, pins: usize) -> Result<Vec<Received>, All
     Ok(received)
 }
 
-/// What these pins were told, each with its wire, before any tick. Few pins take no memory.
+/// Returns a cursor before all changes of each of these pins, each with its wire. Few pins take no memory.
 pub fn cursors_of<'r>(
     alloc: Global,
     received: &'r [Received],
@@ -140,7 +140,7 @@ pub fn cursors_of<'r>(
     Ok(cursors)
 }
 
-/// What these pins show at a tick, each with its wire, as far as it is known.
+/// Returns what these pins show at a tick, each with its wire, as far as it is known.
 pub fn seen_at(received: &[Received], wires: &[u32], tick: u64) -> Summary
     requires { length wires.now ≡ length received.now }
     ensures { result ≡ summary_of (values_at tick (signals_of (seen_pins wires.now received.now))) }
@@ -152,8 +152,8 @@ pub fn seen_at(received: &[Received], wires: &[u32], tick: u64) -> Summary
     pins
 }
 
-/// The least of the pins' frontiers, each seen later by the delay of its wire; of no pins what stands for
-/// it.
+/// Returns the least of the pins' frontiers, each seen later by the delay of its wire, or `none` if there are
+/// no pins.
 pub fn least_frontier(none: u64, received: &[Received], wires: &[u32]) -> u64
     requires wires { HasWires (length received.now) wires.now }
     requires none { none ≤ most_ticks + 1 }

@@ -13,7 +13,7 @@ pub record Recorded : Type 0 where
 abbrev pub IsEndOf : List Message → List Message → Type 0
 IsEndOf messages all = drop (length all - length messages) all ≡ messages
 
--- what waits at each pin is the end of what its source sent
+-- what waits at each pin is the end of what its source has sent
 pub record IsRecord (lists : List (List Message)) (sources : List ℕ) (nets : ℕ) (history : List (List Message)) : Type 0 where
   pub one_each : length history ≡ nets
   pub ends : (pin source : ℕ) → slice_get sources pin ≡ Some source →

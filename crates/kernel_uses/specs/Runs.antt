@@ -1,4 +1,4 @@
--- What stands after a run that events completed.
+-- What holds after a run that events completed.
 use Rattle.std.specs.Prelude.{◌≡◌, ℕ, ◌<◌, List, All, length}
 use Rattle.design.specs.Circuit.{Circuit}
 use Rattle.design.specs.Equations.{waves_of}
@@ -10,13 +10,13 @@ use Rattle.cmb_kernel.specs.Sound.{IsSound, waves_kept}
 use Rattle.cmb_kernel.specs.Sweeps.{EventsLead}
 use Rattle.cmb_kernel.specs.Useful.{useful_count}
 
--- a kernel to which events happened and nothing else
+-- a kernel after events alone
 pub record IsLed (old now : KernelView) : Type 0 where
   pub run : now ≡ record old { state = now.state }
   pub sound : IsSound old.circuit old.end now.state
   pub events : EventsLead old.circuit old.state now.state
 
--- so many events, each of a pin or net that is there and each useful when it comes, lead from the one state to the other
+-- this number of events, each of a pin or net that exists and each useful when it comes, lead from the one state to the other
 pub record UsefulEventsLead (circuit : Circuit) (old new : State) (count : ℕ) : Type 0 where
   pub events : List Event
   pub exist : All (Exists circuit) events
@@ -24,8 +24,8 @@ pub record UsefulEventsLead (circuit : Circuit) (old new : State) (count : ℕ) 
   pub useful : useful_count old events ≡ count
   pub all : length events ≡ count
 
--- events and nothing else led a kernel to the end of its run: each net is known to the end, and shows what the equations give,
--- from its floor on, and from tick 0 on where nothing was taken out; so it shows what it would after rounds
+-- events alone led a kernel to the end of its run: each net is known to the end, and shows what the equations give,
+-- from its floor on, or from tick 0 on if nothing was taken out; so it shows what it would after rounds
 pub record IsCompleted (old new : KernelView) : Type 0 where
   pub run : new ≡ record old { state = new.state }
   pub events : EventsLead old.circuit old.state new.state

@@ -12,12 +12,12 @@ use Rattle.kernel_uses.specs.Runs.{IsLed}
 abbrev pub event_numbered : Circuit → ℕ → Event
 event_numbered circuit number = if nat_lt number (pin_count circuit) then Deliver number else Advance (number - pin_count circuit)
 
--- a net has nothing to do: it has nothing to tell, and nothing waits at its pins
+-- a net has nothing to do: it has nothing to send, and nothing waits at its pins
 pub record IsIdle (circuit : Circuit) (state : State) (net : ℕ) : Type 0 where
   pub told : is_useful state (Advance net) ≡ false
   pub heard : (pin : ℕ) → pin < pin_count circuit → net_of_pin circuit pin ≡ net → slice_index_or state.lists pin [] ≡ []
 
--- a pin took all that waits there, and nothing else happened: what waits at other pins stays, and other nets have as much to tell
+-- a pin took all that waits there, and nothing else happened: what waits at other pins stays, and other nets have as much to send
 pub record HasTaken (pin : ℕ) (old new : KernelView) : Type 0 where
   pub led : IsLed old new
   pub lists : (other : ℕ) → other ≢ pin → slice_index_or new.state.lists other [] ≡ slice_index_or old.state.lists other []
@@ -25,7 +25,7 @@ pub record HasTaken (pin : ℕ) (old new : KernelView) : Type 0 where
       is_useful new.state (Advance net) ≡ is_useful old.state (Advance net)
   pub left : remaining old.circuit old.end new.state ≤ remaining old.circuit old.end old.state
 
--- the pins of a net took all that waits there, and nothing else happened: a net that had nothing to do has nothing to do
+-- the pins of a net took all that waits there, and nothing else happened: a net that had nothing to do still has nothing to do
 pub record HasHeard (net : ℕ) (old new : KernelView) : Type 0 where
   pub led : IsLed old new
   pub heard : (pin : ℕ) → pin < pin_count old.circuit → net_of_pin old.circuit pin ≡ net → slice_index_or new.state.lists pin [] ≡ []

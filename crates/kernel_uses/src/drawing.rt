@@ -1,4 +1,4 @@
-//! A driver that draws what to do.
+//! A driver that draws events by a seed.
 ghost use Rattle.std.specs.Prelude.{◌≡◌, ℕ, ◌+◌, ◌<◌, if◌then◌else◌, true, false, length, IfSome, IfNone, IfErr, OnErr, OnOk};
 ghost use Rattle.design.specs.Circuit.{pin_count};
 ghost use Rattle.cmb_events.specs.declared.event.Event.{Event};
@@ -15,8 +15,7 @@ use rand_core::SeedableRng;
 use rand_core::utils::NextWord;
 use rand_pcg::Lcg64Xsh32;
 
-/// Applies events that are drawn by a seed among those that are useful, one after another, until there is
-/// none.
+/// Applies events that a seed draws among those that are useful, one after another, until none is useful.
 ///
 /// Whatever is drawn, each net shows at the end what it shows after rounds.
 ///
@@ -39,12 +38,12 @@ pub fn drive_by_draws<F: Fabric>(kernel: &mut Kernel<'_, F>, seed: u64) -> Resul
     while let Some(event) = draw(kernel, &mut words) {
         kernel.apply(event)?;
     }
-    // Where no event is useful the kernel names none either.
+    // If no event is useful, the kernel returns none either.
     prove!(kernel.useful().is_none());
     Ok(())
 }
 
-/// A useful event, each as likely as any other, or `None` where no event is useful. It looks at each pin
+/// Returns a useful event, each as likely as any other, or `None` if no event is useful. It looks at each pin
 /// and each net once.
 fn draw<F: Fabric>(kernel: &Kernel<'_, F>, words: &mut Lcg64Xsh32) -> Option<Event>
     requires { kernel.now.failed ≡ false }
@@ -59,7 +58,7 @@ fn draw<F: Fabric>(kernel: &Kernel<'_, F>, words: &mut Lcg64Xsh32) -> Option<Eve
         let event = event_numbered(kernel, number);
         if kernel.is_useful(event) {
             found += 1;
-            // Of so many that were found, each stays with the same likelihood.
+            // Each event found so far is kept with the same likelihood.
             if drawn.is_none() || words.next_word() % found == 0 {
                 drawn = Some(event);
             }
@@ -68,7 +67,7 @@ fn draw<F: Fabric>(kernel: &Kernel<'_, F>, words: &mut Lcg64Xsh32) -> Option<Eve
     drawn
 }
 
-/// The event of a number: first stand the deliveries to all pins, and then the advances of all nets.
+/// Returns the event of a number: first come the deliveries to all pins, and then the advances of all nets.
 fn event_numbered<F: Fabric>(kernel: &Kernel<'_, F>, number: u32) -> Event
     requires { number < length kernel.now.circuit + pin_count kernel.now.circuit }
     ensures event { result ≡ event_numbered kernel.now.circuit number }

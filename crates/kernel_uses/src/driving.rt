@@ -1,4 +1,4 @@
-//! A driver that asks the kernel what to do.
+//! A driver that asks the kernel for events.
 ghost use Rattle.std.specs.Prelude.{◌≡◌, ◌+◌, ◌*◌, ◌≤◌, if◌then◌else◌, true, length, IfErr, IfOk, OnErr, OnOk};
 ghost use Rattle.design.specs.Circuit.{pin_count};
 ghost use Rattle.kernel_uses.specs.Runs.{IsCompleted, UsefulEventsLead};
@@ -7,8 +7,8 @@ use cmb_channels::Fabric;
 use cmb_kernel::laws::{no_deadlock, progress_left};
 use cmb_kernel::{Kernel, KernelFault};
 
-/// Applies an event that the kernel calls useful, one after another, until there is none. Answers how
-/// many it applied: at most one for each tick of each net and each pin.
+/// Applies events that the kernel returns as useful, one after another, until there is none. Returns the
+/// number of events applied: at most one for each tick of each net and each pin.
 ///
 /// # Errors
 /// [`KernelFault::Failed`]; nothing changed. [`KernelFault::Memory`]; the kernel has failed from then on.
@@ -27,7 +27,7 @@ pub fn drive<F: Fabric>(kernel: &mut Kernel<'_, F>) -> Result<u64, KernelFault>
     }
     no_deadlock();
     progress_left();
-    // Each useful event raises by a tick at least what a net or a pin knows.
+    // Each useful event raises what a net or a pin knows by at least a tick.
     let most = kernel.end() * (u64::from(kernel.nets()) + u64::from(kernel.pins()));
     let mut count = 0;
     while let Some(event) = kernel.useful() {

@@ -1,7 +1,8 @@
-//! A circuit cut in two, whose halves run in turns.
+//! A circuit cut in two halves, which run in turns.
 //!
-//! Each half is a circuit of its own, in which the nets of the other half that it hears are inputs. A turn
-//! runs a half as far as what it heard leads, and tells the other half how the nets change that it hears.
+//! Each half is a circuit of its own, in which the nets of the other half that it reads are inputs. A turn
+//! runs a half as far as what it has received allows, and passes on the changes of the nets that the other
+//! half reads.
 ghost use Rattle.std.specs.Prelude.{◌≡◌, ◌+◌, ◌≤◌, [], min, IfOk};
 
 use bench_text::{BenchFault, read};
@@ -15,20 +16,20 @@ use std::alloc::{AllocError, Global};
 use thiserror::Error;
 use timing_text::{Horizon, OptionFault};
 
-/// A half of a circuit: its texts, in which each net of the other half that it hears is an input.
+/// A half of a circuit: its texts, in which each net of the other half that it reads is an input.
 #[derive(Clone, Copy)]
 pub struct Half<'t> {
     /// The netlist.
     pub bench: &'t [u8],
     /// The delays of its gates and flip-flops.
     pub delays: &'t [u8],
-    /// What drives the inputs that the other half doesn't.
+    /// The stimuli of the inputs that the other half doesn't drive.
     pub stimuli: &'t [u8],
     /// The period of its flip-flops.
     pub period: u64,
 }
 
-/// What a half was told: how many ticks it knows of the nets that it hears, and how they change there, as
+/// What a half has received: how many ticks it knows of the nets that it reads, and their changes there, as
 /// lines of a stimulus text.
 #[derive(Debug, Drop)]
 pub struct Told {
@@ -36,7 +37,7 @@ pub struct Told {
     pub stimuli: Vec<u8>,
 }
 
-/// Why halves don't run.
+/// Why two halves can't run.
 #[derive(Clone, Copy, Debug, PartialEq, Eq, Error)]
 pub enum TurnFault {
     /// A netlist is refused.
@@ -45,16 +46,16 @@ pub enum TurnFault {
     /// A delay text, a stimulus text or a period is refused.
     #[error("Build")]
     Build(BuildFault),
-    /// A growth was refused.
+    /// An allocation failed.
     #[error("Memory")]
     Memory,
 }
 
-/// Runs two halves in turns up to a horizon, and answers what each of them was told of the other by then:
-/// driven by it beside its own stimuli, it shows what it shows in the whole circuit.
+/// Runs two halves in turns up to a horizon, and returns what each of them has received from the other by
+/// then. Driven by this and by its own stimuli, a half shows what it shows in the whole circuit.
 ///
-/// A turn leads past what the half was told by its least delay, so there are as many turns as the horizon
-/// and one tick have least delays, of the one half and the other in turns.
+/// A turn advances a half by its least delay past what it has received. The run ends when these delays, of
+/// the two halves alternately, cover the horizon and one more tick.
 pub fn run_in_turns(
     alloc: Global,
     first: &Half<'_>,
@@ -87,7 +88,7 @@ impl Told {
 }
 
 impl Half<'_> {
-    /// Runs the half as far as what it was told leads, and tells the other half of it.
+    /// Runs the half as far as what it has received allows, and passes the changes on to the other half.
     fn turn(
         &self,
         alloc: Global,
@@ -108,7 +109,7 @@ impl Half<'_> {
         Ok(Told { ticks, stimuli })
     }
 
-    /// The half, driven by its own stimuli and by what it was told.
+    /// Returns the design of the half, driven by its own stimuli and by what it has received.
     fn design(&self, alloc: Global, told: &Told) -> Result<Design, TurnFault> {
         let netlist = read(alloc, self.bench)?;
         let mut stimuli = Vec::from_slice(alloc, self.stimuli)?;
@@ -126,8 +127,8 @@ impl Half<'_> {
     }
 }
 
-/// The least delay of a gate or flip-flop, or the end where there is none: what is known of inputs leads so
-/// much farther.
+/// Returns the least delay of a gate or flip-flop, or the end if there is none: a half advances by that past
+/// what is known of its inputs.
 fn least_delay(design: &Design, end: u64) -> u64
     ensures { 1 ≤ result }
 {
@@ -140,8 +141,8 @@ fn least_delay(design: &Design, end: u64) -> u64
     least.max(1)
 }
 
-/// Runs a half so many ticks, and tells how the nets change that the other half hears: those that are
-/// inputs there and not here.
+/// Runs a half for this number of ticks, and returns the changes of the nets that the other half reads: those
+/// that are inputs there and not here.
 fn run_to(
     alloc: Global,
     design: &Design,
@@ -206,7 +207,7 @@ impl From<OptionFault> for TurnFault {
     }
 }
 
-// A new kernel that does rounds is refused memory alone.
+// A new kernel that does rounds can only run out of memory.
 impl From<KernelFault> for TurnFault {
     fn from(_fault: KernelFault) -> TurnFault {
         TurnFault::Memory

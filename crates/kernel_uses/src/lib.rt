@@ -1,5 +1,5 @@
-//! Ways to build on the kernel, each by public calls alone: examples for whoever builds a simulator
-//! of many processors.
+//! Ways to build on the kernel by public calls alone: examples for authors of a simulator for many
+//! processors.
 #![tactic(auto)]
 
 mod drawing;

@@ -10,7 +10,7 @@ use design::Design;
 use std::alloc::{AllocError, Global};
 use std::marker::Model;
 
-/// Channels, and beside them a record of all that each net sent, whether its pins have taken it or not.
+/// Channels with a record of all that each net has sent, whether its pins have taken it or not.
 #[derive(Drop)]
 pub struct Recorder<F: Fabric> {
     channels: F,
@@ -35,8 +35,8 @@ impl<F: Fabric> Model for Recorder<F> {
 }
 
 impl<F: Fabric> Recorder<F> {
-    /// Channels of a design with nothing in them, and an empty record with room for so many messages of each
-    /// net: a run in which no net sends more takes no memory for its record.
+    /// Returns channels of a design with nothing in them, and an empty record with room for this number of
+    /// messages of each net. A run in which no net sends more takes no memory for its record.
     pub fn with_room(alloc: Global, design: &Design, room: usize) -> Result<Self, AllocError>
         ensures lists { IfOk result (λ r. r.lists ≡ replicate (pin_count design.now.circuit) []) }
         ensures sources { IfOk result (λ r. r.sources ≡ sources_of design.now.circuit) }
@@ -48,8 +48,8 @@ impl<F: Fabric> Recorder<F> {
         Ok(Recorder { channels, history })
     }
 
-    /// All that a net sent, the oldest message first. What waits at each pin that the net feeds is the end
-    /// of it.
+    /// Returns all that a net has sent, the oldest message first. What waits at each pin that the net feeds
+    /// is a suffix of it.
     pub fn sent_by(&self, net: u32) -> &[Message]
         requires { net < self.now.nets }
         ensures sent { slice_get self.now.history net ≡ Some result.now }
@@ -80,7 +80,7 @@ impl<F: Fabric> Fabric for Recorder<F> {
         ensures pins { length self.new.lists ≡ length self.old.lists }
         ensures sources { self.new.sources ≡ self.old.sources }
         ensures nets { self.new.nets ≡ self.old.nets }
-        // It is recorded just where it is sent.
+        // A message is recorded exactly if it is sent.
         ensures history { OnOk result (self.new.history ≡ update (λ list. list ++ message ∷ []) net self.old.history) }
         ensures kept { OnErr result (self.new.history ≡ self.old.history) }
     {
@@ -108,7 +108,7 @@ impl<F: Fabric> Fabric for Recorder<F> {
     }
 }
 
-/// No messages for each of so many nets, with room for so many of each.
+/// Returns an empty list of messages for each of this number of nets, with room for `room` messages each.
 fn no_messages(alloc: Global, nets: u32, room: usize) -> Result<Vec<Vec<Message>>, AllocError>
     ensures { IfOk result (λ history. messages_in history.items ≡ replicate nets []) }
 {

@@ -13,16 +13,16 @@ use cmb_kernel::{Kernel, KernelFault};
 use design::Design;
 use std::alloc::{AllocError, Global};
 
-/// Takes nets from a list, one after another, as long as there are any: each takes what waits at its pins,
-/// and advances, and where it then tells something, the nets that hear it go on the list. At first all nets
+/// Takes nets from a list, one after another, until it is empty: each takes what waits at its pins, and
+/// advances, and if it then sends something, the nets that it feeds are added to the list. At first all nets
 /// are on it.
 ///
-/// So a net is looked at once in the beginning, and else where it hears something; and a pin, where its net
-/// is. A net may be on the list more than once, and finds nothing to do then.
+/// So a net and its pins are looked at once at the beginning, and then only after something is sent to them.
+/// A net may be on the list more than once; it then has nothing to do the second time.
 ///
 /// # Errors
-/// [`KernelFault::Failed`]; nothing changed. [`KernelFault::Memory`]; the kernel has failed from then on
-/// where it was the kernel that wanted memory, and goes on to run where it was the list.
+/// [`KernelFault::Failed`]; nothing changed. [`KernelFault::Memory`]; if an allocation of the kernel failed,
+/// it has failed from then on, and if one of the list did, the kernel can be used further.
 pub fn drive_by_work_list<F: Fabric>(
     alloc: Global,
     kernel: &mut Kernel<'_, F>,
@@ -46,12 +46,12 @@ pub fn drive_by_work_list<F: Fabric>(
             add_readers(kernel.design(), net, &mut work)?;
         }
     }
-    // Where no net has anything to do, nothing is useful.
+    // If no net has anything to do, no event is useful.
     prove!(kernel.useful().is_none());
     Ok(())
 }
 
-/// The numbers of so many nets.
+/// Returns the numbers of all nets.
 fn all_nets(alloc: Global, count: u32) -> Result<Vec<u32>, AllocError>
     ensures within { IfOk result (λ nets. All (λ net. net < count) nets.items) }
     ensures all { IfOk result (λ nets. (net : ℕ) → net < count → Contains nets.items net) }

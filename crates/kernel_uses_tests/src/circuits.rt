@@ -48,7 +48,7 @@ pub(crate) const HAZARD: Circuit = Circuit {
     horizon: 8,
 };
 
-/// A gate at its own pin, which oscillates where its input is 1.
+/// A gate at its own pin, which oscillates while its input is 1.
 pub(crate) const OSCILLATOR: Circuit = Circuit {
     bench: b"INPUT(e)\ny = NAND(e, y)\n",
     delays: b"y 2\n",

@@ -1,4 +1,4 @@
-//! Drivers lead to the waveforms of the plain engine, over both fabrics.
+//! Drivers give the waveforms of the plain engine, over both fabrics.
 ghost use Rattle.std.specs.Prelude.{◌≡◌, OnOk};
 
 use crate::circuits::{CIRCUITS, Circuit, SELF_INVERTER};
@@ -85,7 +85,8 @@ fn waveforms(rt: HostRuntime) -> Result<(), Fail> {
     Ok(())
 }
 
-// Seven events are useful: the gate at its own pin goes on by a tick four times, and hears of it three times.
+// Seven events are useful: the gate at its own pin advances by a tick four times, and receives that three
+// times.
 #[test]
 fn counted(rt: HostRuntime) -> Result<(), Fail> {
     let design = SELF_INVERTER.build(rt.alloc())?;

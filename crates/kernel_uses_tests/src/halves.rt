@@ -40,7 +40,7 @@ const FEED_FORWARD: Cut = Cut {
     },
 };
 
-// A ring of three gates, of which one is in the other half, let loose at tick 5.
+// A ring of three gates, of which one is in the other half, released at tick 5.
 const RING: Cut = Cut {
     whole: Circuit {
         bench: b"INPUT(e)\nx = NAND(e, z)\ny = NOT(x)\nz = NOT(y)\n",
@@ -63,7 +63,7 @@ const RING: Cut = Cut {
     },
 };
 
-// A counter of two bits: each half has a flip-flop, and each bit hangs on both.
+// A counter of two bits: each half has a flip-flop, and each bit depends on both.
 const COUNTER: Cut = Cut {
     whole: Circuit {
         bench: b"q = DFF(n)\nn = NOT(q)\nr = DFF(s)\ns = XOR(q, r)\n",
@@ -107,7 +107,7 @@ const SEQUENTIAL: Cut = Cut {
 
 static CUTS: [Cut; 4] = [FEED_FORWARD, RING, COUNTER, SEQUENTIAL];
 
-// A half, driven by its own stimuli and by what it was told.
+// A half, driven by its own stimuli and by what it has received.
 fn driven(alloc: Global, half: &Half<'_>, told: &Told) -> Result<Design, Fail> {
     let mut stimuli = Vec::from_slice(alloc, half.stimuli)?;
     stimuli.extend_from_slice(b"\n")?;

@@ -1,5 +1,5 @@
 //! Tests of what is built on the kernel: waveforms against the plain engine, messages against traces that
-//! were worked out by hand.
+//! were worked out independently.
 #![tactic(auto)]
 
 #[cfg(test)]

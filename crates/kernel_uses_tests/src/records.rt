@@ -1,4 +1,4 @@
-//! What is recorded of runs by rounds: the messages of traces that were worked out by hand.
+//! What is recorded of runs by rounds: the messages of traces that were worked out independently.
 ghost use Rattle.std.specs.Prelude.{◌≡◌};
 
 use crate::circuits::{Circuit, HAZARD, INVERTER};
@@ -101,7 +101,7 @@ fn has_sent<F: Fabric>(
     }
 }
 
-// A run over channels with room for so many messages of each net.
+// A run over channels with room for this number of messages of each net.
 fn records<F: Fabric>(
     rt: &impl Abort,
     alloc: Global,

@@ -15,7 +15,7 @@ conjunction pins = if list_any (is_same Zero) pins then Zero else if list_all (i
 abbrev pub disjunction : List Value → Value
 disjunction pins = if list_any (is_same One) pins then One else if list_all (is_same Zero) pins then Zero else Unknown
 
--- XOR: X if some pin is X, else 1 where the number of 1s is odd, else 0
+-- XOR: X if some pin is X, else 1 if the number of 1s is odd, else 0
 abbrev pub parity : List Value → Value
 parity pins =
     if list_any (is_same Unknown) pins then Unknown else if count_by (is_same One) pins % 2 == 1 then One else Zero
@@ -36,13 +36,13 @@ value_of_gate Xnor pins = opposite (parity pins)
 value_of_gate Not pins = opposite (only_pin pins)
 value_of_gate Buf pins = only_pin pins
 
--- a gate has at least one pin, and NOT and BUF have just one
+-- a gate has at least one pin, and NOT and BUF have exactly one
 abbrev pub HasArity : GateKind → ℕ → Type 0
 HasArity Not pins = pins ≡ 1
 HasArity Buf pins = pins ≡ 1
 HasArity _ pins = 0 < pins
 
--- the same pins, but that some X pins were given a value
+-- the same pins, except that some X pins have received a value
 abbrev pub Refines : List Value → List Value → Type 0
 Refines [] [] = Unit {0}
 Refines (pin ∷ pins) (refined ∷ others) = ((pin ≡ Unknown) ⊎ (pin ≡ refined)) × Refines pins others

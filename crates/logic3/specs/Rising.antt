@@ -2,7 +2,7 @@
 use Rattle.std.specs.Prelude.{ℕ, ◌<◌, List, AllPairs}
 use Rattle.logic3.specs.declared.change.Change.{Change}
 
--- by a number of each thing
+-- by a number of each element
 abbrev pub RisesBy : {A : Type 0} → (A → ℕ) → List A → Type 0
 RisesBy key xs = AllPairs (λ earlier later. key earlier < key later) xs
 

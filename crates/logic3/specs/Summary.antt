@@ -1,4 +1,4 @@
--- What a gate's value hangs on, of the values at its pins.
+-- What a gate's value depends on.
 use Rattle.std.specs.Prelude.{◌%◌, ◌==◌, List, count_by}
 use Rattle.std.specs.List.{list_any}
 use Rattle.logic3.specs.declared.value.Value.{Value}

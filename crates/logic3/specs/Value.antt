@@ -17,7 +17,7 @@ opposite Zero = One
 opposite One = Zero
 opposite Unknown = Unknown
 
--- how a value is written: in a dump, in stimuli and in all else that is told
+-- how a value is written in dumps, stimuli and messages
 abbrev pub value_text : Value → List ℕ
 value_text Zero = codes "0"
 value_text One = codes "1"

@@ -13,7 +13,7 @@ pub record Wave : Type 0 where
   pub before : Value
   pub changes : List Change
 
--- the value of the last of the changes that is not after the tick, else the value before
+-- the value of the last change that is not after the tick, else the value before
 abbrev pub value_after : Value → List Change → ℕ → Value
 value_after before [] tick = before
 value_after before (change ∷ changes) tick =
@@ -22,7 +22,7 @@ value_after before (change ∷ changes) tick =
 abbrev pub value_at : Wave → ℕ → Value
 value_at wave tick = value_after wave.before wave.changes tick
 
--- the value of the last change, or the value before where there is none
+-- the value of the last change, or the value before if there is none
 abbrev pub value_in_the_end : Value → List Change → Value
 value_in_the_end before [] = before
 value_in_the_end before (change ∷ changes) = value_in_the_end change.value changes
@@ -38,7 +38,7 @@ joined wave changes = record wave { changes = wave.changes ++ changes }
 abbrev pub changes_below : ℕ → List Change → List Change
 changes_below tick changes = filter (λ (change : Change). nat_lt change.tick tick) changes
 
--- a waveform without its changes before a tick: the last of them, where there is one, gives the value before the others
+-- a waveform without its changes before a tick: the last of them, if any, gives the value before the others
 abbrev pub without_below : ℕ → Wave → Wave
 without_below tick wave = record {
   before = value_in_the_end wave.before (changes_below tick wave.changes);
@@ -50,7 +50,7 @@ abbrev pub value_before : (ℕ → Value) → ℕ → Value
 value_before signal zero = Unknown
 value_before signal (suc tick) = signal tick
 
--- the change at a tick, if there is one there
+-- the change at a tick, if any
 abbrev pub change_at : (ℕ → Value) → ℕ → List Change
 change_at signal tick =
     if is_same (signal tick) (value_before signal tick) then [] else record { tick = tick; value = signal tick } ∷ []

@@ -6,14 +6,14 @@ ghost use Rattle.logic3.specs.Wave.{value_after};
 
 use crate::value::Value;
 
-/// From `tick` on, the value, until the next change.
+/// A change to `value` at `tick`: the net shows it until the next change.
 #[derive(Clone, Copy, Debug, PartialEq, Eq)]
 pub struct Change {
     pub tick: u64,
     pub value: Value,
 }
 
-/// The value of the last of the changes that is not after the tick, else the value before them.
+/// Returns the value of the last change that is not after the tick, else `before`.
 ///
 /// Takes logarithmic time.
 pub fn value_after(before: Value, changes: &[Change], tick: u64) -> Value
@@ -24,7 +24,7 @@ pub fn value_after(before: Value, changes: &[Change], tick: u64) -> Value
     changes[..due].last().map_or(before, |change| change.value)
 }
 
-/// How many changes come first that are before a tick. Takes a step for each of them.
+/// Returns the number of changes at the front that are before a tick. Takes a step for each of them.
 pub fn due_below(changes: &[Change], tick: u64) -> usize
     ensures count { result ≡ prefix_len (λ (change : Change). nat_lt change.tick tick) changes.now }
     ensures within { result ≤ length changes.now }

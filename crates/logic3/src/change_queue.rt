@@ -4,12 +4,12 @@ use crate::change::Change;
 use std::alloc::{AllocError, Global};
 use std::marker::Model;
 
-/// So many changes may have room where none is kept.
+/// The number of changes for which an empty queue may keep memory.
 const FEW: usize = 16;
 
 /// A list of changes that grows at the end and is dropped from the front.
 ///
-/// Each takes constant time, on the whole, and the memory follows what is kept.
+/// Both operations take amortized constant time, and the memory is in proportion to the changes kept.
 #[derive(Debug, Drop)]
 pub struct ChangeQueue {
     changes: Vec<Change>,
@@ -29,7 +29,7 @@ impl Model for ChangeQueue {
 }
 
 impl ChangeQueue {
-    /// No changes.
+    /// Makes an empty queue.
     pub fn new(alloc: Global) -> ChangeQueue
         ensures { result ≡ [] }
     {
@@ -39,21 +39,21 @@ impl ChangeQueue {
         }
     }
 
-    /// The changes, in order.
+    /// Returns the changes, in order.
     pub fn as_slice(&self) -> &[Change]
         ensures { result.now ≡ self.now }
     {
         &self.changes.as_slice()[self.start..]
     }
 
-    /// An empty list on the allocator of the queue.
+    /// Returns an empty list on the queue's allocator.
     pub fn no_changes(&self) -> Vec<Change>
         ensures { result.items ≡ [] }
     {
         Vec::new(*self.changes.allocator())
     }
 
-    /// Adds a change at the end. An `AllocError` changes nothing.
+    /// Adds a change at the end. An `AllocError` leaves the queue unchanged.
     pub fn push(&mut self, change: Change) -> Result<(), AllocError>
         ensures ok { OnOk result (self.new ≡ self.old ++ change ∷ []) }
         ensures err { OnErr result (self.new ≡ self.old) }
@@ -62,7 +62,7 @@ impl ChangeQueue {
         Ok(())
     }
 
-    /// Drops the first changes, so many. Where few of many are left, it gives memory back.
+    /// Drops the first `count` changes. If few of many are left, it gives memory back.
     pub fn drop_front(&mut self, count: usize)
         requires { count ≤ length self.old }
         ensures { self.new ≡ drop count self.old }
@@ -80,7 +80,7 @@ impl ChangeQueue {
         }
     }
 
-    /// Gives memory back where it is for more than a few changes and less than a quarter is used.
+    /// Gives memory back if it is for more than a few changes and less than a quarter of it is used.
     fn give_back(&mut self)
         ensures { self.new ≡ self.old }
     {
@@ -90,7 +90,7 @@ impl ChangeQueue {
         }
     }
 
-    /// The same changes, on the same allocator.
+    /// Returns the same changes, on the same allocator.
     pub fn copy(&self) -> Result<ChangeQueue, AllocError>
         ensures { IfOk result (λ copy. copy ≡ self.now) }
     {

@@ -7,14 +7,14 @@ ghost use Rattle.logic3.specs.Gate.{HasArity, Refines, value_of_gate};
 ghost use Rattle.logic3.specs.Rising.{TicksRise};
 ghost use Rattle.logic3.specs.Wave.{IsWave, joined, value_at, value_before, wave_of};
 
-/// With all pins X every gate gives X.
+/// If all pins are X, every gate gives X.
 pub fn unknown_pins()
     ensures { (kind : GateKind) (pins : List Value) → HasArity kind (length pins) →
         All (λ pin. pin ≡ Unknown) pins → value_of_gate kind pins ≡ Unknown }
 {}
 
-/// Where a gate gives 0 or 1, giving X pins the value 0 or 1 keeps the answer: one pin, or any
-/// number of them at once.
+/// If a gate gives 0 or 1, setting one X pin, or any number of them at once, to 0 or 1 doesn't
+/// change the result.
 pub fn known_answer_stays()
     ensures one_pin { (kind : GateKind) (pins : List Value) (place : ℕ) (value : Value) →
         slice_get pins place ≡ Some Unknown → value_of_gate kind pins ≢ Unknown →
@@ -24,8 +24,8 @@ pub fn known_answer_stays()
         value_of_gate kind refined ≡ value_of_gate kind pins }
 {}
 
-/// The waveform of a signal has a change at just the ticks of its span where the signal isn't what
-/// it was one tick earlier, and its ticks rise strictly.
+/// The waveform of a signal has a change at exactly those ticks of its span at which the signal
+/// differs from its value one tick earlier, and its ticks rise strictly.
 pub fn changes_of_a_signal()
     ensures changes { (signal : ℕ → Value) (from to tick : ℕ) (value : Value) →
         Contains (wave_of signal from to).changes (record { tick = tick; value = value })
@@ -34,20 +34,21 @@ pub fn changes_of_a_signal()
     ensures is_wave { (signal : ℕ → Value) (from to : ℕ) → IsWave (wave_of signal from to) }
 {}
 
-/// The waveform of a signal from one tick up to another gives the signal back at each tick of that
-/// span and at the one before it.
+/// The waveform of a signal from one tick up to another shows the signal at each tick of that span
+/// and at the one before it.
 pub fn signal_back()
     ensures { (signal : ℕ → Value) (from to tick : ℕ) → from ≤ tick + 1 → tick < to →
         value_at (wave_of signal from to) tick ≡ signal tick }
 {}
 
-/// Two waveforms from tick 0 to one end are equal exactly where their signals agree below that end.
+/// Two waveforms from tick 0 to one end are equal exactly if their signals agree before that end.
 pub fn equal_waves()
     ensures { (first second : ℕ → Value) (to : ℕ) →
         (wave_of first 0 to ≡ wave_of second 0 to) ↔ ((tick : ℕ) → tick < to → first tick ≡ second tick) }
 {}
 
-/// The waveform up to one tick, and then on to another, is the waveform to the second.
+/// The waveform up to one tick, joined with the changes from there up to a second tick, is the
+/// waveform up to the second.
 pub fn waves_join()
     ensures { (signal : ℕ → Value) (from mid to : ℕ) → from ≤ mid → mid ≤ to →
         joined (wave_of signal from mid) (wave_of signal mid to).changes ≡ wave_of signal from to }

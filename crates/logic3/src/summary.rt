@@ -1,4 +1,4 @@
-//! What a gate's value hangs on.
+//! What a gate's value depends on.
 ghost use Rattle.std.specs.Prelude.{◌≡◌, ◌++◌, [], ◌∷◌, List, length};
 ghost use Rattle.logic3.specs.declared.value.Value.{Value};
 ghost use Rattle.logic3.specs.Gate.{HasArity, conjunction, disjunction, only_pin, parity, value_of_gate};
@@ -7,8 +7,8 @@ ghost use Rattle.logic3.specs.Summary.{summary_of};
 use crate::gates::GateKind;
 use crate::value::Value;
 
-/// What a gate's value hangs on, of the values at its pins, however many these are. So a gate is
-/// reckoned in one pass over its pins, and nobody keeps a list of their values.
+/// What a gate's value depends on, for any number of pins. It lets a gate be computed in one pass over
+/// its pins, without a list of their values.
 #[derive(Clone, Copy, Debug)]
 pub struct Summary {
     some_zero: bool,
@@ -19,7 +19,7 @@ pub struct Summary {
 }
 
 impl Summary {
-    /// That of no pins.
+    /// Returns the summary of no pins.
     pub fn new() -> Summary
         ensures { result ≡ summary_of [] }
     {
@@ -31,7 +31,7 @@ impl Summary {
         }
     }
 
-    /// Takes the value of one pin more into account.
+    /// Adds the value of one more pin.
     pub fn add(&mut self, value: Value)
         ensures { (pins : List Value) → self.old ≡ summary_of pins → self.new ≡ summary_of (pins ++ value ∷ []) }
     {
@@ -45,9 +45,9 @@ impl Summary {
         }
     }
 
-    /// The value that a gate shows for pins of this summary.
+    /// Returns the value that a gate shows for pins of this summary.
     ///
-    /// A gate has at least one pin, and NOT and BUF have just one.
+    /// A gate has at least one pin, and NOT and BUF have exactly one.
     pub fn gate(&self, kind: GateKind) -> Value
         ensures { (pins : List Value) → self.now ≡ summary_of pins → HasArity kind (length pins) →
             result ≡ value_of_gate kind pins }
@@ -64,7 +64,7 @@ impl Summary {
         }
     }
 
-    /// The value of the pin, where it is the only one.
+    /// Returns the value of the pin, if it is the only one.
     pub fn only(&self) -> Value
         ensures { (pins : List Value) → self.now ≡ summary_of pins → length pins ≡ 1 → result ≡ only_pin pins }
     {
@@ -77,7 +77,7 @@ impl Summary {
         }
     }
 
-    /// AND: 0 if some pin is 0, 1 if all pins are 1, else X.
+    /// Returns the value of AND: 0 if some pin is 0, 1 if all pins are 1, else X.
     fn conjunction(&self) -> Value
         ensures { (pins : List Value) → self.now ≡ summary_of pins → result ≡ conjunction pins }
     {
@@ -90,7 +90,7 @@ impl Summary {
         }
     }
 
-    /// OR: 1 if some pin is 1, 0 if all pins are 0, else X.
+    /// Returns the value of OR: 1 if some pin is 1, 0 if all pins are 0, else X.
     fn disjunction(&self) -> Value
         ensures { (pins : List Value) → self.now ≡ summary_of pins → result ≡ disjunction pins }
     {
@@ -103,7 +103,7 @@ impl Summary {
         }
     }
 
-    /// XOR: X if some pin is X, else 1 where the number of 1s is odd, else 0.
+    /// Returns the value of XOR: X if some pin is X, else 1 if the number of 1s is odd, else 0.
     fn parity(&self) -> Value
         ensures { (pins : List Value) → self.now ≡ summary_of pins → result ≡ parity pins }
     {

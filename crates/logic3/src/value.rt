@@ -12,7 +12,7 @@ impl Value {
     ghost use Rattle.std.specs.Prelude.{◌≡◌};
     ghost use Rattle.logic3.specs.Value.{opposite, value_text};
 
-    /// How a value is written, in a dump as in stimuli: `0`, `1`, and `x` for one that isn't known.
+    /// Returns the value as dumps and stimuli write it: `0`, `1`, or `x` for an unknown one.
     pub fn text(self) -> &'static str
         ensures { result.now ≡ value_text self }
     {
@@ -23,7 +23,7 @@ impl Value {
         }
     }
 
-    /// 0 and 1 exchanged, X kept.
+    /// Returns the value with 0 and 1 exchanged; X stays X.
     pub(crate) fn opposite(self) -> Value
         ensures { result ≡ opposite self }
     {

@@ -27,7 +27,7 @@ impl Model for Waveform {
 impl Waveform {
     ghost use Rattle.logic3.specs.Wave.{value_at, last_value, joined, changes_below, without_below, IsWave};
 
-    /// X at every tick.
+    /// Makes a waveform that is X at every tick.
     pub fn new(alloc: Global) -> Self
         ensures { result ≡ record { before = Unknown; changes = [] } }
     {
@@ -37,15 +37,15 @@ impl Waveform {
         }
     }
 
-    /// The value before the first change.
+    /// Returns the value before the first change.
     pub fn before(&self) -> Value
         ensures { result ≡ self.now.before }
     {
         self.before
     }
 
-    /// The changes in order: their ticks rise strictly, and the value of each differs from the one
-    /// before it, that of the first from [`before`](Self::before).
+    /// Returns the changes in order: their ticks rise strictly, and the value of each differs from the
+    /// one before it, that of the first from [`before`](Self::before).
     pub fn changes(&self) -> &[Change]
         ensures changes { result.now ≡ self.now.changes }
         ensures alternates { IsWave self.now }
@@ -53,7 +53,8 @@ impl Waveform {
         self.changes.as_slice()
     }
 
-    /// The value at a tick: that of the last change that is not after it, else the value before.
+    /// Returns the value at a tick: that of the last change that is not after it, else the value before
+    /// the first.
     ///
     /// Takes logarithmic time.
     pub fn value_at(&self, tick: u64) -> Value
@@ -62,7 +63,7 @@ impl Waveform {
         value_after(self.before, self.changes.as_slice(), tick)
     }
 
-    /// The value of the last change, or the value before where there is none.
+    /// Returns the value of the last change, or the value before the first if there is none.
     pub fn last_value(&self) -> Value
         ensures { result ≡ last_value self.now }
     {
@@ -74,7 +75,7 @@ impl Waveform {
 
     /// Adds a change at the end.
     ///
-    /// An `AllocError` leaves the waveform as it was.
+    /// An `AllocError` leaves the waveform unchanged.
     pub fn push(&mut self, change: Change) -> Result<(), AllocError>
         requires later { All (λ earlier. earlier.tick < change.tick) self.old.changes }
         requires differs { change.value ≢ last_value self.old }
@@ -85,10 +86,10 @@ impl Waveform {
         Ok(())
     }
 
-    /// Takes out the changes before a tick, and returns them in order. The value before the others
+    /// Removes the changes before a tick, and returns them in order. The value before the first change
     /// becomes that of the last of them, if any.
     ///
-    /// If there are none it takes no memory. An `AllocError` leaves the waveform as it was.
+    /// If there are none, it allocates nothing. An `AllocError` leaves the waveform unchanged.
     pub fn split_below(&mut self, tick: u64) -> Result<Vec<Change>, AllocError>
         ensures below { IfOk result (λ below. below.items ≡ changes_below tick self.old.changes) }
         ensures rest { OnOk result (self.new ≡ without_below tick self.old) }
@@ -100,11 +101,12 @@ impl Waveform {
         Ok(below)
     }
 
-    /// Takes out the changes before a tick as [`split_below`](Self::split_below) does, and adds them in
+    /// Removes the changes before a tick as [`split_below`](Self::split_below) does, and adds them in
     /// order to the end of a list.
     ///
-    /// Takes a step for each of them, on the whole: one comparison, where there is none. Where there is
-    /// none it takes no memory. An `AllocError` leaves the waveform and the list as they were.
+    /// Takes amortized time in proportion to the changes that it removes. If there are none, it makes
+    /// one comparison and allocates nothing. An `AllocError` leaves the waveform and the list
+    /// unchanged.
     pub fn split_below_into(&mut self, tick: u64, below: &mut Vec<Change>) -> Result<(), AllocError>
         ensures below { OnOk result (below.new.items ≡ below.old.items ++ changes_below tick self.old.changes) }
         ensures rest { OnOk result (self.new ≡ without_below tick self.old) }
@@ -124,7 +126,7 @@ impl Waveform {
         Ok(())
     }
 
-    /// An equal waveform, on the same allocator.
+    /// Returns an equal waveform, on the same allocator.
     pub fn copy(&self) -> Result<Waveform, AllocError>
         ensures { IfOk result (λ copy. copy ≡ self.now) }
     {

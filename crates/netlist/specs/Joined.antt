@@ -1,4 +1,4 @@
--- The netlist that its stored parts make.
+-- The netlist that is made of its stored parts.
 use Rattle.std.specs.Prelude.{◌≡◌, ℕ, List, length, map}
 use Rattle.std.specs.List.{zip}
 use Rattle.netlist.specs.declared.netlist.Net.{Net}

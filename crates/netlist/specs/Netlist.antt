@@ -16,7 +16,7 @@ pub record NetlistView : Type 0 where
   pub nets : List NetView
   pub outputs : List ℕ
 
--- the most nets that a netlist may have, and the most pins that they may have in all
+-- the largest number of nets in a netlist, and the largest number of pins that they have together
 abbrev pub most_nets : ℕ
 most_nets = 100_000
 
@@ -30,7 +30,7 @@ all_pins nets = flat_map (λ (net : NetView). net.pins) nets
 abbrev pub pin_count : NetlistView → ℕ
 pin_count netlist = sum_by (λ (net : NetView). length net.pins) netlist.nets
 
--- what is asked of a netlist, wherever it comes from
+-- the conditions on every netlist
 pub record IsNetlist (netlist : NetlistView) : Type 0 where
   pub names : All (λ (net : NetView). IsName net.name) netlist.nets
   pub distinct : AllPairs (λ (earlier later : NetView). earlier.name ≢ later.name) netlist.nets
@@ -42,14 +42,14 @@ pub record IsNetlist (netlist : NetlistView) : Type 0 where
   pub net_limit : length netlist.nets ≤ most_nets
   pub pin_limit : pin_count netlist ≤ most_pins
 
--- the number of the net of this name
+-- the number of the net with this name
 abbrev pub net_named : NetlistView → List ℕ → Option ℕ
 net_named netlist name = position (λ (net : NetView). bytes_eq net.name name) netlist.nets
 
--- the net of a number; what stands for it past the last net is of no concern
+-- the net with a number; past the last net, the result doesn't matter
 abbrev pub net_at : NetlistView → ℕ → NetView
 net_at netlist number = slice_index_or netlist.nets number (record { name = []; part = Input; pins = [] })
 
--- the name of the net of a number
+-- the name of the net with a number
 abbrev pub name_at : NetlistView → ℕ → List ℕ
 name_at netlist number = (net_at netlist number).name

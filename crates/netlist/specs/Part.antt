@@ -4,7 +4,7 @@ use Rattle.logic3.specs.declared.gates.GateKind.TheVariants.{Not, Buf}
 use Rattle.netlist.specs.declared.part.Part.{Part}
 use Rattle.netlist.specs.declared.part.Part.TheVariants.{Input, Gate, Flop}
 
--- how many pins a part may have
+-- the numbers of pins that a part may have
 abbrev pub takes_pins : Part → ℕ → Bool
 takes_pins Input pins = pins == 0
 takes_pins (Gate Not) pins = pins == 1

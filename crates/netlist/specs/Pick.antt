@@ -8,7 +8,7 @@ use Rattle.netlist.specs.Netlist.{NetView, NetlistView, net_at}
 abbrev pub place_in : List ℕ → ℕ → ℕ
 place_in keep number = position_or_len (λ kept. kept == number) keep
 
--- the net of this number, its pins by their places among those that are kept
+-- the net with this number, its pins by their places among those that are kept
 abbrev pub picked_net : NetlistView → List ℕ → ℕ → NetView
 picked_net netlist keep number =
     let net = net_at netlist number in

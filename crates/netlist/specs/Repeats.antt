@@ -1,7 +1,7 @@
 -- Lists of numbers without repeats.
 use Rattle.std.specs.Prelude.{ℕ, ◌==◌, not, List, [], ◌∷◌, filter}
 
--- each number where it stands first
+-- each number at its first place
 abbrev pub distinct : List ℕ → List ℕ
 distinct [] = []
 distinct (n ∷ numbers) = n ∷ filter (λ m. not (m == n)) (distinct numbers)

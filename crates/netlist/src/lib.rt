@@ -1,4 +1,4 @@
-//! Netlists: what drives each net and what stands at its pins, by number, under names.
+//! Netlists: the name of each net, what drives it, and the numbers of the nets at its pins.
 #![tactic(auto)]
 
 mod names;

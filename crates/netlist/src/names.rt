@@ -5,7 +5,7 @@ use indexmap::IndexSet;
 use std::alloc::{AllocError, Global};
 use std::marker::Model;
 
-/// Distinct names, numbered from 0 in the order in which they came.
+/// Distinct names, numbered from 0 in the order in which they were added.
 #[derive(Debug, Drop)]
 pub struct Names {
     set: IndexSet<Vec<u8>>,
@@ -23,7 +23,7 @@ impl Model for Names {
 }
 
 impl Names {
-    /// No names.
+    /// Makes an empty list of names.
     pub fn new(alloc: Global) -> Names
         ensures { result ≡ [] }
     {
@@ -32,7 +32,7 @@ impl Names {
         }
     }
 
-    /// How many names there are: few enough for numbers of 32 bits.
+    /// Returns the number of names, which fits in 32 bits.
     pub fn len(&self) -> usize
         ensures len { result ≡ length self.now }
         ensures well_formed { IsNames self.now }
@@ -40,7 +40,7 @@ impl Names {
         self.set.len()
     }
 
-    /// The name of this number.
+    /// Returns the name with this number.
     pub fn name(&self, number: u32) -> &[u8]
         requires { number < length self.now }
         ensures { slice_get self.now number ≡ Some result.now }
@@ -48,7 +48,7 @@ impl Names {
         self.set.as_slice()[number as usize].as_slice()
     }
 
-    /// The number of a name.
+    /// Returns the number of a name, if it is among the names.
     pub fn find(&self, name: &[u8]) -> Option<u32>
         ensures { result ≡ position (bytes_eq name.now) self.now }
     {
@@ -56,10 +56,10 @@ impl Names {
         Some(index as u32)
     }
 
-    /// Adds a name that isn't among the names, and whose number is the length before. There is room
-    /// for names with numbers of 32 bits.
+    /// Adds a name that isn't among the names yet; its number is the length before the call. All
+    /// numbers fit in 32 bits.
     ///
-    /// An `AllocError` leaves the names as they were.
+    /// An `AllocError` leaves the names unchanged.
     pub fn push(&mut self, name: &[u8]) -> Result<(), AllocError>
         requires new { position (bytes_eq name.now) self.old ≡ None }
         requires room { length self.old < 2 ^ 32 }

@@ -9,10 +9,10 @@ use smallvec::SmallVec;
 use std::alloc::{AllocError, Global};
 use std::marker::Model;
 
-/// The most nets that a netlist may have.
+/// The largest number of nets in a netlist.
 pub const MOST_NETS: usize = 100_000;
 
-/// The most pins that the nets may have in all.
+/// The largest number of pins that all nets have together.
 pub const MOST_PINS: usize = 1_000_000;
 
 /// What drives a net, and the numbers of the nets at its pins.
@@ -25,8 +25,8 @@ pub struct Net {
 /// Nets in the order of their definitions, numbered from 0, and the nets that are outputs.
 ///
 /// There is at least one net, names are distinct, each part has as many pins as it takes, each pin
-/// and each output is a net, and no output stands twice. A method that takes the number of a net
-/// asks for one below [`nets`](Self::nets).
+/// and each output is a net, and no output is listed twice. A method that takes the number of a net
+/// requires one below [`nets`](Self::nets).
 #[derive(Debug, Drop)]
 pub struct Netlist {
     names: Names,
@@ -47,8 +47,8 @@ impl Model for Netlist {
 }
 
 impl Netlist {
-    /// The netlist of these names, each with its net, and these outputs, which together are as
-    /// [`Netlist`] says.
+    /// Makes the netlist of these names, each with its net, and these outputs. They meet the
+    /// conditions of [`Netlist`].
     pub fn new(names: Names, nets: Vec<Net>, outputs: Vec<u32>) -> Netlist
         requires same_length { length names ≡ length nets.items }
         requires well_formed { IsNetlist (netlist_view names nets.items outputs.items) }
@@ -61,7 +61,7 @@ impl Netlist {
         }
     }
 
-    /// How many nets there are: 1 to 100,000.
+    /// Returns the number of nets: 1 to 100,000.
     pub fn nets(&self) -> u32
         ensures nets { result ≡ length self.now.nets }
         ensures well_formed { IsNetlist self.now }
@@ -69,7 +69,7 @@ impl Netlist {
         self.nets.len() as u32
     }
 
-    /// The name of a net.
+    /// Returns the name of a net.
     pub fn name(&self, net: u32) -> &[u8]
         requires { net < length self.now.nets }
         ensures { result.now ≡ (net_at self.now net).name }
@@ -77,7 +77,7 @@ impl Netlist {
         self.names.name(net)
     }
 
-    /// What drives a net.
+    /// Returns what drives a net.
     pub fn part(&self, net: u32) -> Part
         requires { net < length self.now.nets }
         ensures { result ≡ (net_at self.now net).part }
@@ -85,7 +85,7 @@ impl Netlist {
         self.nets[net as usize].part
     }
 
-    /// The numbers of the nets at a net's pins, in order.
+    /// Returns the numbers of the nets at a net's pins, in order.
     pub fn pins_of(&self, net: u32) -> &[u32]
         requires { net < length self.now.nets }
         ensures { result.now ≡ (net_at self.now net).pins }
@@ -93,10 +93,10 @@ impl Netlist {
         self.nets[net as usize].pins.as_slice()
     }
 
-    /// The numbers of the nets at the pins of all nets, net after net, in order.
+    /// Returns the numbers of the nets at the pins of all nets, net after net, in order.
     ///
     /// # Errors
-    /// An `AllocError` where a growth was refused.
+    /// `AllocError` if an allocation fails.
     pub fn all_pins(&self, alloc: Global) -> Result<Vec<u32>, AllocError>
         ensures { IfOk result (λ pins. pins.items ≡ all_pins self.now.nets) }
     {
@@ -107,7 +107,7 @@ impl Netlist {
         Ok(pins)
     }
 
-    /// The numbers of the outputs, in order, each once.
+    /// Returns the numbers of the outputs, in order and without repeats.
     pub fn outputs(&self) -> &[u32]
         ensures outputs { result.now ≡ self.now.outputs }
         ensures well_formed { IsNetlist self.now }
@@ -115,14 +115,14 @@ impl Netlist {
         self.outputs.as_slice()
     }
 
-    /// The number of the net that has this name.
+    /// Returns the number of the net with this name, if any.
     pub fn find(&self, name: &[u8]) -> Option<u32>
         ensures { result ≡ net_named self.now name.now }
     {
         self.names.find(name)
     }
 
-    /// The names of nets whose numbers rise, in order.
+    /// Returns the names of nets whose numbers rise, in order.
     pub(crate) fn names_of(&self, alloc: Global, nets: &[u32]) -> Result<Names, AllocError>
         requires rising { Rises nets.now }
         requires nets { All (λ net. net < length self.now.nets) nets.now }

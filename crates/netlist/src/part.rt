@@ -13,21 +13,21 @@ pub enum Part {
 }
 
 impl Part {
-    /// Whether it is an input.
+    /// Returns whether it is an input.
     pub fn is_input(self) -> bool
         ensures { result ≡ is_input self }
     {
         matches!(self, Part::Input)
     }
 
-    /// Whether it is a gate.
+    /// Returns whether it is a gate.
     pub fn is_gate(self) -> bool
         ensures { result ≡ is_gate self }
     {
         matches!(self, Part::Gate(_))
     }
 
-    /// Whether it is a flip-flop.
+    /// Returns whether it is a flip-flop.
     pub fn is_flop(self) -> bool
         ensures { result ≡ is_flop self }
     {

@@ -10,15 +10,15 @@ use smallvec::SmallVec;
 use std::alloc::{AllocError, Global};
 
 impl Netlist {
-    /// The nets of these numbers in this order, with these outputs, as a netlist of their own. Each
-    /// keeps its name and what drives it; its pins are the same nets by their new numbers, which
-    /// are their places in `keep`.
+    /// Returns the nets with these numbers in this order, with these outputs, as a netlist of their
+    /// own. Each keeps its name and what drives it. Its pins are the same nets by their new numbers,
+    /// which are their places in `keep`.
     ///
-    /// `keep` has at least one number, its numbers rise, and it has each net at a pin of a net that
-    /// it has. Each output is in `keep` too, and none stands twice.
+    /// `keep` has at least one number, its numbers rise, and it contains each net at a pin of a net
+    /// that it contains. Each output is in `keep` too, and none is listed twice.
     ///
-    /// Takes time in proportion to the nets that are kept, and for each of their pins and for each
-    /// output logarithmic time. It is an `AllocError` where memory is refused.
+    /// Takes time in proportion to the nets that are kept, and logarithmic time for each of their pins
+    /// and for each output. Returns `AllocError` if an allocation fails.
     pub fn pick(&self, alloc: Global, keep: &[u32], outputs: &[u32]) -> Result<Netlist, AllocError>
         requires some { 0 < length keep.now }
         requires rising { Rises keep.now }
@@ -36,7 +36,7 @@ impl Netlist {
     }
 }
 
-/// What drives these nets, in order, and their pins by the new numbers.
+/// Returns what drives these nets, in order, and their pins by the new numbers.
 fn nets_of(alloc: Global, netlist: &Netlist, keep: &[u32]) -> Result<Vec<Net>, AllocError>
     requires rising { Rises keep.now }
     requires nets { All (λ number. number < length netlist.now.nets) keep.now }
@@ -55,7 +55,7 @@ fn nets_of(alloc: Global, netlist: &Netlist, keep: &[u32]) -> Result<Vec<Net>, A
     Ok(nets)
 }
 
-/// Makes each number its place among those that are kept.
+/// Replaces each number by its place among those that are kept.
 fn renumber(numbers: &mut [u32], keep: &[u32])
     requires rising { Rises keep.now }
     requires kept { All (Contains keep.now) numbers.old }
@@ -66,7 +66,7 @@ fn renumber(numbers: &mut [u32], keep: &[u32])
     }
 }
 
-/// The place of a number among those that are kept. Takes logarithmic time.
+/// Returns the place of a number among those that are kept. Takes logarithmic time.
 fn place_in(number: u32, keep: &[u32]) -> u32
     requires rising { Rises keep.now }
     requires kept { Contains keep.now number }

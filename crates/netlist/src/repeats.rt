@@ -4,10 +4,10 @@ ghost use Rattle.netlist.specs.Repeats.{distinct};
 
 use std::alloc::{AllocError, Global};
 
-/// Each of these numbers, which are below `bound`, where it stands first.
+/// Returns each of these numbers, which are below `bound`, at its first place.
 ///
-/// Takes time and memory in proportion to `bound` and to how many numbers there are. It is an
-/// `AllocError` where memory is refused.
+/// Takes time and memory in proportion to `bound` and to the number of numbers. Returns `AllocError`
+/// if an allocation fails.
 pub fn without_repeats(alloc: Global, numbers: &[u32], bound: usize) -> Result<Vec<u32>, AllocError>
     requires { All (λ number. number < bound) numbers.now }
     ensures { IfOk result (λ kept. kept.items ≡ distinct numbers.now) }

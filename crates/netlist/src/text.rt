@@ -5,11 +5,11 @@ ghost use Rattle.netlist.specs.Text.{names_behind};
 use crate::netlist::Netlist;
 use std::alloc::AllocError;
 
-/// Adds the names of these nets to a text, a blank before each.
+/// Adds the names of these nets to a text, with a space before each.
 ///
 /// # Errors
 ///
-/// Where memory is wanting; a first part may stand in the text then.
+/// `AllocError` if an allocation fails; a prefix of the names may have been added.
 pub fn push_names(text: &mut Vec<u8>, netlist: &Netlist, nets: &[u32]) -> Result<(), AllocError>
     requires { All (λ net. net < length netlist.now.nets) nets.now }
     ensures { OnOk result (text.new.items ≡ text.old.items ++ names_behind netlist.now nets.now) }

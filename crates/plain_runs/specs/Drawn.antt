@@ -32,7 +32,7 @@ diagram_of_source source view = do
   ready ← or_fault Run (design_of_source source view.horizon)
   or_fault Run (if_known view.show (ready.1).netlist (diagram_of_design view ticks ready.1))
 
--- a failed write broke the diagram off, and a want of memory the run; any other fault is the answer, and nothing went out
+-- a failed write ended the diagram, or a failed allocation the run; any other fault is the answer, and nothing has been written
 abbrev pub DiagramEndsBy : Result (List ℕ) DiagramFault → Option (List ℕ) → Option (List ℕ) → DiagramFault → Type 0
 DiagramEndsBy answer old new (Run (Dump fault)) = IsFailedWrite fault × IsOkAnd answer (AppendsPrefix old new)
 DiagramEndsBy answer old new (Run Memory) = WritesPart answer old new

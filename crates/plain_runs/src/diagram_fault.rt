@@ -9,13 +9,13 @@ use timing_text::OptionFault;
 
 /// Why the timing diagram of a run ended early.
 ///
-/// The horizon and the ticks that are to be drawn come before all else.
+/// The horizon and the ticks to be drawn are checked before all else.
 #[derive(Clone, Copy, Debug, PartialEq, Eq, Error)]
 pub enum DiagramFault {
     /// The ticks can't be drawn.
     #[error("{0}")]
     Columns(ColumnsFault),
-    /// The run is refused, its horizon among its settings; or the diagram broke off.
+    /// The run is refused, its horizon among its settings, or writing the diagram failed.
     #[error("{0}")]
     Run(SimFault),
 }

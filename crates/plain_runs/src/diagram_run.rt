@@ -30,20 +30,20 @@ pub struct DiagramView<'a> {
     pub from: u64,
     /// The last tick that is drawn: at most the horizon.
     pub to: u64,
-    /// How many ticks a column has: at least 1, and so many that there are at most 1,000 columns.
+    /// The number of ticks of a column: at least 1, and enough for at most 1,000 columns.
     pub step: u64,
     pub form: Form,
 }
 
-/// Writes the timing diagram of a run, which goes by the plain engine to its horizon.
+/// Writes the timing diagram of a run, which the plain engine computes up to its horizon.
 ///
 /// A column shows what the equations give the net at the column's ticks.
 ///
 /// # Errors
-/// The horizon and the columns ([`DiagramFault::Columns`]) are looked at first, then the settings and the
-/// texts, and then the names of nets that are to be shown ([`SimFault::UnknownNet`]); a refusal comes
-/// before the first byte is written, and the diagram is made whole before that. After a failed write a
-/// first part of it went out.
+/// The horizon and the columns ([`DiagramFault::Columns`]) are checked first, then the settings and the
+/// texts, and then the names of nets to be shown ([`SimFault::UnknownNet`]). A refusal comes before the first
+/// byte is written, since the whole diagram is made before that. If a write fails, a prefix of it has been
+/// written.
 pub fn diagram<W: Write>(
     alloc: Global,
     source: &Source<'_>,
@@ -63,7 +63,7 @@ pub fn diagram<W: Write>(
     Ok(())
 }
 
-/// The columns of a diagram.
+/// Returns the columns of a diagram.
 fn columns_of(view: &DiagramView<'_>) -> Result<Columns, DiagramFault>
     ensures exact { result ≡ ticks_of_view view.now }
     ensures drawable { IfOk result IsDrawable }
@@ -74,7 +74,7 @@ fn columns_of(view: &DiagramView<'_>) -> Result<Columns, DiagramFault>
     Ok(Columns::new(view.from, view.to, view.step, horizon)?)
 }
 
-/// Runs a design by the plain engine, and draws these nets, which are those that are shown.
+/// Runs a design by the plain engine, and draws these nets, which are the shown ones.
 fn draw_design<W: Write>(
     alloc: Global,
     design: &Design,

@@ -23,12 +23,12 @@ use timing_text::Horizon;
 
 /// Writes the dump of a run.
 ///
-/// The text that goes out shows each shown net's value at every tick, as the equations give it.
+/// The text shows each shown net's value at every tick, as the equations give it.
 ///
 /// # Errors
-/// A refusal of the settings or of a text comes before the first byte is written; the settings and
-/// the length of the netlist's text are looked at before any memory is taken. After a failed write
-/// or a want of memory a first part of the dump went out, which may be nothing.
+/// A refusal of the settings or of a text comes before the first byte is written; the settings and the length
+/// of the netlist's text are checked before any memory is taken. If a write or an allocation fails, a prefix
+/// of the dump has been written, which may be empty.
 pub fn plain<W: Write>(
     alloc: Global,
     source: &Source<'_>,
@@ -47,12 +47,12 @@ pub fn plain<W: Write>(
     plain_with_progress(alloc, source, &DumpView::of(view), out, &mut Silent)
 }
 
-/// Writes the dump of a run, as [`plain`] does, and tells how far the run is: each number of ticks, from 0
-/// on, once so many are known, and so many as the run has at last. The dump goes out behind that.
+/// Writes the dump of a run, as [`plain`] does, and reports its progress: each number of ticks, from 0 on,
+/// once that many are known, up to all ticks of the run. The dump is written after that.
 ///
 /// # Errors
-/// As [`plain`], and behind its refusals [`SimFault::UnknownNet`], where no net has a name that is to be
-/// shown. Nothing is told of a source or a view that is refused.
+/// As for [`plain`], and after its refusals [`SimFault::UnknownNet`] if no net has one of the names to be
+/// shown. No progress is reported for a source or a view that is refused.
 pub fn plain_with_progress<W: Write, P: Progress>(
     alloc: Global,
     source: &Source<'_>,
@@ -83,7 +83,7 @@ pub fn plain_with_progress<W: Write, P: Progress>(
     )
 }
 
-/// Runs a design by the plain engine, and writes the dump of these nets, which are those that are shown.
+/// Runs a design by the plain engine, and writes the dump of these nets, which are the shown ones.
 fn dump_by_plain_engine<W: Write, P: Progress>(
     alloc: Global,
     design: &Design,
@@ -105,7 +105,7 @@ fn dump_by_plain_engine<W: Write, P: Progress>(
     write_dump(alloc, design, horizon, view, nets, waves.as_slice(), out)
 }
 
-/// The waveforms of the nets that are shown; tells how far the engine is with all of them.
+/// Returns the waveforms of the shown nets, and reports the engine's progress.
 pub(crate) fn shown_waves<P: Progress>(
     alloc: Global,
     design: &Design,
@@ -126,7 +126,7 @@ pub(crate) fn shown_waves<P: Progress>(
     }
 }
 
-/// The waveforms of all nets, in their order; tells how far the engine is.
+/// Returns the waveforms of all nets, in their order, and reports the engine's progress.
 fn all_waves<P: Progress>(
     alloc: Global,
     design: &Design,
@@ -146,7 +146,7 @@ fn all_waves<P: Progress>(
     Ok(waves)
 }
 
-/// Copies of the waveforms of these nets.
+/// Returns copies of the waveforms of these nets.
 fn copies(alloc: Global, waves: &[Waveform], nets: &[u32]) -> Result<Vec<Waveform>, AllocError>
     requires { All (λ net. net < length waves.now) nets.now }
     ensures { IfOk result (λ copies. copies.items ≡ map (wave_at waves.now) nets.now) }

@@ -10,12 +10,12 @@ use design::plain_waves;
 use prepared_runs::{SimFault, Source, net_named, prepare};
 use std::alloc::Global;
 
-/// The lines that say why the net of a name has its value at a tick, as [`causes::why_text`] tells them.
-/// The run goes to that tick, by the plain engine.
+/// Returns the lines that state why the net of a name has its value at a tick, as [`causes::why_text`] writes
+/// them. The plain engine computes the run up to that tick.
 ///
 /// # Errors
-/// A refusal of the settings or of a text, the tick among them as the horizon, and
-/// [`SimFault::UnknownNet`] where there is no net of this name.
+/// A refusal of the settings or of a text, the tick among them as the horizon, and [`SimFault::UnknownNet`]
+/// if there is no net of this name.
 pub fn why(alloc: Global, source: &Source<'_>, name: &[u8], tick: u64) -> Result<Vec<u8>, SimFault>
     ensures ok { IfOk result (λ text. why_of_source (seen_source source.now) name.now tick ≡ Ok text.items) }
     ensures err { IfErr result (IsRefusal (why_of_source (seen_source source.now) name.now tick)) }

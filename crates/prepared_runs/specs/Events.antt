@@ -1,4 +1,4 @@
--- The events that come before a run completes.
+-- The events that are applied before a run completes.
 use Rattle.std.specs.Prelude.{ℕ, List, [], Result, Ok}
 use Rattle.design.specs.Circuit.{Circuit}
 use Rattle.cmb_events.specs.declared.event.Event.{Event}

@@ -1,4 +1,4 @@
--- What a fault of a run tells, its name and its line, and how a layer's fault comes out of a run.
+-- What a fault of a run reports, its name and its line, and how a run reports a layer's fault.
 use Rattle.std.specs.Prelude.{ℕ, List, codes}
 use Rattle.bench_text.specs.Faults as of_bench
 use Rattle.timing_text.specs.Faults.{delay_line, delay_name, option_name, stimulus_line, stimulus_name}
@@ -19,7 +19,7 @@ use Rattle.vcd_dump.specs.declared.fault.DumpFault.TheVariants as dump
 use Rattle.prepared_runs.specs.declared.fault.SimFault.{SimFault}
 use Rattle.prepared_runs.specs.declared.fault.SimFault.TheVariants.{Setting, Bench, Timing, Stimulus, Schedule, UnknownNet, Dump, Memory}
 
--- the line that a fault names, and 0 for one without a line
+-- the line that a fault names, or 0 if it names none
 abbrev pub line_of : SimFault → ℕ
 line_of (Bench fault) = of_bench.line_of fault
 line_of (Timing fault) = delay_line fault
@@ -37,7 +37,7 @@ name_of UnknownNet = codes "UnknownNet"
 name_of (Dump fault) = of_dump.name_of fault
 name_of Memory = codes "Memory"
 
--- ---- want of memory in any layer is the run's own
+-- ---- out of memory in any layer is the run's own fault
 
 abbrev pub sim_of_bench : BenchFault → SimFault
 sim_of_bench bench.Memory = Memory

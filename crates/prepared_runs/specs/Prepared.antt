@@ -9,7 +9,7 @@ use Rattle.prepared_runs.specs.Events.{events_of_picks}
 use Rattle.prepared_runs.specs.Faults.{sim_of_schedule}
 use Rattle.prepared_runs.specs.Source.{SourceView, design_of_source, or_fault}
 
--- a run: its horizon, its design, and the events that come before it completes
+-- a run: its horizon, its design, and the events that are applied before it completes
 pub record RunView : Type 0 where
   pub horizon : ℕ
   pub design : DesignView

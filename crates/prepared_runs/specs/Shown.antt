@@ -5,7 +5,7 @@ use Rattle.logic3.specs.Wave.{Wave, wave_of}
 use Rattle.design.specs.Circuit.{Circuit}
 use Rattle.design.specs.Equations.{value_of}
 
--- the waveform of a net; what stands for it past the last one is of no concern
+-- the waveform of a net; past the last one it doesn't matter
 abbrev pub wave_at : List Wave → ℕ → Wave
 wave_at waves net = slice_index_or waves net (record { before = Unknown; changes = [] })
 

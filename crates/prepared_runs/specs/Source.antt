@@ -51,13 +51,13 @@ shown_nets All netlist = range_with_len 0 (length netlist.nets)
 shown_nets Outputs netlist = netlist.outputs
 shown_nets (Named names) netlist = distinct (filter_map (net_named netlist) (seen_names names.items))
 
--- each name of a net that is to be shown is that of a net
+-- each name of a net to be shown is that of a net
 abbrev pub knows_shown : Selection → NetlistView → Bool
 knows_shown All netlist = true
 knows_shown Outputs netlist = true
 knows_shown (Named names) netlist = is_none (first_unknown netlist (seen_names names.items))
 
--- an answer, unless a net that is to be shown isn't there
+-- an answer, unless a net to be shown doesn't exist
 abbrev pub if_known : {A : Type 0} → Selection → NetlistView → A → Result A SimFault
 if_known show netlist answer = if knows_shown show netlist then Ok answer else Err UnknownNet
 
@@ -77,7 +77,7 @@ or_fault lifted result = result_map_both (λ value. value) lifted result
 abbrev pub net_or_unknown : DesignView → List ℕ → Result ℕ SimFault
 net_or_unknown design name = ok_or (net_named design.netlist name) UnknownNet
 
--- a run may find memory wanting only once its settings are in their ranges and its netlist's text isn't too long
+-- a run may run out of memory only if its settings are in their ranges and its netlist's text isn't too long
 pub record MayWantMemory (source : SourceView) (ticks : ℕ) : Type 0 where
   pub settings : IsOk (options_of source.default_delay source.period)
   pub horizon : IsOk (horizon_of ticks)

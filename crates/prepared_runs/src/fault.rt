@@ -15,8 +15,9 @@ use vcd_dump::DumpFault;
 
 /// Why a run ended early.
 ///
-/// The first fault decides: the settings (default delay, period, horizon), the netlist, the delays,
-/// the stimuli, the schedule, the names of nets. A want of memory of any layer is [`Memory`](Self::Memory).
+/// The first fault is reported, in this order: the settings (default delay, period, horizon), the netlist,
+/// the delays, the stimuli, the schedule, the names of nets. If an allocation of any layer fails, the fault
+/// is [`Memory`](Self::Memory).
 #[derive(Clone, Copy, Debug, PartialEq, Eq, Error)]
 pub enum SimFault {
     Setting(OptionFault),
@@ -24,16 +25,16 @@ pub enum SimFault {
     Timing(DelayFault),
     Stimulus(StimulusFault),
     Schedule(ScheduleFault),
-    /// No net has a name that was asked for.
+    /// No net has one of the names asked for.
     UnknownNet,
-    /// The dump broke off.
+    /// Writing the dump failed.
     Dump(DumpFault),
-    /// A growth was refused.
+    /// An allocation failed.
     Memory,
 }
 
 impl SimFault {
-    /// The line that the fault names, from 1, and 0 for one without a line.
+    /// Returns the line that the fault names, from 1, or 0 if it names none.
     pub fn line(&self) -> u64
         ensures { result ≡ line_of self.now }
     {
@@ -46,7 +47,7 @@ impl SimFault {
         }
     }
 
-    /// The fault's name, which is its text.
+    /// Returns the fault's name, which is its text.
     pub fn name(&self) -> &'static str
         ensures { result.now ≡ name_of self.now }
     {
@@ -124,7 +125,8 @@ impl From<ScheduleFault> for SimFault {
     }
 }
 
-/// A run's kernel wants nothing but memory: the events of a schedule are few, and all are there.
+/// A run's kernel can only run out of memory: a schedule doesn't have too many events, and each names a pin
+/// or a net that exists.
 impl From<KernelFault> for SimFault {
     ghost from_gives = { λ _ e. e ≡ sim.Memory };
 

@@ -12,10 +12,10 @@ use fanin_cone::net_numbers;
 use netlist::without_repeats;
 use std::alloc::{AllocError, Global};
 
-/// The numbers of the nets that are shown, in their order.
+/// Returns the numbers of the nets that are shown, in their order.
 ///
 /// # Errors
-/// [`SimFault::UnknownNet`] where no net has one of the names.
+/// [`SimFault::UnknownNet`] if no net has one of the names.
 pub fn shown_nets(
     alloc: Global,
     design: &Design,
@@ -38,20 +38,20 @@ pub fn shown_nets(
     }
 }
 
-/// The number of the net of this name.
+/// Returns the number of the net of this name.
 ///
 /// # Errors
-/// [`SimFault::UnknownNet`] where there is none.
+/// [`SimFault::UnknownNet`] if there is none.
 pub fn net_named(design: &Design, name: &[u8]) -> Result<u32, SimFault>
     ensures { result ≡ net_or_unknown design.now name.now }
 {
     design.find(name).ok_or(SimFault::UnknownNet)
 }
 
-/// For each of so many nets whether it is among these.
+/// Returns for each of this number of nets whether it is among these.
 ///
 /// # Errors
-/// A growth was refused.
+/// An allocation failed.
 pub fn marks_of(alloc: Global, nets: u32, among: &[u32]) -> Result<Vec<bool>, AllocError>
     requires { All (λ net. net < nets) among.now }
     ensures size { IfOk result (λ marks. length marks.items ≡ nets) }

@@ -21,14 +21,14 @@ pub struct PreparedRun {
     /// Its last tick.
     pub horizon: Horizon,
     pub design: Design,
-    /// The events that come before it completes.
+    /// The events that are applied before it completes.
     pub schedule: Schedule,
 }
 
-/// The run of a source to a horizon in ticks.
+/// Prepares the run of a source to a horizon in ticks.
 ///
 /// # Errors
-/// The refusals of [`prepare`], and behind them [`SimFault::Schedule`] for what picks the events.
+/// The refusals of [`prepare`], and after them [`SimFault::Schedule`] for what picks the events.
 pub fn prepare_run(
     alloc: Global,
     source: &Source<'_>,
@@ -50,12 +50,12 @@ pub fn prepare_run(
     })
 }
 
-/// The design of a source, and the horizon in ticks, which is at most 10,000,000.
+/// Returns the design of a source, and the horizon in ticks, which is at most 10,000,000.
 ///
 /// # Errors
 /// The first refusal: [`SimFault::Setting`] for the default delay, the period and the horizon, then
 /// [`SimFault::Bench`], [`SimFault::Timing`] and [`SimFault::Stimulus`] for the texts. Memory is taken only
-/// once the settings and the length of the netlist's text were looked at.
+/// after the settings and the length of the netlist's text are checked.
 pub fn prepare(
     alloc: Global,
     source: &Source<'_>,
@@ -81,7 +81,7 @@ pub fn prepare(
     Ok((design, horizon))
 }
 
-/// The events that are picked.
+/// Returns the events that are picked.
 fn picked(alloc: Global, picks: Picks<'_>, design: &Design) -> Result<Schedule, ScheduleFault>
     ensures exact { result ≢ Err ScheduleFault.Memory → result ≡ events_of_picks design.now.circuit (seen_picks picks.entry) }
     ensures exist { IfOk result (λ schedule. All (Exists design.now.circuit) schedule) }

@@ -11,11 +11,11 @@ pub struct Source<'a> {
     pub default_delay: u64,
     /// The period in ticks of all flip-flops without a clock line: 1 to 10,000,000.
     pub period: u64,
-    /// The plain engine doesn't read it.
+    /// What picks the events. The plain engine doesn't read it.
     pub picks: Picks<'a>,
 }
 
-/// What picks the events that come before a run completes.
+/// What picks the events that are applied before a run completes.
 #[derive(Clone, Copy, Debug)]
 pub enum Picks<'a> {
     /// There are none.

@@ -23,7 +23,7 @@ pub enum Show {
     Outputs,
 }
 
-/// What of a run its dump shows, where nets may also be shown by their names.
+/// What of a run its dump shows, with nets also selected by their names.
 #[derive(Debug, Drop)]
 pub struct DumpView<'a> {
     /// The last tick: at most 10,000,000.
@@ -40,12 +40,12 @@ pub enum Selection<'a> {
     All,
     /// The outputs, in their order.
     Outputs,
-    /// The nets of these names, in this order; a name that comes again counts where it stands first.
+    /// The nets of these names, in this order; a name that is repeated counts at its first place.
     Named(Vec<&'a [u8]>),
 }
 
 impl DumpView<'static> {
-    /// What shows the same as a view.
+    /// Returns the view of a dump that shows the same as a view.
     pub fn of(view: &View) -> DumpView<'static>
         ensures { result ≡ dump_view view.now }
     {
@@ -58,7 +58,7 @@ impl DumpView<'static> {
 }
 
 impl Selection<'static> {
-    /// The same nets.
+    /// Returns the selection of the same nets.
     fn of(show: Show) -> Selection<'static>
         ensures { result ≡ selection_of show }
     {

@@ -16,7 +16,7 @@ use Rattle.run_notes.specs.declared.remark.Remark.TheVariants.{Undriven, Late, U
 abbrev pub is_undriven : Net → Bool
 is_undriven net = is_input net.part && (length net.stimuli == 0)
 
--- a net that has a stimulus past the horizon; inputs alone have stimuli
+-- a net that has a stimulus after the horizon; only inputs have stimuli
 abbrev pub is_late : ℕ → Net → Bool
 is_late horizon net = list_any (λ (change : Change). nat_lt horizon change.tick) net.stimuli
 
@@ -24,7 +24,7 @@ is_late horizon net = list_any (λ (change : Change). nat_lt horizon change.tick
 abbrev pub is_unknown : ℕ → (ℕ → Value) → Bool
 is_unknown horizon signal = list_all (λ tick. is_same (signal tick) value.Unknown) (range_with_len 0 (horizon + 1))
 
--- the net of this number is such a one
+-- the net of this number has this property
 abbrev pub net_is : (Net → Bool) → Circuit → ℕ → Bool
 net_is test circuit number = option_map_or test (slice_get circuit number) false
 
@@ -34,6 +34,6 @@ is_noted Undriven horizon circuit net = net_is is_undriven circuit net
 is_noted Late horizon circuit net = net_is (is_late horizon) circuit net
 is_noted Unknown horizon circuit net = not (net_is is_undriven circuit net) && is_unknown horizon (value_of circuit net)
 
--- the numbers of the nets that are noted, rising
+-- the numbers of the nets that are noted, in rising order
 abbrev pub noted_nets : Remark → ℕ → Circuit → List ℕ
 noted_nets remark horizon circuit = filter (is_noted remark horizon circuit) (range_with_len 0 (length circuit))

@@ -13,12 +13,12 @@ words_of Undriven = codes "inputs without a stimulus, X throughout"
 words_of Late = codes "inputs with stimuli past the horizon, which play no part"
 words_of Unknown = codes "other nets that are X throughout"
 
--- the line that names some nets; none where there are no nets
+-- the line that names some nets; none if there are no nets
 abbrev pub nets_note : NetlistView → List ℕ → List ℕ → List ℕ
 nets_note netlist words nets =
     if length nets == 0 then [] else (codes "note: " ++ words ++ codes ":" ++ names_behind netlist nets ++ codes "\n")
 
--- the line that tells that there are no outputs, where there are none
+-- the line that there are no outputs, if so
 abbrev pub outputs_note : NetlistView → List ℕ
 outputs_note netlist = if length netlist.outputs == 0 then codes "note: no net is an output\n" else []
 

@@ -1,5 +1,5 @@
-//! What someone should know of a run that succeeded: inputs without a stimulus, stimuli past the horizon,
-//! nets that are X throughout, and that there are no outputs.
+//! Remarks on a completed run: inputs without a stimulus, stimuli after the horizon, nets that are X
+//! throughout, no output.
 #![tactic(auto)]
 
 pub mod laws;

@@ -17,18 +17,18 @@ use prepared_runs::{SimFault, Source, prepare};
 use std::alloc::{AllocError, Global};
 use timing_text::Horizon;
 
-/// What someone should know of a run to this horizon, a line each, in this order, and none where there is nothing to tell:
+/// Returns the notes on a run to this horizon, a line each, in this order, and nothing if there are none:
 ///
 /// - `note: no net is an output`
 /// - `note: inputs without a stimulus, X throughout: a b`
 /// - `note: inputs with stimuli past the horizon, which play no part: e`
 /// - `note: other nets that are X throughout: y z`
 ///
-/// Names stand in the order in which the netlist defines their nets. The run goes by the plain engine; it takes the
-/// memory of all waveforms.
+/// Names are in the order in which the netlist defines their nets. The plain engine computes the run, with
+/// all waveforms in memory.
 ///
 /// # Errors
-/// A refusal of the settings or of a text, as those of any run.
+/// A refusal of the settings or of a text, as for any run.
 pub fn notes_text(alloc: Global, source: &Source<'_>, horizon: u64) -> Result<Vec<u8>, SimFault>
     ensures ok { IfOk result (λ text. notes_of_source (seen_source source.now) horizon ≡ Ok text.items) }
     ensures err { IfErr result (IsRefusal (notes_of_source (seen_source source.now) horizon)) }
@@ -39,7 +39,7 @@ pub fn notes_text(alloc: Global, source: &Source<'_>, horizon: u64) -> Result<Ve
     Ok(design_notes(alloc, &design, ticks, waves.as_slice())?)
 }
 
-/// The notes of a design, where these are the waveforms of all nets to the horizon.
+/// Returns the notes of a design, given the waveforms of all nets to the horizon.
 fn design_notes(
     alloc: Global,
     design: &Design,
@@ -73,7 +73,7 @@ fn push_remark(
     push_nets_note(text, design.netlist(), remark.words(), nets.as_slice())
 }
 
-/// The numbers of the nets that a remark is of, rising.
+/// Returns the numbers of the nets that a remark is about, in rising order.
 fn noted_nets(
     alloc: Global,
     design: &Design,

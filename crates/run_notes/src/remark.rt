@@ -15,14 +15,14 @@ use timing_text::Horizon;
 pub(crate) enum Remark {
     /// Inputs that have no stimulus, and so are X throughout.
     Undriven,
-    /// Inputs that have a stimulus past the horizon.
+    /// Inputs that have a stimulus after the horizon.
     Late,
     /// Other nets that are X throughout.
     Unknown,
 }
 
 impl Remark {
-    /// What a line says of the nets that it names.
+    /// Returns what a line says of the nets that it names.
     pub(crate) fn words(self) -> &'static str
         ensures { result.now ≡ words_of self }
     {
@@ -33,7 +33,7 @@ impl Remark {
         }
     }
 
-    /// Whether a net is noted, where these are the waveforms of all nets to the horizon.
+    /// Returns whether a net is noted, given the waveforms of all nets to the horizon.
     pub(crate) fn is_noted(
         self,
         design: &Design,
@@ -61,7 +61,7 @@ fn is_undriven(design: &Design, net: u32) -> bool
     design.part(net).is_input() && design.stimuli(net).is_empty()
 }
 
-/// Whether a net has a stimulus past the horizon.
+/// Whether a net has a stimulus after the horizon.
 fn is_late(design: &Design, horizon: Horizon, net: u32) -> bool
     requires { net < length design.now.circuit }
     ensures { result ≡ net_is (is_late horizon) design.now.circuit net }
@@ -69,7 +69,7 @@ fn is_late(design: &Design, horizon: Horizon, net: u32) -> bool
     has_change_past(design.stimuli(net), horizon.ticks())
 }
 
-/// Whether one of these changes is past a tick.
+/// Whether one of these changes is after a tick.
 fn has_change_past(changes: &[Change], tick: u64) -> bool
     ensures { result ≡ list_any (λ (change : Change). nat_lt tick change.tick) changes.now }
 {

@@ -5,7 +5,7 @@ ghost use Rattle.run_notes.specs.Text.{nets_note, outputs_note};
 use netlist::{Netlist, push_names};
 use std::alloc::AllocError;
 
-/// Adds the line that tells that there are no outputs, where there are none.
+/// Adds the line that there are no outputs, if so.
 pub(crate) fn push_outputs_note(text: &mut Vec<u8>, netlist: &Netlist) -> Result<(), AllocError>
     ensures { OnOk result (text.new.items ≡ text.old.items ++ outputs_note netlist.now) }
 {
@@ -15,7 +15,7 @@ pub(crate) fn push_outputs_note(text: &mut Vec<u8>, netlist: &Netlist) -> Result
     Ok(())
 }
 
-/// Adds the line that says this of these nets, where there are any.
+/// Adds the line that says this of these nets, if there are any.
 pub(crate) fn push_nets_note(
     text: &mut Vec<u8>,
     netlist: &Netlist,

@@ -34,11 +34,11 @@ use Rattle.run_pairs.specs.Twins.{on}
 abbrev pub on_run : Side → SimFault → DiffFault
 on_run side fault = Run (on side fault)
 
--- a refused horizon is told of the first run
+-- a refused horizon is reported for the first run
 abbrev pub of_horizon : OptionFault → DiffFault
 of_horizon fault = on_run First (Setting fault)
 
--- before a byte is written: the fault is the answer, unless memory was wanting
+-- before a byte is written: the fault is the answer, unless an allocation failed
 abbrev pub IsDiffRefusal : {A : Type 0} → Result A DiffFault → DiffFault → Type 0
 IsDiffRefusal answer (Compared fault) = answer ≡ Err (Compared fault)
 IsDiffRefusal answer (Run fault) = refused fault.side fault.fault
@@ -58,11 +58,11 @@ output_names netlist = map (name_at netlist) netlist.outputs
 abbrev pub is_output_name : NetlistView → List ℕ → Bool
 is_output_name netlist name = list_any (λ output. bytes_eq output name) (output_names netlist)
 
--- the names of the first one's outputs in order, and behind them those of the second one's that aren't names of outputs of the first
+-- the names of the first netlist's outputs in order, and after them those of the second's that aren't names of outputs of the first
 abbrev pub names_of_outputs : NetlistView → NetlistView → List (List ℕ)
 names_of_outputs first second = output_names first ++ filter (λ name. not (is_output_name first name)) (output_names second)
 
--- the names by which two netlists are compared: those that are given, or where there are none those of the outputs
+-- the names by which two netlists are compared: those that are given or, if there are none, those of the outputs
 abbrev pub names_compared : List (List ℕ) → NetlistView → NetlistView → List (List ℕ)
 names_compared [] first second = names_of_outputs first second
 names_compared (name ∷ names) first second = name ∷ names
@@ -90,7 +90,7 @@ pair_in one other ticks names =
     then Ok (pair_by one other ticks (names_compared names one.design.netlist other.design.netlist))
     else Err (on First UnknownNet)
 
--- the ticks that count, or the first fault
+-- the ticks that are compared, or the first fault
 unfoldable pub ticks_of_diff : DiffTicks → Result ComparedTicks DiffFault
 ticks_of_diff ticks = do
   horizon ← or_fault of_horizon (horizon_of ticks.horizon)
@@ -122,7 +122,7 @@ IsOfNets one other ticks name (Some net) (Some other_net) comparison =
 IsOfNets one other ticks name (Some net) None comparison = comparison ≡ OnlyIn only.First
 IsOfNets one other ticks name None other_net comparison = comparison ≡ OnlyIn only.Second
 
--- how what the net of a name shows in two runs compares; one of them has it, at least
+-- how what the net of a name shows in two runs compares; at least one of them has it
 abbrev pub IsComparisonOf : RunView → RunView → ComparedTicks → List ℕ → Comparison → Type 0
 IsComparisonOf one other ticks name comparison =
     IsOfNets one other ticks name (net_named one.design.netlist name) (net_named other.design.netlist name) comparison

@@ -49,7 +49,7 @@ pub record IsComparison (twins : Twins) (name : List ℕ) (horizon : ℕ) (answe
   pub first : answer.first ≡ wave_of (value_of twins.first.design.circuit twins.net) 0 (horizon + 1)
   pub second : answer.second ≡ wave_of (value_of twins.second.design.circuit twins.other_net) 0 (horizon + 1)
 
--- before a byte is written: the fault is the answer, unless memory was wanting
+-- before a byte is written: the fault is the answer, unless an allocation failed
 abbrev pub IsTwinRefusal : {A : Type 0} → Result A TwinFault → TwinFault → Type 0
 IsTwinRefusal answer fault = refused fault.side fault.fault
   where

@@ -10,10 +10,11 @@ use wave_diff::ComparedFault;
 
 /// Why two runs were not compared net by net.
 ///
-/// The horizon, which is told of the first run, and the ticks that are to count come before all else.
+/// The horizon, which is reported for the first run, and the ticks to be compared are checked before all
+/// else.
 #[derive(Clone, Copy, Debug, PartialEq, Eq, Error)]
 pub enum DiffFault {
-    /// The ticks that are to count are refused.
+    /// The ticks to be compared are refused.
     #[error("{0}")]
     Compared(ComparedFault),
     /// One of the runs is refused.

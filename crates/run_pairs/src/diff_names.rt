@@ -10,7 +10,7 @@ use netlist::Netlist;
 use prepared_runs::marks_of;
 use std::alloc::{AllocError, Global};
 
-/// Whether one netlist or the other has a net of each of these names.
+/// Returns whether one netlist or the other has a net of each of these names.
 pub(crate) fn are_known(first: &Netlist, second: &Netlist, names: &[&[u8]]) -> bool
     ensures { result ≡ list_all (is_known first.now second.now) (seen_names names.now) }
 {
@@ -22,7 +22,7 @@ pub(crate) fn are_known(first: &Netlist, second: &Netlist, names: &[&[u8]]) -> b
     true
 }
 
-/// The names of the first one's outputs in order, and behind them those of the second one's outputs
+/// Returns the names of the first netlist's outputs in order, and after them those of the second's outputs
 /// that aren't names of outputs of the first.
 pub(crate) fn names_of_outputs<'n>(
     alloc: Global,
@@ -48,7 +48,7 @@ fn push_outputs<'n>(netlist: &'n Netlist, names: &mut Vec<&'n [u8]>) -> Result<(
     Ok(())
 }
 
-/// Adds the names of the outputs that aren't names of outputs of another netlist, which are marked.
+/// Adds the names of the outputs that aren't names of outputs of another netlist, whose outputs are marked.
 fn push_others<'n>(
     netlist: &'n Netlist,
     first: &Netlist,

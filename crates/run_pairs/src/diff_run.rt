@@ -16,14 +16,14 @@ use std::alloc::Global;
 use timing_text::Horizon;
 use wave_diff::Compared;
 
-/// The ticks of two runs, and which of them count where the runs are compared.
+/// The ticks of two runs, and which of them are compared.
 #[derive(Clone, Copy, Debug, PartialEq, Eq)]
 pub struct DiffTicks {
     /// The last tick of both runs: at most 10,000,000.
     pub horizon: u64,
-    /// The first tick that counts: at most the horizon.
+    /// The first tick that is compared: at most the horizon.
     pub from: u64,
-    /// Only multiples of so many ticks count: at least 1.
+    /// Only multiples of this number of ticks are compared: at least 1.
     pub every: u64,
 }
 
@@ -36,19 +36,19 @@ pub struct DiffAnswer {
     pub same: bool,
 }
 
-/// Runs two sources to one horizon by the kernel, and compares what the nets of these names show in
-/// both; where there is no name, the outputs of the first and then those of the second that aren't
-/// outputs of the first.
+/// Runs two sources to one horizon by the kernel, and compares what the nets of these names show in both. If
+/// there is no name, it compares the outputs of the first and then those of the second that aren't outputs of
+/// the first.
 ///
-/// A line tells the first tick that counts at which a net shows another value in the second run than
-/// in the first, or that there is none; then also whether the runs agree on the fan-in cone that the
-/// net has in the first, up to the horizon. Where they agree on it there is no such tick, whatever
-/// else they hold and whatever picks their events.
+/// A line has the first compared tick at which a net shows another value in the second run than in the first.
+/// If there is none, it says so, and whether the runs agree, up to the horizon, on the fan-in cone that the
+/// net has in the first. If they agree on it, there is no such tick, whatever else they contain and whatever
+/// picks their events.
 ///
 /// # Errors
 /// A refusal of the horizon or the ticks ([`DiffFault::Compared`]) comes before all else, then one of the
-/// first source, then one of the second, then [`SimFault::UnknownNet`], told of the first, where no run
-/// has a net of one of the names. Which side a want of memory names is open.
+/// first source, then one of the second, then [`SimFault::UnknownNet`], reported for the first, if no run has
+/// a net of one of the names. If an allocation fails, the fault may name either side.
 pub fn diff(
     alloc: Global,
     first: &Source<'_>,
@@ -67,7 +67,7 @@ pub fn diff(
     Ok(diff_prepared(alloc, &one, &other, names, compared)?)
 }
 
-/// The ticks that count.
+/// Returns the ticks that are compared.
 fn compared_ticks(ticks: DiffTicks) -> Result<Compared, DiffFault>
     ensures exact { result ≡ ticks_of_diff ticks }
     ensures end { IfOk result (λ compared. compared.to ≡ ticks.horizon) }
@@ -77,7 +77,7 @@ fn compared_ticks(ticks: DiffTicks) -> Result<Compared, DiffFault>
     Ok(Compared::new(ticks.from, ticks.every, horizon.ticks())?)
 }
 
-/// Compares two prepared runs, where the names are known.
+/// Compares two prepared runs if the names are known.
 fn diff_prepared(
     alloc: Global,
     one: &PreparedRun,
@@ -100,7 +100,7 @@ fn diff_prepared(
     Side::First.blame(diff_known(alloc, one, other, names, ticks))
 }
 
-/// Compares them by the names, or by their outputs where there is no name.
+/// Compares them by the names, or by their outputs if there is no name.
 fn diff_known(
     alloc: Global,
     one: &PreparedRun,

@@ -1,4 +1,4 @@
-//! How what nets show in two runs compares, name by name.
+//! Comparisons of what nets show in two runs, name by name.
 ghost use Rattle.std.specs.Prelude.{◌≡◌, IfErr, IfOk};
 ghost use Rattle.netlist.specs.Names.{seen_names};
 ghost use Rattle.run_pairs.specs.Diffs.{IsComparisonOf, IsDiff, pair_by};
@@ -32,7 +32,7 @@ pub(crate) fn diff_by_names(
     diff_completed(alloc, one, &first, other, &second, names, ticks)
 }
 
-/// The same of runs that are at their end.
+/// Does the same for runs that are at their end.
 fn diff_completed(
     alloc: Global,
     one: &PreparedRun,
@@ -60,7 +60,7 @@ fn diff_completed(
     Ok(DiffAnswer { text, same })
 }
 
-/// How what the net of a name shows in two runs at their end compares.
+/// Returns how what the net of a name shows in two runs at their end compares.
 fn comparison(
     alloc: Global,
     one: &PreparedRun,

@@ -26,8 +26,8 @@ pub enum Side {
 
 /// Why two runs were not compared, and which of them is at fault.
 ///
-/// All checks of the first run come before all of the second, and the net's name is looked up after
-/// them, in the first run and then in the second. Which side a want of memory names is open.
+/// All checks of the first run come before all of the second, and the net's name is looked up after them, in
+/// the first run and then in the second. If an allocation fails, the fault may name either side.
 #[derive(Clone, Copy, Debug, PartialEq, Eq, Error)]
 #[error("{fault}")]
 pub struct TwinFault {
@@ -36,7 +36,7 @@ pub struct TwinFault {
 }
 
 impl Side {
-    /// The result, whose fault is now one of this side.
+    /// Returns the result, whose fault becomes one of this side.
     pub(crate) fn blame<T>(self, outcome: Result<T, SimFault>) -> Result<T, TwinFault>
         ensures ok { IfOk result (λ value. outcome ≡ Ok value) }
         ensures err { IfErr result (λ fault. outcome ≡ Err fault.fault) }
@@ -63,11 +63,11 @@ pub struct TwinAnswer {
 
 /// Runs two sources to one horizon by the kernel, and compares what the net of a name shows in both.
 ///
-/// Where they agree on the net's fan-in cone it shows the same in both, whatever else they hold and
-/// whatever picks their events.
+/// If they agree on the net's fan-in cone, it shows the same in both, whatever else they contain and whatever
+/// picks their events.
 ///
 /// # Errors
-/// A refusal of a source, and [`SimFault::UnknownNet`] where a run has no net of this name.
+/// A refusal of a source, and [`SimFault::UnknownNet`] if a run has no net of this name.
 pub fn twin(
     alloc: Global,
     first: &Source<'_>,
@@ -113,7 +113,7 @@ fn compare(
     })
 }
 
-/// Whether the runs agree, up to the first one's horizon, on the net's fan-in cone there.
+/// Returns whether the runs agree, up to the first one's horizon, on the net's fan-in cone there.
 pub(crate) fn is_agreed(
     alloc: Global,
     first: &PreparedRun,
@@ -128,7 +128,7 @@ pub(crate) fn is_agreed(
     Ok(agreed.unwrap_or(false))
 }
 
-/// Runs to the end, and answers what a net shows up to the horizon.
+/// Runs to the end, and returns what a net shows up to the horizon.
 fn wave_at_end(alloc: Global, run: &PreparedRun, net: u32) -> Result<Waveform, SimFault>
     requires net { net < length run.now.design.circuit }
     requires exist { All (Exists run.now.design.circuit) run.now.schedule }

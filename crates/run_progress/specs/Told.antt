@@ -1,9 +1,9 @@
--- What a run tells of how far it is.
+-- The reports of a run's progress.
 use Rattle.std.specs.Prelude.{◌≡◌, ℕ, ◌+◌, ◌<◌, ◌≤◌, List, [], ◌∷◌, ◌++◌, All, Result, Ok, Err}
 use Rattle.std.specs.List.{range_with_len}
 use Rattle.logic3.specs.Rising.{Rises}
 
--- from one state to the other such numbers were told
+-- the reports of such numbers led from one state to the other
 abbrev pub Told : {S : Type 0} → (S → List ℕ → S → Type 0) → (List ℕ → Type 0) → S → S → Type 0
 Told tells Such old new = (ticks : List ℕ) × tells old ticks new × Such ticks
 
@@ -20,16 +20,16 @@ RisesTo last ticks = (earlier : List ℕ) × RisesBelow last earlier × (ticks �
 abbrev pub CountsTo : ℕ → List ℕ → Type 0
 CountsTo last ticks = ticks ≡ range_with_len 0 (last + 1)
 
--- each number from 0 on, up to one of at most so many
+-- each number from 0 on, for at most a number of them
 abbrev pub CountsBelow : ℕ → List ℕ → Type 0
 CountsBelow bound ticks = (count : ℕ) × (count ≤ bound) × (ticks ≡ range_with_len 0 count)
 
--- the numbers of ticks that are told of a run up to a horizon: they rise, and end with all where the run is done
+-- the numbers of ticks that a run up to a horizon reports: they rise, and end with all ticks if the run succeeds
 abbrev pub IsProgress : {A F : Type 0} → Result A F → ℕ → List ℕ → Type 0
 IsProgress (Ok value) horizon = RisesTo (horizon + 1)
 IsProgress (Err fault) horizon = RisesBelow (horizon + 2)
 
--- those of a run tick by tick: from 0 on each one, up to all where the run is done
+-- those of a run tick by tick: each number from 0 on, up to all ticks if the run succeeds
 abbrev pub IsTickByTick : {A F : Type 0} → Result A F → ℕ → List ℕ → Type 0
 IsTickByTick (Ok value) horizon = CountsTo (horizon + 1)
 IsTickByTick (Err fault) horizon = CountsBelow (horizon + 2)

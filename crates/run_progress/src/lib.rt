@@ -1,4 +1,4 @@
-//! How far a run is, told while it goes on.
+//! Reports of a run's progress while it runs.
 #![tactic(auto)]
 
 mod percents;

@@ -1,4 +1,4 @@
-//! The percents of a run, on one line.
+//! The progress of a run in percent, on one line.
 ghost use Rattle.std.specs.Prelude.{◌≡◌, ◌+◌, ◌*◌, ◌/◌, OnErr, OnOk, false, true};
 ghost use Rattle.std.specs.Io.KnownBytes.{Appends, Keeps};
 ghost use Rattle.vcd_dump.specs.Bytes.{AppendsPrefix};
@@ -10,18 +10,18 @@ use std::io::Write;
 use timing_text::Horizon;
 use vcd_dump::{DumpFault, write_all_bytes};
 
-/// Writes how much of a run is done, in percent, over what it wrote before: at most once a percent. A
-/// writer that fails is asked no more.
+/// Writes how much of a run is done, in percent, over what it wrote before, and each percentage at
+/// most once. After a failed write nothing more is written.
 #[derive(Drop)]
 pub struct Percents<'e, E> {
     out: &'e mut E,
-    // The least percent that wasn't written yet.
+    // The least percentage that may still be written.
     next: u64,
     failed: bool,
 }
 
 impl<'e, E: Write> Percents<'e, E> {
-    /// Writes to this writer, which nothing was written to yet.
+    /// Makes a meter that writes to this writer, and has written nothing yet.
     pub fn new(out: &'e mut E) -> Percents<'e, E>
         ensures same_writer { result.out.ghost_name ≡ out.entry.ghost_name }
         ensures bytes { result.out.now ≡ out.old }
@@ -35,7 +35,7 @@ impl<'e, E: Write> Percents<'e, E> {
         }
     }
 
-    /// Ends the line, where it has begun.
+    /// Ends the line, if one has begun, and returns the writer.
     pub fn end(self) -> &'e mut E
         ensures same_writer { result.ghost_name ≡ self.entry.out.ghost_name }
         ensures text { AppendsPrefix (E.contents self.entry.out.now) (E.contents result.now)
@@ -49,7 +49,7 @@ impl<'e, E: Write> Percents<'e, E> {
         out
     }
 
-    /// Writes a percent, unless the writer has failed.
+    /// Writes a percentage, unless the writer has failed.
     fn show(&mut self, percent: u64)
         ensures same_writer { self.new.out.ghost_name ≡ self.old.out.ghost_name }
         ensures next { self.new.next ≡ self.old.next }
@@ -66,10 +66,10 @@ impl<'e, E: Write> Percents<'e, E> {
     }
 }
 
-/// Writes a percent at the line's begin.
+/// Writes a percentage at the beginning of the line.
 ///
 /// # Errors
-/// `Write` or `WroteNothing`; a first part of it went out then.
+/// `Write` or `WroteNothing`; a prefix of it has been written then.
 fn write_percent<E: Write>(out: &mut E, percent: u64) -> Result<(), DumpFault>
     ensures ok { OnOk result (Appends (E.contents out.old) (E.contents out.new) (percent_text percent)) }
     ensures err { OnErr result (AppendsPrefix (E.contents out.old) (E.contents out.new) (percent_text percent)) }

@@ -1,15 +1,15 @@
-//! What a run tells how far it is.
+//! Receivers of reports of a run's progress.
 use timing_text::Horizon;
 
-/// What a run tells how far it is, again and again.
+/// A receiver of reports of a run's progress.
 pub trait Progress {
     ghost use Rattle.std.specs.Prelude.{ℕ, ◌+◌, ◌≤◌, List, [], ◌∷◌, ◌++◌};
 
-    // These numbers of ticks were told, in this order, of a run up to this horizon: that led from the one
-    // state to the other.
+    // The reports of these numbers of ticks, in this order, for a run up to this horizon led from the
+    // first state to the second.
     ghost tells: { ℕ → Self → List ℕ → Self → Type 0 };
 
-    /// Tells that so many ticks are known of every net, in a run up to this horizon.
+    /// Receives the report that `known` ticks of every net are known, in a run up to this horizon.
     fn tell(&mut self, known: u64, horizon: Horizon)
         requires { known ≤ horizon + 1 }
         ensures { tells horizon self.old (known ∷ []) self.new };
@@ -20,7 +20,7 @@ pub trait Progress {
         tells horizon old first mid → tells horizon mid second new → tells horizon old (first ++ second) new };
 }
 
-/// Nobody, who is told nothing.
+/// Ignores all reports.
 #[derive(Drop)]
 pub struct Silent;
 

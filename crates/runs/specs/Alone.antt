@@ -1,4 +1,4 @@
--- A run of the nets in the cones of those that are shown alone.
+-- A run of only the nets in the cones of those that are shown.
 use Rattle.std.specs.Prelude.{◌≡◌, ◌≢◌, ℕ, ◌<◌, ◌≤◌, List, length, All, AllPairs}
 use Rattle.design.specs.Design.{IsDesign}
 use Rattle.cmb_events.specs.Schedule.{most_events, Exists}

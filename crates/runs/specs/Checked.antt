@@ -1,4 +1,4 @@
--- What the comparison of the two engines answers.
+-- What the comparison of the two engines returns.
 use Rattle.std.specs.Prelude.{length}
 use Rattle.design.specs.Circuit.{pin_count}
 use Rattle.runs.specs.declared.check_run.CheckAnswer.{CheckAnswer}

@@ -13,7 +13,7 @@ use Rattle.prepared_runs.specs.Marked.{is_among}
 abbrev pub EachFloor : KernelView → (ℕ → Type 0) → Type 0
 EachFloor kernel P = (net : ℕ) → net < length kernel.circuit → P (floor_at kernel.state net)
 
--- drains alone lead from the one kernel to the other
+-- only drains lead from the one kernel to the other
 pub record DrainsTo (start now : KernelView) : Type 0 where
   pub run : now ≡ record start { state = now.state }
   pub sound : IsSound now.circuit now.end now.state
@@ -23,7 +23,7 @@ pub record DrainsTo (start now : KernelView) : Type 0 where
 abbrev pub values_of : Circuit → List ℕ → List (ℕ → Value)
 values_of circuit nets = map (value_of circuit) nets
 
--- those of so many nets that aren't among these, rising
+-- those of this number of nets that aren't among these, in rising order
 pub record IsRest (count : ℕ) (nets rest : List ℕ) : Type 0 where
   pub rising : Rises rest
   pub others : (net : ℕ) → Contains rest net ↔ ((net < count) × (is_among nets net ≡ false))

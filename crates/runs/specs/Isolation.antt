@@ -1,4 +1,4 @@
--- What runs show for one net, whatever else they hold.
+-- What runs show for one net, whatever else they contain.
 use Rattle.std.specs.Prelude.{◌≡◌, ℕ, ◌+◌, ◌≤◌, IsTrue, List, [], ◌∷◌, Contains, Some, Ok, IsOkAnd}
 use Rattle.logic3.specs.declared.value.Value.{Value}
 use Rattle.netlist.specs.Netlist.{net_named}
@@ -12,7 +12,7 @@ use Rattle.prepared_runs.specs.Prepared.{RunView, run_of_source}
 use Rattle.runs.specs.Simulated.{simulated}
 use Rattle.prepared_runs.specs.Source.{SourceView, knows_shown, shown_nets}
 
--- an input that is accepted, and the run that it makes, in which each net is that is to be shown
+-- an accepted input, and the run that it makes, which has each net to be shown
 pub record AcceptedRun : Type 0 where
   pub source : SourceView
   pub view : DumpView
@@ -33,12 +33,12 @@ pub record AgreeingRuns (first second : AcceptedRun) (name : List ℕ) (net othe
   pub first_shown : IsShown first name net
   pub second_shown : IsShown second name other_net
 
--- the run ends within as many rounds as the horizon and one more tick has least delays,
--- and its dump shows this signal for the name, at every tick to the horizon
+-- the run takes at most as many rounds as least delays are needed to cover all its ticks, and its dump shows this
+-- signal for the name, at every tick to the horizon
 pub record ShowsSignal (run : AcceptedRun) (name : List ℕ) (signal : ℕ → Value) (answer : List ℕ × Report) : Type 0 where
   pub rounds : (answer.1).total.rounds ≤ most_rounds (run.run.horizon + 1) run.run.design.circuit
   pub shows : (tick : ℕ) → tick ≤ run.view.horizon → shown_value answer.0 name tick ≡ Some (signal tick)
 
--- it ends, and does so
+-- the run ends, and shows this signal for the name
 abbrev pub EndsShowing : AcceptedRun → List ℕ → (ℕ → Value) → Type 0
 EndsShowing run name signal = IsOkAnd (simulated run.source run.view) (ShowsSignal run name signal)

@@ -1,4 +1,4 @@
--- How a run goes on to its end.
+-- How a run advances to its end.
 use Rattle.std.specs.Prelude.{◌≡◌, ℕ, ◌+◌, ◌<◌, ◌≤◌, min, List, All, length}
 use Rattle.design.specs.Circuit.{Circuit}
 use Rattle.design.specs.Segments.{IsCutUp}
@@ -19,18 +19,18 @@ pub record Covers (sweeps : of_sweeps.Sweeps) (circuit : Circuit) (end : ℕ) : 
   pub to_end : sweeps.end ≡ end
   pub most : sweeps.most ≡ most_told (length circuit)
 
--- so a run of a circuit to an end can go on
+-- a run of a circuit to an end can advance at this pace
 abbrev pub Suits : Pace → Circuit → ℕ → Type 0
 Suits Rounds circuit end = Unit {0}
 Suits (Sweeps sweeps) circuit end = Covers sweeps circuit end
 
--- a run goes on over the same circuit: no frontier falls, and nothing is taken out
+-- a run advances over the same circuit: no frontier falls, and nothing is taken out
 pub record GoesOn (old new : KernelView) : Type 0 where
   pub run : new ≡ record old { state = new.state }
   pub sound : IsSound new.circuit new.end new.state
   pub none_falls : NoneFalls old.state new.state
   pub floors : (net : ℕ) → floor_at new.state net ≡ floor_at old.state net
 
--- in a state of a run each of these nets is the least delay past a tick, or at the end
+-- in a state of a run each of these nets is known the least delay past a tick, or to the end
 abbrev pub AllFarther : KernelView → ℕ → State → List ℕ → Type 0
 AllFarther run tick state nets = All (λ net. min run.end (tick + least_delay run.end run.circuit) ≤ frontier_at state net) nets

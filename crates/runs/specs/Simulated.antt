@@ -11,7 +11,7 @@ use Rattle.prepared_runs.specs.declared.view.DumpView.{DumpView}
 use Rattle.prepared_runs.specs.Source.{SourceView, if_known, dump_of_design}
 use Rattle.prepared_runs.specs.Prepared.{RunView, run_of_source}
 
--- what is reported where the events lead to this state: of it, and of the rounds that complete it
+-- what is reported if the events lead to this state: of it, and of the rounds that complete it
 abbrev pub reported : ℕ → Circuit → State → Report
 reported end circuit state = record {
   after = state.counts;

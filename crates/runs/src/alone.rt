@@ -1,4 +1,4 @@
-//! A run of the nets in the cones of those that are shown alone.
+//! A run of only the nets in the cones of those that are shown.
 ghost use Rattle.std.specs.Prelude.{◌≡◌, IfOk};
 ghost use Rattle.runs.specs.Alone.{CanShow, ShowsTheSame};
 
@@ -14,11 +14,10 @@ pub(crate) struct ShownRun {
     pub(crate) nets: Vec<u32>,
 }
 
-/// A run in which these nets show what they show in this one: that of the nets in their fan-in cones
-/// alone, where these are not all nets and no events were picked.
+/// Returns a run in which these nets show what they show in this one: that of only the nets in their fan-in
+/// cones, if these are not all nets and no events were picked.
 ///
-/// Events that were picked are applied, all of them, so a run that has some stays as it is: they may be
-/// of any nets.
+/// All picked events are applied, and they may be of any nets, so a run that has some stays unchanged.
 pub(crate) fn cones_of(
     alloc: Global,
     run: PreparedRun,

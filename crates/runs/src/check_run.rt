@@ -30,8 +30,8 @@ pub struct CheckAnswer {
     pub same: u32,
 }
 
-/// Runs a source by the kernel and by the plain engine, and counts the nets for which they give the
-/// same waveform up to the horizon. These are all nets; this call goes and looks.
+/// Runs a source by the kernel and by the plain engine, and counts the nets for which they give the same
+/// waveform up to the horizon. By the contract these are all nets; this call compares the waveforms.
 ///
 /// # Errors
 /// A refusal of the source.
@@ -45,7 +45,7 @@ pub fn check(alloc: Global, source: &Source<'_>, horizon: u64) -> Result<CheckAn
     check_prepared(alloc, &run)
 }
 
-/// The same for a prepared run.
+/// Does the same for a prepared run.
 fn check_prepared(alloc: Global, run: &PreparedRun) -> Result<CheckAnswer, SimFault>
     requires exist { All (Exists run.now.design.circuit) run.now.schedule }
     requires few { length run.now.schedule ≤ most_events }
@@ -61,7 +61,7 @@ fn check_prepared(alloc: Global, run: &PreparedRun) -> Result<CheckAnswer, SimFa
     })
 }
 
-/// For how many nets the kernel gives the same waveform.
+/// Returns for how many nets the kernel gives the same waveform.
 fn same_waves(kernel: &RunKernel<'_>, waves: &[Waveform]) -> u32
     requires running { kernel.now.failed ≡ false }
     requires known { IsKnown kernel.now }

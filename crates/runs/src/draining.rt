@@ -62,7 +62,7 @@ pub(crate) fn forget_below(
     requires known { bound ≤ least_frontier kernel.old.end kernel.old.state }
     ensures drains { OnOk result (DrainsTo kernel.old kernel.new) }
     ensures drained { OnOk result (All (λ net. floor_at kernel.new.state net ≡ bound) nets.now) }
-    // A net that was drained so far stays so.
+    // A net that was drained up to the tick stays so.
     ensures stays { OnOk result ((net : ℕ) → floor_at kernel.old.state net ≡ bound →
         floor_at kernel.new.state net ≡ bound) }
     ensures err { IfErr result (λ fault. fault ≡ KernelFault.Memory) }

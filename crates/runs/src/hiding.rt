@@ -5,7 +5,7 @@ ghost use Rattle.runs.specs.Drained.{IsRest};
 use prepared_runs::marks_of;
 use std::alloc::{AllocError, Global};
 
-/// The numbers of the nets, so many, that aren't among the shown ones, rising.
+/// Returns the numbers of those of this number of nets that aren't among the shown ones, in rising order.
 pub(crate) fn hidden_nets(alloc: Global, nets: u32, shown: &[u32]) -> Result<Vec<u32>, AllocError>
     requires { All (λ net. net < nets) shown.now }
     ensures { IfOk result (λ hidden. IsRest nets shown.now hidden.items) }

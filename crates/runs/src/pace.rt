@@ -1,4 +1,4 @@
-//! How a run goes on to its end.
+//! How a run advances to its end.
 ghost use Rattle.std.specs.Prelude.{◌≡◌, ℕ, ◌+◌, ◌<◌, ◌≤◌, min, false, IfOk, IfErr, OnOk};
 ghost use Rattle.cmb_kernel.specs.State.{floor_at, least_delay, least_frontier};
 ghost use Rattle.cmb_kernel.specs.Step.{round_of};
@@ -13,7 +13,7 @@ use design::Design;
 use std::alloc::{AllocError, Global};
 use timing_text::Horizon;
 
-/// What is done to a kernel, again and again, until its run is complete.
+/// What is done to a kernel repeatedly until its run is complete.
 #[derive(Drop)]
 pub(crate) enum Pace {
     /// Rounds, which let each pin take all that waits there.
@@ -23,7 +23,7 @@ pub(crate) enum Pace {
 }
 
 impl Pace {
-    /// Sweeps over the nets of a design, up to a horizon.
+    /// Returns sweeps over the nets of a design, up to a horizon.
     pub(crate) fn sweeps(
         alloc: Global,
         design: &Design,
@@ -34,7 +34,7 @@ impl Pace {
         Ok(Pace::Sweeps(Sweeps::new(alloc, design, horizon)?))
     }
 
-    /// Goes on with a run, where so many ticks are known of every net.
+    /// Advances a run, given the number of ticks known of every net.
     pub(crate) fn go_on(
         &mut self,
         kernel: &mut RunKernel<'_>,
@@ -44,7 +44,7 @@ impl Pace {
         requires known { known ≡ least_frontier kernel.old.end kernel.old.state }
         requires suits { Suits self.old kernel.old.circuit kernel.old.end }
         ensures goes { OnOk result (kernel.new ≡ record kernel.old { state = kernel.new.state }) }
-        // So a run comes to its end.
+        // So a run reaches its end.
         ensures raises { OnOk result
             (min kernel.old.end (least_frontier kernel.old.end kernel.old.state + least_delay kernel.old.end kernel.old.circuit)
             ≤ least_frontier kernel.new.end kernel.new.state) }

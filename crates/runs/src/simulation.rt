@@ -35,17 +35,16 @@ pub struct Report {
     pub total: Counts,
 }
 
-/// Runs a source by the kernel, which applies the events that are picked and then completes, and
-/// writes the dump as the run goes on: after the events, and after each round, what every net knows
-/// goes out and is forgotten.
+/// Runs a source by the kernel, which applies the picked events and then completes, and writes the dump as
+/// the run advances: after the events, and after each round, what every net knows is written and forgotten.
 ///
-/// The text that goes out shows each shown net's value at every tick, as the equations give it,
-/// whatever was picked: the events show in the report alone.
+/// The text shows each shown net's value at every tick, as the equations give it, whatever was picked: the
+/// events show only in the report.
 ///
 /// # Errors
-/// A refusal of the settings or of a text comes before the first byte is written; the settings and
-/// the length of the netlist's text are looked at before any memory is taken. After a failed write
-/// or a want of memory a first part of the dump went out, which may be nothing.
+/// A refusal of the settings or of a text comes before the first byte is written; the settings and the length
+/// of the netlist's text are checked before any memory is taken. If a write or an allocation fails, a prefix
+/// of the dump has been written, which may be empty.
 pub fn simulate<W: Write>(
     alloc: Global,
     source: &Source<'_>,
@@ -57,7 +56,7 @@ pub fn simulate<W: Write>(
     ensures shows { OnOk result (W.contents out.old ≡ Some [] → IfSome (W.contents out.new) (λ text.
         IsOkAnd (run_of_source (seen_source source.now) view.now.horizon)
         (λ run. ShowsValues (dump_view view.now) run.design text))) }
-    // A run ends within as many rounds as the horizon and one more tick has least delays.
+    // A run takes at most as many rounds as least delays are needed to cover all its ticks.
     ensures rounds { IfOk result (λ report. IsOkAnd (run_of_source (seen_source source.now) view.now.horizon)
         (λ run. report.total.rounds ≤ most_rounds (run.horizon + 1) run.design.circuit)) }
     ensures err { IfErr result (RunEndsBy (dump_in (simulated (seen_source source.now) (dump_view view.now)))
@@ -67,12 +66,12 @@ pub fn simulate<W: Write>(
     simulate_with_progress(alloc, source, &DumpView::of(view), out, &mut Silent)
 }
 
-/// Runs a source as [`simulate`] does, and tells how far the run is: after the events, and after each
-/// round, how many ticks are known of every net. These numbers rise, and end with all ticks of the run.
+/// Runs a source as [`simulate`] does, and reports its progress: after the events, and after each round, how
+/// many ticks are known of every net. These numbers rise, and end with all ticks of the run.
 ///
 /// # Errors
-/// As [`simulate`], and behind its refusals [`SimFault::UnknownNet`], where no net has a name that is to be
-/// shown. Nothing is told of a source or a view that is refused.
+/// As for [`simulate`], and after its refusals [`SimFault::UnknownNet`] if no net has one of the names to be
+/// shown. No progress is reported for a source or a view that is refused.
 pub fn simulate_with_progress<W: Write, P: Progress>(
     alloc: Global,
     source: &Source<'_>,
@@ -85,7 +84,7 @@ pub fn simulate_with_progress<W: Write, P: Progress>(
     ensures shows { OnOk result (W.contents out.old ≡ Some [] → IfSome (W.contents out.new) (λ text.
         IsOkAnd (run_of_source (seen_source source.now) view.now.horizon)
         (λ run. ShowsValues view.now run.design text))) }
-    // A run ends within as many rounds as the horizon and one more tick has least delays.
+    // A run takes at most as many rounds as least delays are needed to cover all its ticks.
     ensures rounds { IfOk result (λ report. IsOkAnd (run_of_source (seen_source source.now) view.now.horizon)
         (λ run. report.total.rounds ≤ most_rounds (run.horizon + 1) run.design.circuit)) }
     ensures err { IfErr result (RunEndsBy (dump_in (simulated (seen_source source.now) view.now))

@@ -1,4 +1,4 @@
-//! A run's dump as the run goes on: what every net knows goes out, and is forgotten.
+//! A run's dump as the run advances: what every net knows is written and forgotten.
 ghost use Rattle.std.specs.Prelude.{◌≡◌, ◌≢◌, ℕ, ◌+◌, ◌<◌, ◌≤◌, false, length, All, AllPairs, IfOk, IfErr, OnOk};
 ghost use Rattle.std.specs.Io.KnownBytes.{Appends};
 ghost use Rattle.design.specs.Design.{IsDesign};
@@ -28,8 +28,8 @@ use std::alloc::Global;
 use std::io::Write;
 use vcd_dump::{Stream, TimeUnit};
 
-/// Runs to the end by the kernel, and writes the dump of these nets. Answers the report, which is that of
-/// rounds where the run goes on by these; tells how far the run is.
+/// Runs to the end by the kernel, writes the dump of these nets, and reports the progress. Returns the
+/// report, which is that of rounds if the run advances by rounds.
 pub(crate) fn dump_by_kernel<W: Write, P: Progress>(
     alloc: Global,
     run: &PreparedRun,
@@ -93,8 +93,8 @@ fn stream_run<W: Write, P: Progress>(
     })
 }
 
-/// Goes on to the end, and writes the dump of these nets: what every net knows, each time it is more,
-/// and tells how much that is.
+/// Runs to the end, and writes the dump of these nets: writes what every net knows, each time it is more, and
+/// reports how much that is.
 fn stream_to_end<W: Write, P: Progress>(
     alloc: Global,
     kernel: &mut RunKernel<'_>,
@@ -147,8 +147,8 @@ fn stream_to_end<W: Write, P: Progress>(
     }
 }
 
-/// Writes what wasn't written yet of the ticks before one up to which every net is known, and forgets
-/// it; `hidden` are the nets that aren't shown.
+/// Writes what isn't written yet of the ticks before one up to which every net is known, and forgets it;
+/// `hidden` are the nets that aren't shown.
 fn write_known<W: Write>(
     alloc: Global,
     kernel: &mut RunKernel<'_>,

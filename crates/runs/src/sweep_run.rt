@@ -28,17 +28,16 @@ use std::alloc::Global;
 use std::io::Write;
 use vcd_dump::TimeUnit;
 
-/// Runs a source by the kernel, which applies the events that are picked and then picks its own: it
-/// sweeps through the nets in the order in which values flow, some ticks at a time. After each sweep
-/// what every net knows goes out and is forgotten. Where no events are picked and the shown nets don't
-/// hang on all others, the nets in their fan-in cones alone are run.
+/// Runs a source by the kernel, which applies the picked events and then chooses its own: it sweeps through
+/// the nets in the order in which values flow, some ticks at a time. After each sweep what every net knows is
+/// written and forgotten. If no events are picked and the shown nets don't depend on all others, only the
+/// nets in their fan-in cones are run.
 ///
-/// The text is that of [`simulate`](crate::simulate), since no order of events shows in it, and nothing
-/// outside of cones; it takes far fewer events, and memory for what is in flight in a window of ticks
-/// alone.
+/// The text is that of [`simulate`](crate::simulate), since neither the order of events nor nets outside the
+/// cones show in it. It takes far fewer events, and memory only for what is in flight in a window of ticks.
 ///
 /// # Errors
-/// As [`simulate`](crate::simulate).
+/// As for [`simulate`](crate::simulate).
 pub fn sweep<W: Write>(
     alloc: Global,
     source: &Source<'_>,
@@ -57,12 +56,12 @@ pub fn sweep<W: Write>(
     sweep_with_progress(alloc, source, &DumpView::of(view), out, &mut Silent)
 }
 
-/// Runs a source as [`sweep`] does, and tells how far the run is: after the events, and after each sweep,
-/// how many ticks are known of every net. These numbers rise, and end with all ticks of the run.
+/// Runs a source as [`sweep`] does, and reports its progress: after the events, and after each sweep, how
+/// many ticks are known of every net. These numbers rise, and end with all ticks of the run.
 ///
 /// # Errors
-/// As [`sweep`], and behind its refusals [`SimFault::UnknownNet`], where no net has a name that is to be
-/// shown. Nothing is told of a source or a view that is refused.
+/// As for [`sweep`], and after its refusals [`SimFault::UnknownNet`] if no net has one of the names to be
+/// shown. No progress is reported for a source or a view that is refused.
 pub fn sweep_with_progress<W: Write, P: Progress>(
     alloc: Global,
     source: &Source<'_>,
@@ -93,7 +92,7 @@ pub fn sweep_with_progress<W: Write, P: Progress>(
     )
 }
 
-/// Runs to the end in sweeps, and writes the dump of these nets; tells how far the run is.
+/// Runs to the end in sweeps, writes the dump of these nets, and reports the progress.
 fn dump_by_sweeps<W: Write, P: Progress>(
     alloc: Global,
     run: &PreparedRun,
@@ -114,10 +113,10 @@ fn dump_by_sweeps<W: Write, P: Progress>(
     Ok(())
 }
 
-/// A run's kernel at the end, where it knows each net up to the horizon. Nothing was taken out.
+/// Returns a run's kernel at the end, when it knows each net up to the horizon. Nothing is drained.
 ///
 /// # Errors
-/// [`SimFault::Memory`] alone: a kernel's own faults can't come out of a prepared run.
+/// [`SimFault::Memory`] only: a prepared run can't cause the kernel's other faults.
 pub fn complete<'r>(alloc: Global, run: &'r PreparedRun) -> Result<RunKernel<'r>, SimFault>
     requires exist { All (Exists run.now.design.circuit) run.now.schedule }
     requires few { length run.now.schedule ≤ most_events }
@@ -131,7 +130,7 @@ pub fn complete<'r>(alloc: Global, run: &'r PreparedRun) -> Result<RunKernel<'r>
     Ok(kernel)
 }
 
-/// Goes on until each net is known to the end.
+/// Advances until each net is known to the end.
 fn run_to_end(kernel: &mut RunKernel<'_>, pace: &mut Pace) -> Result<(), KernelFault>
     requires running { kernel.old.failed ≡ false }
     requires suits { Suits pace.old kernel.old.circuit kernel.old.end }

@@ -1,7 +1,7 @@
 //! Sweeps over the nets of a design, each one over a window of ticks.
 //!
-//! Where all nets are swept once, a loop of gates goes on by as much as values take to go round it. So a
-//! loop is swept by itself, again and again, until its nets are known to where the window reaches.
+//! In one sweep over all nets, a loop of gates advances only by as much as values take to go round it. So a
+//! loop is swept by itself, repeatedly, until its nets are known up to the end of the window.
 ghost use Rattle.std.specs.Prelude.{◌≡◌, ℕ, ◌+◌, ◌-◌, ◌<◌, ◌≤◌, All, min, false, length, IfOk, IfErr, OnOk};
 ghost use Rattle.cmb_kernel.specs.State.{frontier_at, least_delay, least_frontier};
 ghost use Rattle.cmb_kernel.specs.Sound.{IsSound};
@@ -24,14 +24,14 @@ pub(crate) struct Sweeps {
     // The loops of gates in the order, and the stretches between them.
     segments: Vec<Segment>,
     end: u64,
-    // The most changes that a sweep should tell.
+    // The most changes that a sweep should send.
     most: u64,
     // The width of the next window, in ticks.
     width: u64,
 }
 
 impl Sweeps {
-    /// Sweeps over the nets of a design, in the order in which values flow, up to a horizon.
+    /// Returns sweeps over the nets of a design, in the order in which values flow, up to a horizon.
     pub(crate) fn new(
         alloc: Global,
         design: &Design,
@@ -50,7 +50,7 @@ impl Sweeps {
         })
     }
 
-    /// Sweeps over all nets, up to where the window reaches, where so many ticks are known of every net.
+    /// Sweeps over all nets, up to the end of the window, given the number of ticks known of every net.
     pub(crate) fn sweep(
         &mut self,
         kernel: &mut RunKernel<'_>,
@@ -114,8 +114,7 @@ fn pass(
     Ok(())
 }
 
-/// Sweeps over the nets of a segment up to a tick: once, and over those of a loop as often as it leads
-/// farther.
+/// Sweeps over the nets of a segment up to a tick: once, or for a loop as often as that advances it.
 fn sweep_segment(
     kernel: &mut RunKernel<'_>,
     nets: &[u32],
@@ -137,8 +136,8 @@ fn sweep_segment(
     Ok(())
 }
 
-/// Sweeps over the nets of a loop again and again, until each of them is known up to the tick or a sweep
-/// leads no farther, since nets outside the loop are known too little.
+/// Sweeps over the nets of a loop repeatedly, until each of them is known up to the tick or a sweep doesn't
+/// advance them, since too little is known of nets outside the loop.
 fn sweep_loop(kernel: &mut RunKernel<'_>, nets: &[u32], tick: u64) -> Result<(), KernelFault>
     requires running { kernel.old.failed ≡ false }
     requires nets { All (λ net. net < length kernel.old.circuit) nets.now }
@@ -158,7 +157,7 @@ fn sweep_loop(kernel: &mut RunKernel<'_>, nets: &[u32], tick: u64) -> Result<(),
     Ok(())
 }
 
-/// How many ticks are known of each of these nets, or this tick where it is less.
+/// Returns how many ticks are known of each of these nets, or this tick if it is less.
 fn known_of(kernel: &RunKernel<'_>, nets: &[u32], tick: u64) -> u64
     requires running { kernel.now.failed ≡ false }
     requires nets { All (λ net. net < length kernel.now.circuit) nets.now }

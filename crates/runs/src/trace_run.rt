@@ -12,13 +12,12 @@ use prepared_runs::{PreparedRun, SimFault, Source, prepare_run};
 use std::alloc::Global;
 use std::io::Write;
 
-/// Runs a source by the kernel, which applies the events that are picked and then completes by rounds,
-/// and writes a line for each event that it applies, as [`event_trace::trace`] says; the last line has
-/// the counts.
+/// Runs a source by the kernel, which applies the picked events and then completes by rounds, and writes a
+/// line for each event that it applies, as [`event_trace::trace`] does; the last line has the counts.
 ///
 /// # Errors
-/// A refusal of the settings or of a text comes before the first byte is written. After a failed write
-/// or a want of memory a first part of the trace went out, which may be nothing.
+/// A refusal of the settings or of a text comes before the first byte is written. If a write or an allocation
+/// fails, a prefix of the trace has been written, which may be empty.
 pub fn trace<W: Write>(
     alloc: Global,
     source: &Source<'_>,
@@ -35,7 +34,7 @@ pub fn trace<W: Write>(
     trace_prepared(alloc, &run, out)
 }
 
-/// The same for a prepared run.
+/// Does the same for a prepared run.
 fn trace_prepared<W: Write>(alloc: Global, run: &PreparedRun, out: &mut W) -> Result<(), SimFault>
     requires exist { All (Exists run.now.design.circuit) run.now.schedule }
     ensures ok { OnOk result (Appends (W.contents out.old) (W.contents out.new) (trace_of_run (seen_run run.now))) }

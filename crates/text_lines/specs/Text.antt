@@ -11,7 +11,7 @@ abbrev pub ◌>>=◌ : {A B E : Type 0} → Result A E → (A → Result B E) �
 Ok x >>= f = f x
 Err e >>= f = Err e
 
--- the most bytes that a text may have
+-- the largest number of bytes in a text
 abbrev pub longest_text : ℕ
 longest_text = 16_777_216
 
@@ -27,7 +27,7 @@ is_white byte = byte == 32 || byte == 9 || byte == 13
 abbrev pub is_plain : List ℕ → Bool
 is_plain bytes = list_all (λ byte. is_white byte || is_ascii_graphic byte) bytes
 
--- the lines of a text; after a last newline stands an empty one
+-- the lines of a text; after a last newline there is an empty one
 abbrev pub lines_of : List ℕ → List (List ℕ)
 lines_of text = slice_split (λ byte. byte == 10) text
 
@@ -43,7 +43,7 @@ is_empty (x ∷ xs) = false
 abbrev pub words_of : List ℕ → List (List ℕ)
 words_of line = filter (λ word. not (is_empty word)) (slice_split is_white line)
 
--- the lines that say something, by number from the given one: without comments, and without those that have no words
+-- the lines that have words, without comments, numbered from the given number
 abbrev pub code_lines_from : ℕ → List ℕ → List (ℕ × List ℕ)
 code_lines_from number text =
     filter (λ (line_number, code). not (is_empty (words_of code))) (enumerate_from number (map code_of (lines_of text)))

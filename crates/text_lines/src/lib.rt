@@ -1,4 +1,4 @@
-//! What every text format is made of: lines, the part before a comment, words and numbers.
+//! The elements of every text format: lines, the part before a comment, words and numbers.
 #![tactic(auto)]
 
 mod lines;
@@ -9,5 +9,5 @@ pub use lines::{CodeLines, code_lines, code_of, first_place};
 pub use numbers::number;
 pub use words::{Words, has_words, is_plain, is_white, split_word, white_len, words_of};
 
-/// The most bytes that a text may have.
+/// The largest number of bytes in a text.
 pub const LONGEST_TEXT: usize = 16_777_216;

@@ -1,4 +1,4 @@
-//! The lines of a text that say something, without their comments.
+//! The lines of a text that have words, without their comments.
 ghost use Rattle.std.specs.Prelude.{◌≡◌, ◌==◌, ◌^◌, ◌+◌, ◌-◌, ◌<◌, [], ◌∷◌, length, IfSome};
 ghost use Rattle.std.specs.Option.{option_map_or};
 ghost use Rattle.std.specs.List.{position_or_len};
@@ -7,7 +7,7 @@ ghost use Rattle.text_lines.specs.Text.{code_lines, code_of, lines_of};
 use crate::words::has_words;
 use std::marker::Model;
 
-/// The lines of a text that say something, each with its number: see [`code_lines`].
+/// The lines of a text that have words, each with its number: see [`code_lines`].
 #[derive(Drop)]
 pub struct CodeLines<'a> {
     // What follows the lines so far; `None` after the last line.
@@ -28,8 +28,8 @@ impl<'a> Model for CodeLines<'a> {
     ghost invariant = { λ lines. IfSome lines.rest (λ rest. lines.number + length rest.now < 2 ^ 64) };
 }
 
-/// The lines of a text by number, from 1: each without its comment, and without those that have no
-/// words. Lines end at each line feed, and a comment begins at the first `#`.
+/// Returns the lines of a text that have words, each with its number from 1 and without its comment.
+/// Lines end at each line feed, and a comment begins at the first `#`.
 pub fn code_lines(text: &[u8]) -> CodeLines<'_>
     ensures { result ≡ code_lines text.now }
 {
@@ -65,7 +65,7 @@ impl<'a> Iterator for CodeLines<'a> {
     }
 }
 
-/// The first line of a text, and what follows its line feed if it has one.
+/// Returns the first line of a text, and what follows its line feed if it has one.
 fn cut_line(text: &[u8]) -> (&[u8], Option<&[u8]>)
     ensures lines { lines_of text.now
         ≡ result.0.now ∷ option_map_or (λ after. lines_of after.now) result.1 [] }
@@ -79,14 +79,14 @@ fn cut_line(text: &[u8]) -> (&[u8], Option<&[u8]>)
     }
 }
 
-/// A line without its comment, which begins at the first `#`.
+/// Returns a line without its comment, which begins at the first `#`.
 pub fn code_of(line: &[u8]) -> &[u8]
     ensures { result.now ≡ code_of line.now }
 {
     &line[..first_place(line, b'#')]
 }
 
-/// Where the byte first stands in a text, or the length of the text.
+/// Returns the first place of the byte in a text, or the length of the text.
 pub fn first_place(text: &[u8], byte: u8) -> usize
     ensures { result ≡ position_or_len (λ other. other == byte) text.now }
 {

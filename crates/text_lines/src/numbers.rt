@@ -2,8 +2,8 @@
 ghost use Rattle.std.specs.Prelude.{◌≡◌, ◌^◌, ◌-◌, min, option_map};
 ghost use Rattle.text_lines.specs.Text.{number_of};
 
-/// The value of a word of one or more decimal digits, with any number of leading zeros; one too
-/// large for a `u64` is read as the largest, so that it is over every limit.
+/// Returns the value of a word of one or more decimal digits, with any number of leading zeros. A
+/// value too large for a `u64` becomes the largest one, so that it exceeds every limit.
 pub fn number(word: &[u8]) -> Option<u64>
     ensures { result ≡ option_map (min (2 ^ 64 - 1)) (number_of word.now) }
 {

@@ -5,21 +5,21 @@ ghost use Rattle.text_lines.specs.Text.{is_empty, is_plain, is_white, words_of};
 
 use std::marker::Model;
 
-/// Whether a line has a word.
+/// Returns whether a line has a word.
 pub fn has_words(line: &[u8]) -> bool
     ensures { result ≡ not (is_empty (words_of line.now)) }
 {
     line.iter().any(|byte| !is_white(*byte))
 }
 
-/// Whether the byte is white space: space, tab or carriage return.
+/// Returns whether the byte is white space: space, tab or carriage return.
 pub fn is_white(byte: u8) -> bool
     ensures { result ≡ is_white byte }
 {
     byte == b' ' || byte == b'\t' || byte == b'\r'
 }
 
-/// The words of a line that are left, in order: see [`words_of`].
+/// The remaining words of a line, in order: see [`words_of`].
 #[derive(Debug, Drop)]
 pub struct Words<'a> {
     line: &'a [u8],
@@ -34,8 +34,8 @@ impl<'a> Model for Words<'a> {
     ghost view = { λ words. words_of words.line.now };
 }
 
-/// The words of a line, in order: the longest runs of bytes other than space, tab and carriage
-/// return. Takes no memory.
+/// Returns the words of a line, in order: the longest runs of bytes other than space, tab and carriage
+/// return. Allocates nothing.
 pub fn words_of(line: &[u8]) -> Words<'_>
     ensures { result ≡ words_of line.now }
 {
@@ -58,7 +58,7 @@ impl<'a> Iterator for Words<'a> {
     }
 }
 
-/// The first word of a line, and what follows it.
+/// Returns the first word of a line, and what follows it.
 pub fn split_word(line: &[u8]) -> Option<(&[u8], &[u8])>
     ensures { MatchOption result (words_of line.now ≡ [])
         (λ split. words_of line.now ≡ split.0.now ∷ words_of split.1.now) }
@@ -71,7 +71,7 @@ pub fn split_word(line: &[u8]) -> Option<(&[u8], &[u8])>
     }
 }
 
-/// How many bytes of white space come first.
+/// Returns the number of bytes of white space at the front.
 pub fn white_len(line: &[u8]) -> usize
     ensures value { result ≡ prefix_len is_white line.now }
     ensures within { result ≤ length line.now }
@@ -79,7 +79,7 @@ pub fn white_len(line: &[u8]) -> usize
     line.iter().take_while(|byte| is_white(**byte)).count()
 }
 
-/// How many bytes come before the first white space.
+/// Returns the number of bytes before the first white space.
 fn word_len(line: &[u8]) -> usize
     ensures value { result ≡ position_or_len is_white line.now }
     ensures within { result ≤ length line.now }
@@ -87,7 +87,7 @@ fn word_len(line: &[u8]) -> usize
     line.iter().take_while(|byte| !is_white(**byte)).count()
 }
 
-/// Whether each byte is white space or 0x21 to 0x7E.
+/// Returns whether each byte is white space or 0x21 to 0x7E.
 pub fn is_plain(bytes: &[u8]) -> bool
     ensures { result ≡ is_plain bytes.now }
 {

@@ -48,7 +48,7 @@ static ORDERS: [(&[u8], &[u32], &[Segment]); 13] = [
             loops: false,
         }],
     ),
-    // Loops, and gates behind them.
+    // Loops, and gates after them.
     (
         b"y = NOT(y)",
         &[0],
@@ -116,7 +116,7 @@ static ORDERS: [(&[u8], &[u32], &[Segment]); 13] = [
             },
         ],
     ),
-    // Flip-flops stand last, whatever feeds them, and make no loops.
+    // Flip-flops come last, whatever feeds them, and make no loops.
     (
         b"p = DFF(q)\nq = DFF(p)",
         &[0, 1],

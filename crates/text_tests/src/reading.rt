@@ -63,7 +63,7 @@ static REFUSED: [(&[u8], BenchFault); 18] = [
     (b"y = MUX(a)", BenchFault::UnknownGate { line: 1 }),
     (b"y = MUX()", BenchFault::UnknownGate { line: 1 }),
     (b"INOUT(a)", BenchFault::BadLine { line: 1 }),
-    // Where there are several faults, one counts.
+    // If there are several faults, one is reported.
     (b"INPUT(a)\nINPUT(a)\nx y", BenchFault::BadLine { line: 3 }),
     (
         b"INPUT(a)\nINPUT(a)\nOUTPUT(z)",
@@ -131,7 +131,7 @@ fn canonical_texts(rt: HostRuntime) -> Result<(), Fail> {
     Ok(())
 }
 
-// What `read` says of an input of this name.
+// What `read` returns for an input of this name.
 fn read_input(alloc: Global, name: &[u8]) -> Result<Result<Netlist, BenchFault>, AllocError> {
     let text = [b"INPUT(".as_slice(), name, b")"].concat(alloc)?;
     Ok(read(alloc, text.as_slice()))
@@ -151,7 +151,7 @@ fn limit_of_a_name(rt: HostRuntime) -> Result<(), Fail> {
     Ok(())
 }
 
-// So many pins of a gate, all at the same net.
+// This number of pins of a gate, all at the same net.
 fn same_pins(alloc: Global, net: &[u8], count: usize) -> Result<Vec<u8>, AllocError> {
     let mut pins = Vec::from_slice(alloc, net)?;
     for _ in 1..count {
@@ -161,14 +161,14 @@ fn same_pins(alloc: Global, net: &[u8], count: usize) -> Result<Vec<u8>, AllocEr
     Ok(pins)
 }
 
-// The input `a` and a gate with so many pins.
+// The input `a` and a gate with this number of pins.
 fn wide_gate(alloc: Global, pins: usize) -> Result<Vec<u8>, AllocError> {
     let mut text = Vec::from_slice(alloc, b"INPUT(a)\n")?;
     push_gate(&mut text, 0, same_pins(alloc, b"a", pins)?.as_slice())?;
     Ok(text)
 }
 
-// What `read` says of that text.
+// What `read` returns for that text.
 fn read_wide(alloc: Global, pins: usize) -> Result<Result<Netlist, BenchFault>, AllocError> {
     let text = wide_gate(alloc, pins)?;
     Ok(read(alloc, text.as_slice()))
@@ -203,7 +203,7 @@ fn push_number(text: &mut Vec<u8>, number: u32) -> Result<(), AllocError> {
     text.extend_from_slice(digits.as_bytes())
 }
 
-// What `read` says of a hundred thousand inputs and this line.
+// What `read` returns for a hundred thousand inputs and this line.
 fn read_inputs(alloc: Global, more: &[u8]) -> Result<Result<Netlist, BenchFault>, AllocError> {
     let mut text = numbered_inputs(alloc, 100_000)?;
     text.extend_from_slice(more)?;
@@ -227,7 +227,7 @@ fn limit_of_nets(rt: HostRuntime) -> Result<(), Fail> {
     Ok(())
 }
 
-// An input, 976 gates of 1,024 pins and a last one of so many.
+// An input, 976 gates of 1,024 pins and a last one of this number.
 fn many_pins(alloc: Global, input: &[u8], last: usize) -> Result<Vec<u8>, AllocError> {
     let pins = same_pins(alloc, input, 1024)?;
     let mut text = [b"INPUT(".as_slice(), input, b")\n"].concat(alloc)?;
@@ -247,7 +247,7 @@ fn push_gate(text: &mut Vec<u8>, number: u32, pins: &[u8]) -> Result<(), AllocEr
     text.extend_from_slice(b")\n")
 }
 
-// What `read` says of such a text. The proofs of the tests don't look at the text.
+// What `read` returns for such a text. The proofs of the tests don't look at the text.
 fn read_pins(
     alloc: Global,
     input: &[u8],
@@ -257,7 +257,7 @@ fn read_pins(
     Ok(read(alloc, text.as_slice()))
 }
 
-// The input and 977 gates, the last of them with so many pins.
+// The input and 977 gates, the last of them with this number of pins.
 fn last_has(rt: &impl Abort, netlist: &Netlist, pins: usize) {
     assert!(rt; netlist.nets() == 978);
     assert!(rt; netlist.pins_of(977).len() == pins);

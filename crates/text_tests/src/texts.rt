@@ -7,7 +7,7 @@ fn most_bytes() -> usize {
     16_777_216
 }
 
-/// A text of the most bytes that begins like this and goes on in the letter `x`.
+/// A text of the most bytes that begins like this and continues with the letter `x`.
 pub(crate) fn longest(alloc: Global, start: &[u8]) -> Result<Vec<u8>, AllocError> {
     let mut text = Vec::from_slice(alloc, start)?;
     for _ in start.len()..most_bytes() {

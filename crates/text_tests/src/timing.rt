@@ -32,7 +32,7 @@ fn answers(
     Ok(())
 }
 
-// Settings that are fine.
+// Valid settings.
 const FINE: (u64, u64) = (1, 10);
 
 // Stimulus texts, and what they are refused with.
@@ -117,7 +117,7 @@ fn build_flop(alloc: Global, lines: &[u8]) -> Result<Result<Design, BuildFault>,
     Ok(Design::build(alloc, netlist, &text, b"", 1, 4))
 }
 
-// Lines behind the header, which stands on the second line, and what they are refused with.
+// Lines after the header, which is on the second line, and what they are refused with.
 static FAULTY_CLOCKS: [(&[u8], DelayFault); 25] = [
     (b"clock d 4 1", DelayFault::NotAFlop { line: 3 }),
     (b"init d 1", DelayFault::NotAFlop { line: 3 }),
@@ -128,7 +128,7 @@ static FAULTY_CLOCKS: [(&[u8], DelayFault); 25] = [
     (b"init q 10", DelayFault::BadValue { line: 3 }),
     (b"delay d 2", DelayFault::IsInput { line: 3 }),
     (b"delay q 0", DelayFault::BadTicks { line: 3 }),
-    // Of several faults of a line the first one.
+    // Of several faults of a line, the first one.
     (b"clock zz 0 9", DelayFault::UnknownNet { line: 3 }),
     (b"clock d 0 9", DelayFault::NotAFlop { line: 3 }),
     (b"init d z", DelayFault::NotAFlop { line: 3 }),
@@ -145,7 +145,7 @@ static FAULTY_CLOCKS: [(&[u8], DelayFault); 25] = [
         b"delay q 2\ninit q 0\nclock q 4 1\ndelay q 2",
         DelayFault::Twice { line: 6 },
     ),
-    // Lines of no form.
+    // Malformed lines.
     (b"timing version 2", DelayFault::BadLine { line: 3 }),
     (b"q 2", DelayFault::BadLine { line: 3 }),
     (b"Clock q 4 1", DelayFault::BadLine { line: 3 }),
@@ -174,7 +174,7 @@ fn faulty_clocks(rt: HostRuntime) -> Result<(), Fail> {
     Ok(())
 }
 
-// With these lines behind the header the flip-flop has this timing.
+// With these lines after the header the flip-flop has this timing.
 fn flop_has(rt: &impl Abort, alloc: Global, lines: &[u8], timing: Timing) -> Result<(), Fail> {
     let built = build_flop(alloc, lines)?.map_err(|_| "a fault")?;
     has_timing(rt, &built, timing);
@@ -199,7 +199,7 @@ fn has_timing(rt: &impl Abort, built: &Design, timing: Timing) {
     );
 }
 
-// Lines behind the header, and the delay, the period, the phase and the initial value that they give.
+// Lines after the header, and the delay, the period, the phase and the initial value that they give.
 static CLOCKS: [(&[u8], [u64; 3], Value); 5] = [
     (b"", [1, 4, 0], Value::Unknown),
     (
@@ -230,7 +230,7 @@ fn clocks(rt: HostRuntime) -> Result<(), Fail> {
     Ok(())
 }
 
-// Lines behind the header, and what they are refused with.
+// Lines after the header, and what they are refused with.
 static FAULTY_WIRES: [(&[u8], DelayFault); 17] = [
     (b"wire q 1 2", DelayFault::BadPin { line: 3 }),
     (b"wire d 0 2", DelayFault::BadPin { line: 3 }),
@@ -243,7 +243,7 @@ static FAULTY_WIRES: [(&[u8], DelayFault); 17] = [
         b"wire q 0 9999999999999999999999999999999999999999999999999999999999999999999999999999999999999999999999999999",
         DelayFault::BadTicks { line: 3 },
     ),
-    // Of several faults of a line the first one.
+    // Of several faults of a line, the first one.
     (b"wire zz 1 1000001", DelayFault::UnknownNet { line: 3 }),
     (b"wire d 0 1000001", DelayFault::BadPin { line: 3 }),
     (
@@ -254,7 +254,7 @@ static FAULTY_WIRES: [(&[u8], DelayFault); 17] = [
     // Second lines of a pin, whose place is a number.
     (b"wire q 0 1\nwire q 0 1", DelayFault::Twice { line: 4 }),
     (b"wire q 0 0\nwire q 00 2", DelayFault::Twice { line: 4 }),
-    // Lines of no form.
+    // Malformed lines.
     (b"wire q 0", DelayFault::BadLine { line: 3 }),
     (b"wire q 0 1 1", DelayFault::BadLine { line: 3 }),
     (b"wire q one 1", DelayFault::BadLine { line: 3 }),
@@ -282,7 +282,7 @@ static WIRES: [(&[u8], [u32; 4]); 4] = [
     (b"timing version 2\nwire y 2 0\nwire y 001 03", [0, 3, 0, 0]),
 ];
 
-// The pins of a gate of three pins and of one of one pin, which is called as a line of a wire begins.
+// The pins of a gate of three pins and of one of one pin, whose name is how a line of a wire begins.
 fn pins_have_wires(
     rt: &impl Abort,
     alloc: Global,

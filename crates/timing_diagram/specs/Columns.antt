@@ -3,17 +3,17 @@ use Rattle.std.specs.Prelude.{ℕ, ◌+◌, ◌-◌, ◌*◌, ◌/◌, ◌≤◌
 use Rattle.timing_diagram.specs.declared.fault.ColumnsFault.{ColumnsFault}
 use Rattle.timing_diagram.specs.declared.fault.ColumnsFault.TheVariants.{NoStep, Backwards, PastHorizon, TooManyColumns}
 
--- the ticks from one to another, so many of them a column
+-- the ticks from one to another, and the number of ticks per column
 pub record Ticks : Type 0 where
   pub from : ℕ
   pub to : ℕ
   pub step : ℕ
 
--- the most columns of a drawing
+-- the largest number of columns in a drawing
 abbrev pub most_columns : ℕ
 most_columns = 1_000
 
--- as many columns as hold all the ticks
+-- the number of columns that contain all the ticks
 abbrev pub column_count : Ticks → ℕ
 column_count ticks = (ticks.to - ticks.from) / ticks.step + 1
 
@@ -31,7 +31,7 @@ pub record IsDrawable (ticks : Ticks) : Type 0 where
   pub forward : ticks.from ≤ ticks.to
   pub few : column_count ticks ≤ most_columns
 
--- the ticks from one to another by a step, where they can be drawn of a run to this horizon
+-- the ticks from one to another by a step, if they can be drawn for a run up to this horizon
 abbrev pub columns_of : ℕ → ℕ → ℕ → ℕ → Result Ticks ColumnsFault
 columns_of from to step horizon =
     if step == 0 then Err NoStep

@@ -25,7 +25,7 @@ abbrev pub marks_text : (ℕ → Value) → Ticks → List ℕ
 marks_text signal ticks =
     map (λ column. mark_byte (mark_at signal ticks column)) (range_with_len 0 (column_count ticks))
 
--- the line of a net: its name, two spaces behind the longest name, and the columns
+-- the line of a net: its name, padded to two spaces after the longest name, and the columns
 abbrev pub line_text : ℕ → Ticks → Trace → List ℕ
 line_text width ticks (name, signal) =
     name ++ replicate (width - length name) 32 ++ codes "  " ++ marks_text signal ticks ++ codes "\n"

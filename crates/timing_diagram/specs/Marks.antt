@@ -1,4 +1,4 @@
--- What a drawing shows of a signal in a column.
+-- What a drawing shows for a signal in a column.
 use Rattle.std.specs.Prelude.{ℕ, ◌+◌, ◌-◌, ◌==◌, ◌&&◌, not, Bool, if◌then◌else◌}
 use Rattle.logic3.specs.declared.value.Value.{Value}
 use Rattle.logic3.specs.declared.value.Value.TheVariants.{Zero, One, Unknown}
@@ -9,11 +9,11 @@ use Rattle.timing_diagram.specs.declared.mark.Mark.{Mark}
 use Rattle.timing_diagram.specs.declared.mark.Mark.TheVariants.{Low, Fall, High, Rise, Unsure, Changing}
 use Rattle.timing_diagram.specs.Columns.{Ticks, first_tick, last_tick}
 
--- whether a signal stays from one tick to another
+-- whether a signal is constant from one tick to another
 abbrev pub is_steady : (ℕ → Value) → ℕ → ℕ → Bool
 is_steady signal first last = is_empty (changes_between signal (first + 1) (last + 1))
 
--- whether a signal comes to a column with an edge; before the first column nothing is shown
+-- whether a signal has an edge at the beginning of a column; the first column has none
 abbrev pub has_edge : (ℕ → Value) → Ticks → ℕ → Bool
 has_edge signal ticks column =
     not (column == 0) && not (is_same (signal (first_tick ticks column - 1)) (signal (first_tick ticks column)))

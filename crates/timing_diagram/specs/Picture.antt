@@ -8,16 +8,16 @@ use Rattle.timing_diagram.specs.declared.mark.Mark.TheVariants.{Low, Fall, High,
 use Rattle.timing_diagram.specs.Columns.{Ticks, column_count, first_tick}
 use Rattle.timing_diagram.specs.Marks.{mark_at}
 
--- the bytes of the longest name
+-- the length in bytes of the longest name
 abbrev pub widest : List Trace → ℕ
 widest [] = 0
 widest ((name, signal) ∷ traces) = max (length name) (widest traces)
 
--- a number behind a text
+-- a number after a text
 abbrev pub numbered : List ℕ → ℕ → List ℕ
 numbered text number = text ++ decimal number
 
--- a byte as XML asks
+-- a byte escaped for XML
 abbrev pub escaped_byte : ℕ → List ℕ
 escaped_byte byte =
     if byte == 38 then codes "&amp;"
@@ -25,7 +25,7 @@ escaped_byte byte =
     else if byte == 62 then codes "&gt;"
     else byte ∷ []
 
--- a name as XML asks
+-- a name escaped for XML
 abbrev pub escaped : List ℕ → List ℕ
 escaped name = flat_map escaped_byte name
 
@@ -86,7 +86,7 @@ abbrev pub grid : ℕ → ℕ → Ticks → List ℕ
 grid left height ticks =
     flat_map (grid_line left height ticks) (range_with_len 0 ((column_count ticks + 9) / 10))
 
--- the drawing as an SVG text
+-- the drawing as SVG
 abbrev pub svg_text : Ticks → List Trace → List ℕ
 svg_text ticks traces =
     heading (left_edge traces) (picture_height traces) (column_count ticks)

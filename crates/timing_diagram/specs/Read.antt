@@ -12,6 +12,6 @@ value_of_character byte =
     else if byte == 120 then Some Unknown
     else None
 
--- the value that a signal has from one tick to another, if it stays
+-- the value that a signal has from one tick to another, if it is constant
 abbrev pub steady_value : (ℕ → Value) → ℕ → ℕ → Option Value
 steady_value signal first last = if is_steady signal first last then Some (signal first) else None

@@ -5,10 +5,10 @@ use crate::fault::ColumnsFault;
 use std::marker::Model;
 use timing_text::Horizon;
 
-/// The most columns of a diagram.
+/// The largest number of columns in a diagram.
 const MOST_COLUMNS: u64 = 1_000;
 
-/// The ticks of a diagram, from one to another, cut into columns of some ticks each: at most 1,000
+/// The ticks of a diagram, from one to another, divided into columns of equally many ticks: at most 1,000
 /// columns, of which the last may be shorter.
 #[derive(Clone, Copy, Debug, PartialEq, Eq)]
 pub struct Columns {
@@ -32,12 +32,12 @@ impl Model for Columns {
 impl Columns {
     ghost use Rattle.timing_diagram.specs.Columns.{IsDrawable, columns_of, column_count, first_tick, last_tick};
 
-    /// The ticks from `from` to `to`, in columns of `step` ticks, of a run to this horizon.
+    /// Returns the ticks from `from` to `to`, in columns of `step` ticks, of a run up to this horizon.
     ///
     /// # Errors
-    /// [`ColumnsFault::NoStep`] where `step` is 0, else [`ColumnsFault::Backwards`] where `to` is before
-    /// `from`, else [`ColumnsFault::PastHorizon`] where `to` is past the horizon, else
-    /// [`ColumnsFault::TooManyColumns`] where that is more than 1,000 columns.
+    /// [`ColumnsFault::NoStep`] if `step` is 0, else [`ColumnsFault::Backwards`] if `to` is before
+    /// `from`, else [`ColumnsFault::PastHorizon`] if `to` is past the horizon, else
+    /// [`ColumnsFault::TooManyColumns`] if there are more than 1,000 columns.
     pub fn new(from: u64, to: u64, step: u64, horizon: Horizon) -> Result<Columns, ColumnsFault>
         ensures exact { result ≡ columns_of from to step horizon }
         ensures drawable { IfOk result IsDrawable }
@@ -58,7 +58,7 @@ impl Columns {
         Ok(Columns { from, to, step })
     }
 
-    /// How many columns there are: 1 to 1,000.
+    /// Returns the number of columns: 1 to 1,000.
     pub fn count(self) -> u64
         ensures count { result ≡ column_count self }
         ensures few { result ≤ most_columns }
@@ -66,7 +66,7 @@ impl Columns {
         (self.to - self.from) / self.step + 1
     }
 
-    /// The first tick of a column.
+    /// Returns the first tick of a column.
     pub fn first(self, column: u64) -> u64
         requires { column < column_count self }
         ensures { result ≡ first_tick self column }
@@ -74,7 +74,7 @@ impl Columns {
         self.from + column * self.step
     }
 
-    /// The last tick of a column.
+    /// Returns the last tick of a column.
     pub fn last(self, column: u64) -> u64
         requires { column < column_count self }
         ensures { result ≡ last_tick self column }

@@ -39,13 +39,13 @@ fn push_drawing(
 
 /// Writes the timing diagram of the shown nets, from their waveforms.
 ///
-/// It is made whole before its first byte goes out: a character or some 20 bytes for each net and
-/// column. Nothing is flushed.
+/// The whole diagram is built before its first byte is written: one character, or about 20 bytes, for
+/// each net and column. The writer isn't flushed.
 ///
 /// # Errors
-/// [`DumpFault::Write`] where a `write` answers a fault, also an interruption,
-/// [`DumpFault::WroteNothing`] where a `write` takes none of some bytes, and [`DumpFault::Memory`],
-/// before anything was written; never [`DumpFault::Failed`].
+/// [`DumpFault::Write`] if a `write` returns an error, including an interruption,
+/// [`DumpFault::WroteNothing`] if a `write` takes none of its bytes, and [`DumpFault::Memory`] if an
+/// allocation fails, before anything is written; never [`DumpFault::Failed`].
 pub fn draw<W: Write>(
     alloc: Global,
     out: &mut W,

@@ -13,12 +13,12 @@ pub enum ColumnsFault {
     Backwards,
     /// The last tick is past the horizon of the run.
     PastHorizon,
-    /// More than 1,000 columns.
+    /// There are more than 1,000 columns.
     TooManyColumns,
 }
 
 impl ColumnsFault {
-    /// The fault's name, which is its text.
+    /// Returns the fault's name, which is its text.
     pub fn name(&self) -> &'static str
         ensures { result.now ≡ name_of self.now }
     {

@@ -1,8 +1,8 @@
 /// How a diagram is drawn.
 #[derive(Clone, Copy, Debug, PartialEq, Eq)]
 pub enum Form {
-    /// As plain text, a character a column.
+    /// As plain text, one character per column.
     Text,
-    /// As an SVG text, with lines.
+    /// As SVG, with lines.
     Svg,
 }

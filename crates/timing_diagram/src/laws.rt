@@ -9,8 +9,8 @@ ghost use Rattle.timing_diagram.specs.Marks.{is_steady};
 ghost use Rattle.timing_diagram.specs.Picture.{escaped};
 ghost use Rattle.timing_diagram.specs.Read.{value_of_character, steady_value};
 
-/// The character of a column shows the value that the signal has at each tick of the column, and no
-/// value where the signal doesn't stay.
+/// The character of a column shows the value that the signal has at every tick of the column, and no
+/// value if the signal changes within the column.
 pub fn columns_show_the_signal()
     ensures shown { (signal : ℕ → Value) (ticks : Ticks) (column : ℕ) → column < column_count ticks →
         option_and_then value_of_character (slice_get (marks_text signal ticks) column)
@@ -19,7 +19,7 @@ pub fn columns_show_the_signal()
         first ≤ tick → tick ≤ last → signal tick ≡ signal first }
 {}
 
-/// A name as XML asks has no mark that opens or closes a tag.
+/// A name escaped for XML has no mark that opens or closes a tag.
 pub fn names_are_escaped()
     ensures opens { (name : List ℕ) → list_any (λ byte. byte == 60) (escaped name) ≡ false }
     ensures closes { (name : List ℕ) → list_any (λ byte. byte == 62) (escaped name) ≡ false }

@@ -7,7 +7,7 @@ use crate::columns::Columns;
 use crate::mark::Mark;
 use logic3::{Value, Waveform};
 
-// Whether a waveform stays from one tick to another. Takes logarithmic time.
+// Returns whether a waveform is constant from one tick to another. Takes logarithmic time.
 fn is_steady(wave: &Waveform, first: u64, last: u64) -> bool
     ensures { result ≡ is_steady (value_at wave.now) first last }
 {
@@ -31,7 +31,7 @@ fn level_mark(edge: bool, value: Value) -> Mark
     }
 }
 
-/// What a waveform shows in a column. Takes logarithmic time.
+/// Returns the mark of a waveform in a column. Takes logarithmic time.
 pub fn mark_at(wave: &Waveform, columns: Columns, column: u64) -> Mark
     requires { column < column_count columns }
     ensures { result ≡ mark_at (value_at wave.now) columns column }

@@ -169,7 +169,7 @@ fn push_rows(
     Ok(())
 }
 
-/// Adds the drawing of some nets as an SVG text.
+/// Adds the drawing of some nets as SVG.
 pub fn push_svg(
     text: &mut Vec<u8>,
     design: &Design,

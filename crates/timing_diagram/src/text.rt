@@ -37,7 +37,7 @@ fn push_marks(text: &mut Vec<u8>, wave: &Waveform, columns: Columns) -> Result<(
     Ok(())
 }
 
-// The line of a net, whose name is no longer than the width.
+// Adds the line of a net, whose name is at most as long as the width.
 fn push_line(
     text: &mut Vec<u8>,
     width: usize,
@@ -78,7 +78,7 @@ fn push_ruler(text: &mut Vec<u8>, width: usize, columns: Columns) -> Result<(), 
     Ok(())
 }
 
-/// The bytes of the longest name of some nets.
+/// Returns the length in bytes of the longest name of some nets.
 pub fn widest(design: &Design, shown: &[u32], waves: &[Waveform]) -> usize
     requires shown_exist { All (λ net. net < length design.now.circuit) shown.now }
     requires one_wave_each { length waves.now ≡ length shown.now }

@@ -1,4 +1,4 @@
--- What a fault of a text or a setting tells: its name and its line.
+-- The name and the line of a fault of a text or a setting.
 use Rattle.std.specs.Prelude.{ℕ, List, codes}
 use Rattle.timing_text.specs.declared.fault.OptionFault.{OptionFault}
 use Rattle.timing_text.specs.declared.fault.OptionFault.TheVariants.{BadDelay, BadPeriod, BadHorizon}
@@ -12,7 +12,7 @@ option_name BadDelay = codes "BadDelay"
 option_name BadPeriod = codes "BadPeriod"
 option_name BadHorizon = codes "BadHorizon"
 
--- the line that a fault names, and 0 for one without a line
+-- the line of a fault, or 0 for one without a line
 abbrev pub delay_line : DelayFault → ℕ
 delay_line (delay.BadLine line) = line
 delay_line (delay.UnknownNet line) = line
@@ -40,7 +40,7 @@ delay_name (delay.BadPhase line) = codes "BadPhase"
 delay_name (delay.BadValue line) = codes "BadValue"
 delay_name (delay.BadPin line) = codes "BadPin"
 
--- the line that a fault names, and 0 for one without a line
+-- the line of a fault, or 0 for one without a line
 abbrev pub stimulus_line : StimulusFault → ℕ
 stimulus_line (stimulus.BadLine line) = line
 stimulus_line (stimulus.UnknownNet line) = line

@@ -18,7 +18,7 @@ given_to_net lines net = (properties_named lines net.name, map (wire_named lines
 abbrev pub given_to_nets : NetlistView → List NetProperty → List (Properties × List (Option ℕ))
 given_to_nets netlist lines = map (given_to_net lines) netlist.nets
 
--- what a net was given, as it is stored
+-- what a net was given, from its stored form
 abbrev pub seen_given : NetGiven → Properties × List (Option ℕ)
 seen_given stored = (stored.properties, stored.wires.items)
 

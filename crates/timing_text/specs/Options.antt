@@ -5,11 +5,11 @@ use Rattle.timing_text.specs.declared.fault.OptionFault.{OptionFault}
 use Rattle.timing_text.specs.declared.fault.OptionFault.TheVariants.{BadDelay, BadPeriod, BadHorizon}
 use Rattle.timing_text.specs.Ranges.{most_delay, most_ticks}
 
--- from 1 up to the most
+-- from 1 up to the limit
 abbrev pub is_in_limits : ℕ → ℕ → Bool
 is_in_limits number most = nat_le 1 number && nat_le number most
 
--- the fault of a default delay and a period, if there is one
+-- the fault of a default delay and a period, if any
 abbrev pub option_fault : ℕ → ℕ → Option OptionFault
 option_fault delay period =
     if not (is_in_limits delay most_delay) then Some BadDelay
@@ -20,6 +20,6 @@ option_fault delay period =
 abbrev pub horizon_of : ℕ → Result ℕ OptionFault
 horizon_of ticks = if nat_lt most_ticks ticks then Err BadHorizon else Ok ticks
 
--- whether a default delay and a period are in their ranges, or the first fault
+-- the first fault of a default delay and a period that aren't in their ranges
 abbrev pub options_of : ℕ → ℕ → Result (Unit {0}) OptionFault
 options_of delay period = option_map_or Err (option_fault delay period) (Ok tt)

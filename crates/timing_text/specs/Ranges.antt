@@ -7,11 +7,11 @@ use Rattle.netlist.specs.declared.part.Part.{Part}
 use Rattle.netlist.specs.declared.part.Part.TheVariants.{Input, Flop}
 use Rattle.timing_text.specs.declared.timing.Timing.{Timing}
 
--- the most ticks that a gate or a flip-flop may take, or the wire of a pin
+-- the largest delay of a gate or a flip-flop, and the largest wire delay
 abbrev pub most_delay : ℕ
 most_delay = 1_000_000
 
--- the last tick that a horizon, a period or a stimulus may name
+-- the last tick for a horizon or a stimulus, and the largest period
 abbrev pub most_ticks : ℕ
 most_ticks = 10_000_000
 
@@ -19,7 +19,7 @@ abbrev pub HasDelay : Part → ℕ → Type 0
 HasDelay Input delay = delay ≡ 0
 HasDelay _ delay = (1 ≤ delay) × (delay ≤ most_delay)
 
--- the wire of each pin takes so many ticks at most
+-- each pin has a wire delay, at most the largest one
 pub record HasWires (pins : ℕ) (wires : List ℕ) : Type 0 where
   pub each : length wires ≡ pins
   pub most : All (λ wire. wire ≤ most_delay) wires

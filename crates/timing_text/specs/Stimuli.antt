@@ -1,4 +1,4 @@
--- What a stimulus text says of a netlist.
+-- What a stimulus text says about a netlist.
 use Rattle.std.specs.Prelude.{ℕ, not, nat_lt, nat_le, if◌then◌else◌, List, [], ◌∷◌, ◌++◌, map, filter, option_map, Option, None, Some, Result, Ok, Err, bytes_eq}
 use Rattle.std.specs.List.{list_any}
 use Rattle.std.specs.Option.{option_map_or}
@@ -28,7 +28,7 @@ stimulus_of_words _ = None
 abbrev pub stimulus_in : List ℕ → Option StimulusLine
 stimulus_in code = if is_plain code then stimulus_of_words (words_of code) else None
 
--- a change of the net of this name
+-- a change of the net with this name
 pub record NamedChange : Type 0 where
   pub name : List ℕ
   pub change : Change
@@ -36,7 +36,7 @@ pub record NamedChange : Type 0 where
 abbrev pub named_change : StimulusLine → Value → NamedChange
 named_change s value = record { name = s.name; change = record { tick = s.tick; value = value } }
 
--- the change on the line of this number, if the net may have it
+-- the change on the line with this number, if the net may have it
 abbrev pub stimulus_at : ℕ → StimulusLine → Option NetView → Result NamedChange StimulusFault
 stimulus_at line s None = Err (UnknownNet line)
 stimulus_at line s (Some net) =
@@ -44,17 +44,17 @@ stimulus_at line s (Some net) =
     else if nat_lt most_ticks s.tick then Err (TickTooLarge line)
     else option_map_or (λ value. Ok (named_change s value)) (value_of_word s.value) (Err (BadValue line))
 
--- what a line gives whatever stands before it, or its first fault
+-- what a line gives regardless of the lines before it, or its first fault
 abbrev pub stimulus_or_fault : NetlistView → ℕ × List ℕ → Result NamedChange StimulusFault
 stimulus_or_fault netlist (line, code) =
     option_map_or (λ (s : StimulusLine). stimulus_at line s (find_net netlist s.name)) (stimulus_in code) (Err (BadLine line))
 
--- the changes that stimuli give the net of this name
+-- the changes that stimuli give the net with this name
 abbrev pub stimuli_named : List NamedChange → List ℕ → List Change
 stimuli_named stimuli name =
     map (λ (s : NamedChange). s.change) (filter (λ (s : NamedChange). bytes_eq s.name name) stimuli)
 
--- the stimuli of earlier lines and then that of the line of this number, unless one of the same net is at its tick or later
+-- the stimuli of earlier lines and then that of the line with this number, unless one of the same net is at its tick or later
 abbrev pub with_stimulus : List NamedChange → ℕ → NamedChange → Result (List NamedChange) StimulusFault
 with_stimulus earlier line s =
     if list_any (λ (change : Change). nat_le s.change.tick change.tick) (stimuli_named earlier s.name) then Err (NotRising line)

@@ -1,4 +1,4 @@
--- What a line of a delay text says of a net, in both versions of such texts.
+-- What a line of a delay text says about a net, in both versions of such texts.
 use Rattle.std.specs.Prelude.{ℕ, ◌<◌, ◌≤◌, min, not, nat_lt, if◌then◌else◌, List, [], ◌∷◌, length, option_map, Option, None, Some, Result, Ok, Err, codes, bytes_eq}
 use Rattle.std.specs.Option.{ok_or, option_and_then, option_map_or}
 use Rattle.netlist.specs.declared.part.Part.{Part}
@@ -19,7 +19,7 @@ use Rattle.timing_text.specs.Words.{find_net, value_of_word}
 
 -- ---- its words
 
--- the name of a net, and what is said of it
+-- the name of a net, and what is said about it
 pub record TimingLine : Type 0 where
   pub name : List ℕ
   pub spelled : Spelled
@@ -76,7 +76,7 @@ pub record NetProperty : Type 0 where
   pub name : List ℕ
   pub property : Property
 
--- the property on the line of this number, if a net of this part with so many pins may have it
+-- the property on the line with this number, if a net with this part and number of pins may have it
 abbrev pub property_of_part : ℕ → Spelled → Part → ℕ → Result Property DelayFault
 property_of_part line (spelled.Delay ticks) part pins =
     if is_input part then Err (IsInput line)
@@ -95,18 +95,18 @@ property_of_part line (spelled.Wire wire) part pins =
     else if nat_lt most_delay wire.ticks then Err (BadTicks line)
     else Ok (property.Wire wire)
 
--- a wire delay is of one of so many pins, and in its limits
+-- a wire delay is of a pin of the net, and within its limits
 abbrev pub HasPin : ℕ → Property → Type 0
 HasPin pins (property.Wire wire) = (wire.place < pins) × (wire.ticks ≤ most_delay)
 HasPin pins _ = Unit {0}
 
--- what is said on the line of this number, if its net is there and may have it
+-- what the line with this number says, if its net exists and may have it
 abbrev pub property_at : NetlistView → ℕ → TimingLine → Result NetProperty DelayFault
 property_at netlist line said =
     ok_or (find_net netlist said.name) (UnknownNet line) >>= λ (net : NetView).
     property_of_part line said.spelled net.part (length net.pins) >>= λ property.
     Ok (record { name = said.name; property = property })
 
--- what a line gives whatever stands before it, or its first fault
+-- what a line gives regardless of the lines before it, or its first fault
 abbrev pub property_or_fault : Version → NetlistView → ℕ × List ℕ → Result NetProperty DelayFault
 property_or_fault version netlist (line, code) = ok_or (line_in version code) (BadLine line) >>= property_at netlist line

@@ -21,7 +21,7 @@ use Rattle.timing_text.specs.TimingLines.{NetProperty, property_or_fault}
 
 -- ---- what lines give a net
 
--- nothing yet
+-- no properties given yet
 abbrev pub no_properties : Properties
 no_properties = record { delay = None; clock = None; initial = None }
 
@@ -31,22 +31,22 @@ with_property given (Clock clock) = record given { clock = Some clock }
 with_property given (Initial value) = record given { initial = Some value }
 with_property given (Wire wire) = given
 
--- what lines give the net of this name
+-- what lines give the net with this name
 abbrev pub properties_named : List NetProperty → List ℕ → Properties
 properties_named lines name =
     fold (λ (given : Properties) (line : NetProperty). if bytes_eq line.name name then with_property given line.property else given) no_properties lines
 
--- the wire delay of the pin at a place, where this property comes behind what was given
+-- the wire delay of the pin at a place, after this property is added to what was given
 abbrev pub with_wire : ℕ → Option ℕ → Property → Option ℕ
 with_wire place given (Wire wire) = if wire.place == place then Some wire.ticks else given
 with_wire place given _ = given
 
--- the wire delay that lines give the pin at a place of the net of this name
+-- the wire delay that lines give the pin at a place of the net with this name
 abbrev pub wire_named : List NetProperty → List ℕ → ℕ → Option ℕ
 wire_named lines name place =
     fold (λ (given : Option ℕ) (line : NetProperty). if bytes_eq line.name name then with_wire place given line.property else given) None lines
 
--- whether lines give the net of this name a property of this kind, and a wire delay to the same pin
+-- whether lines give the net with this name a property of this kind, and a wire delay to the same pin
 abbrev pub has_kind : List NetProperty → List ℕ → Property → Bool
 has_kind lines name (Delay ticks) = is_some (properties_named lines name).delay
 has_kind lines name (Clock clock) = is_some (properties_named lines name).clock
@@ -55,7 +55,7 @@ has_kind lines name (Wire wire) = is_some (wire_named lines name wire.place)
 
 -- ---- line after line
 
--- earlier lines and then that of this number, unless one of them gave the same net a property of its kind
+-- earlier lines and then the one with this number, unless one of them gave the same net a property of its kind
 abbrev pub unless_twice : List NetProperty → ℕ → NetProperty → Result (List NetProperty) DelayFault
 unless_twice earlier line given =
     if has_kind earlier given.name given.property then Err (Twice line) else Ok (earlier ++ given ∷ [])
@@ -66,23 +66,23 @@ properties_after version netlist earlier line = property_or_fault version netlis
 
 -- ---- the whole text
 
--- just the words `timing version 2`
+-- exactly the words `timing version 2`
 abbrev pub are_header : List (List ℕ) → Bool
 are_header (first ∷ second ∷ third ∷ []) =
     bytes_eq first (codes "timing") && (bytes_eq second (codes "version") && bytes_eq third (codes "2"))
 are_header _ = false
 
--- the version of a text with these lines that say something
+-- the version of a text with these lines, which have words
 abbrev pub version_of : List (ℕ × List ℕ) → Version
 version_of [] = First
 version_of (first ∷ lines) = if are_header (words_of first.1) then Second else First
 
--- the lines that are of a net: all but a header
+-- the lines about nets: all except a header
 abbrev pub net_lines : List (ℕ × List ℕ) → List (ℕ × List ℕ)
 net_lines [] = []
 net_lines (first ∷ lines) = if are_header (words_of first.1) then lines else first ∷ lines
 
--- what the lines give that say something, or the first fault
+-- what the lines with words give, or the first fault
 abbrev pub properties_in : NetlistView → List (ℕ × List ℕ) → Result (List NetProperty) DelayFault
 properties_in netlist lines = fold_lines (properties_after (version_of lines) netlist) [] (net_lines lines)
 
@@ -104,11 +104,11 @@ timing_of_part default period given Flop =
     let clock = unwrap_or given.clock (record { period = period; phase = 0 }) in
     record { delay = unwrap_or given.delay default; period = clock.period; phase = clock.phase; initial = unwrap_or given.initial Unknown }
 
--- the timing of a net, where lines give these properties
+-- the timing of a net, if lines give these properties
 abbrev pub timing_of_net : ℕ → ℕ → List NetProperty → NetView → Timing
 timing_of_net default period lines net = timing_of_part default period (properties_named lines net.name) net.part
 
--- the wire delay of each of its pins, in order; a pin without a line has none
+-- the wire delay of each of its pins, in order; a pin without a line has wire delay 0
 abbrev pub wires_of_net : List NetProperty → NetView → List ℕ
 wires_of_net lines net = map (λ place. unwrap_or (wire_named lines net.name place) 0) (range_with_len 0 (length net.pins))
 
@@ -116,6 +116,6 @@ wires_of_net lines net = map (λ place. unwrap_or (wire_named lines net.name pla
 abbrev pub net_timings : NetlistView → ℕ → ℕ → List NetProperty → List (Timing × List ℕ)
 net_timings netlist default period lines = map (λ (net : NetView). (timing_of_net default period lines net, wires_of_net lines net)) netlist.nets
 
--- a timing and the wire delays of the pins, as they are stored
+-- a timing and the wire delays of the pins, from their stored form
 abbrev pub seen_timing : NetTiming → Timing × List ℕ
 seen_timing stored = (stored.timing, stored.wires.items)

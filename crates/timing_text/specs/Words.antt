@@ -1,10 +1,10 @@
--- What words of delay and stimulus texts mean.
+-- The meaning of words of delay and stimulus texts.
 use Rattle.std.specs.Prelude.{◌||◌, ℕ, if◌then◌else◌, List, option_map, Option, None, Some, codes, bytes_eq}
 use Rattle.logic3.specs.declared.value.Value.{Value}
 use Rattle.logic3.specs.declared.value.Value.TheVariants.{Zero, One, Unknown}
 use Rattle.netlist.specs.Netlist.{NetView, NetlistView, net_named, net_at}
 
--- the net of this name
+-- the net with this name
 abbrev pub find_net : NetlistView → List ℕ → Option NetView
 find_net netlist name = option_map (net_at netlist) (net_named netlist name)
 

@@ -19,7 +19,7 @@ pub enum OptionFault {
 }
 
 impl OptionFault {
-    /// The fault's name, which is its text.
+    /// Returns the fault's name, which is its text.
     pub fn name(&self) -> &'static str
         ensures { result.now ≡ option_name self.now }
     {
@@ -41,9 +41,9 @@ impl fmt::Display for OptionFault {
 
 /// Why a text gives no timings. Lines count from 1.
 ///
-/// The first faulty line decides, and [`TooLong`](Self::TooLong) comes before all else. Within a line
-/// the order is `BadLine`, `UnknownNet`, `IsInput`, `NotAFlop`, `BadPin`, `BadTicks`, `BadPeriod`,
-/// `BadPhase`, `BadValue`, `Twice`.
+/// The first faulty line decides, and [`TooLong`](Self::TooLong) comes before all others. Within a
+/// line the order is `BadLine`, `UnknownNet`, `IsInput`, `NotAFlop`, `BadPin`, `BadTicks`,
+/// `BadPeriod`, `BadPhase`, `BadValue`, `Twice`.
 #[derive(Clone, Copy, Debug, PartialEq, Eq, Error)]
 pub enum DelayFault {
     /// The text has more than 16,777,216 bytes.
@@ -54,26 +54,26 @@ pub enum DelayFault {
     UnknownNet { line: u64 },
     /// The net of a delay is an input.
     IsInput { line: u64 },
-    /// The delay is 0 or above 1,000,000 ticks, or that of a wire above 1,000,000.
+    /// The delay is 0 or above 1,000,000 ticks, or a wire delay is above 1,000,000 ticks.
     BadTicks { line: u64 },
-    /// An earlier line of the same kind is of this net, or of this pin of the net.
+    /// An earlier line of the same kind names this net, or this pin of the net.
     Twice { line: u64 },
-    /// A growth was refused.
+    /// An allocation failed.
     Memory,
-    /// The net of a clock or an initial value is no flip-flop.
+    /// The net of a clock or an initial value isn't a flip-flop.
     NotAFlop { line: u64 },
     /// The period is 0 or above 10,000,000 ticks.
     BadPeriod { line: u64 },
     /// The phase isn't below the period.
     BadPhase { line: u64 },
-    /// The initial value is none of `0`, `1`, `x` and `X`.
+    /// The initial value isn't `0`, `1`, `x` or `X`.
     BadValue { line: u64 },
     /// The net has no pin at this place.
     BadPin { line: u64 },
 }
 
 impl DelayFault {
-    /// The line that the fault names, from 1, and 0 for a fault without a line.
+    /// Returns the line of the fault, from 1, or 0 for a fault without a line.
     pub fn line(&self) -> u64
         ensures { result ≡ delay_line self.now }
     {
@@ -92,7 +92,7 @@ impl DelayFault {
         }
     }
 
-    /// The fault's name, which is its text.
+    /// Returns the fault's name, which is its text.
     pub fn name(&self) -> &'static str
         ensures { result.now ≡ delay_name self.now }
     {
@@ -140,7 +140,7 @@ impl<T: Drop> From<AllocFailed<T>> for DelayFault {
 /// Why a text gives no stimuli. Lines count from 1.
 ///
 /// The first faulty line decides, and within a line the order of these variants;
-/// [`TooLong`](Self::TooLong) comes before all else.
+/// [`TooLong`](Self::TooLong) comes before all others.
 #[derive(Clone, Copy, Debug, PartialEq, Eq, Error)]
 pub enum StimulusFault {
     /// The text has more than 16,777,216 bytes.
@@ -153,16 +153,16 @@ pub enum StimulusFault {
     NotAnInput { line: u64 },
     /// The tick is above 10,000,000.
     TickTooLarge { line: u64 },
-    /// The value is none of `0`, `1`, `x` and `X`.
+    /// The value isn't `0`, `1`, `x` or `X`.
     BadValue { line: u64 },
     /// The tick is not above the last one of this net.
     NotRising { line: u64 },
-    /// A growth was refused.
+    /// An allocation failed.
     Memory,
 }
 
 impl StimulusFault {
-    /// The line that the fault names, from 1, and 0 for a fault without a line.
+    /// Returns the line of the fault, from 1, or 0 for a fault without a line.
     pub fn line(&self) -> u64
         ensures { result ≡ stimulus_line self.now }
     {
@@ -177,7 +177,7 @@ impl StimulusFault {
         }
     }
 
-    /// The fault's name, which is its text.
+    /// Returns the fault's name, which is its text.
     pub fn name(&self) -> &'static str
         ensures { result.now ≡ stimulus_name self.now }
     {

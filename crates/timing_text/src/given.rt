@@ -1,4 +1,4 @@
-//! What the lines so far gave each net.
+//! What the lines read so far give each net.
 ghost use Rattle.std.specs.Prelude.{◌≡◌, [], length, map, IfOk};
 ghost use Rattle.std.specs.Option.{unwrap_or};
 ghost use Rattle.netlist.specs.Netlist.{IsNetlist};
@@ -10,7 +10,7 @@ use netlist::Netlist;
 use smallvec::SmallVec;
 use std::alloc::{AllocError, Global};
 
-/// What the lines so far gave a net, and the delay of the wire to each of its pins.
+/// What the lines read so far give a net, and the wire delay that they give each of its pins.
 #[derive(Drop)]
 pub(crate) struct NetGiven {
     pub(crate) properties: Properties,
@@ -18,7 +18,7 @@ pub(crate) struct NetGiven {
 }
 
 impl NetGiven {
-    /// Whether a property of this kind was given, and a wire delay to the same pin.
+    /// Returns whether a property of this kind was given, and a wire delay to the same pin.
     pub(crate) fn has(&self, property: Property) -> bool
         requires { HasPin (length self.now.wires.items) property }
         ensures { result ≡ is_given (seen_given self.now) property }
@@ -42,7 +42,7 @@ impl NetGiven {
         }
     }
 
-    /// The delay of the wire to each pin: 0 where none was given.
+    /// Returns the wire delay of each pin: 0 if none was given.
     pub(crate) fn wires(&self, alloc: Global) -> Result<SmallVec<u32, 4>, AllocError>
         ensures { IfOk result (λ wires. wires.items ≡ map (λ wire. unwrap_or wire 0) self.now.wires.items) }
     {
@@ -54,7 +54,7 @@ impl NetGiven {
     }
 }
 
-/// Nothing yet for each net, by net number.
+/// Returns an entry for each net, by net number, in which nothing is given.
 pub(crate) fn nothing_given(alloc: Global, netlist: &Netlist) -> Result<Vec<NetGiven>, AllocError>
     ensures given { IfOk result (λ given. map seen_given given.items ≡ given_to_nets netlist.now []) }
     ensures well_formed { IsNetlist netlist.now }

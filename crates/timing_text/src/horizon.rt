@@ -24,10 +24,10 @@ impl Model for Horizon {
 impl Horizon {
     ghost use Rattle.timing_text.specs.Options.{horizon_of};
 
-    /// The horizon at this tick.
+    /// Returns the horizon at a tick.
     ///
     /// # Errors
-    /// [`OptionFault::BadHorizon`] where it is above 10,000,000.
+    /// [`OptionFault::BadHorizon`] if it is above 10,000,000.
     pub fn new(ticks: u64) -> Result<Horizon, OptionFault>
         ensures { result ≡ horizon_of ticks }
     {

@@ -1,4 +1,5 @@
-//! What delay and stimulus texts say of a netlist, and the settings of a run: their ranges and faults.
+//! What delay and stimulus texts say about a netlist, and the settings of a run: their ranges and
+//! faults.
 #![tactic(auto)]
 
 mod fault;

@@ -1,7 +1,7 @@
 //! The limits of times, in ticks.
 
-/// The most ticks that a gate, a flip-flop or the wire of a pin may take.
+/// The largest delay of a gate or a flip-flop, and the largest wire delay.
 pub(crate) const MOST_DELAY: u64 = 1_000_000;
 
-/// The last tick that a horizon, a period or a stimulus may name.
+/// The last tick for a horizon or a stimulus, and the largest period.
 pub(crate) const MOST_TICKS: u64 = 10_000_000;

@@ -1,4 +1,4 @@
-//! What a line of a delay text says of a net.
+//! What a line of a delay text says about a net.
 ghost use Rattle.std.specs.Prelude.{◌≡◌, ◌^◌, ◌-◌, option_map, IfOk};
 ghost use Rattle.text_lines.specs.Text.{words_of};
 ghost use Rattle.netlist.specs.declared.part.Part.{Part};
@@ -13,7 +13,7 @@ use logic3::Value;
 use netlist::Part;
 use text_lines::{is_plain, number, words_of};
 
-/// The version of a delay text. One of the second begins with the line `timing version 2`.
+/// The version of a delay text. Version 2 begins with the line `timing version 2`.
 #[derive(Clone, Copy, PartialEq, Eq)]
 pub(crate) enum Version {
     First,
@@ -28,26 +28,26 @@ pub(crate) struct Clock {
 }
 
 impl Clock {
-    /// That of a net which is no flip-flop.
+    /// The clock of a net that isn't a flip-flop.
     pub(crate) const NONE: Clock = Clock {
         period: 0,
         phase: 0,
     };
 }
 
-/// How many ticks later than its source the pin at a place of a net is seen. Places count from 0.
+/// The wire delay of the pin at a place of a net, in ticks. Places count from 0.
 #[derive(Clone, Copy)]
 pub(crate) struct Wire {
     pub(crate) place: u64,
     pub(crate) ticks: u64,
 }
 
-/// What a line says of its net, whether or not the net may have it.
+/// What a line says about its net, whether or not that is allowed for the net.
 #[derive(Clone, Copy)]
 pub(crate) enum Spelled {
     Delay(u64),
     Clock(Clock),
-    /// `None` where the word is no value.
+    /// `None` if the word isn't a value.
     Initial(Option<Value>),
     Wire(Wire),
 }
@@ -63,7 +63,7 @@ pub(crate) enum Property {
     Wire(Wire),
 }
 
-/// What the lines so far gave a net, without the wires of its pins.
+/// What the lines read so far give a net, without the wire delays of its pins.
 #[derive(Clone, Copy)]
 pub(crate) struct Properties {
     pub(crate) delay: Option<u64>,
@@ -72,7 +72,7 @@ pub(crate) struct Properties {
 }
 
 impl Properties {
-    /// Nothing yet.
+    /// Returns properties in which nothing is given.
     pub(crate) fn none() -> Properties
         ensures { result ≡ no_properties }
     {
@@ -83,7 +83,7 @@ impl Properties {
         }
     }
 
-    /// These, and this property in place of one of its kind; a wire changes nothing.
+    /// Returns these properties with this one in place of one of its kind; a wire changes nothing.
     pub(crate) fn with(self, property: Property) -> Properties
         ensures { result ≡ with_property self property }
     {
@@ -105,7 +105,8 @@ impl Properties {
     }
 }
 
-/// The property on the line of this number, if a net of this part with so many pins may have it.
+/// Returns the property on the line with this number, or its fault if a net with this part and number
+/// of pins can't have it.
 pub(crate) fn property_of_part(
     line: u64,
     spelled: Spelled,
@@ -150,7 +151,7 @@ pub(crate) fn property_of_part(
     }
 }
 
-/// The same for a wire: every part that has the pin may have it.
+/// Does the same for a wire: every part that has the pin may have it.
 fn wire_of_pins(line: u64, wire: Wire, pins: usize) -> Result<Property, DelayFault>
     ensures property { (part : Part) → result ≡ property_of_part line (said.Wire wire) part pins }
     ensures pin { IfOk result (λ property. HasPin pins property) }
@@ -164,7 +165,8 @@ fn wire_of_pins(line: u64, wire: Wire, pins: usize) -> Result<Property, DelayFau
     Ok(Property::Wire(wire))
 }
 
-/// The name on a line and what the line says of its net, if it has a form of this version.
+/// Returns the name on a line and what the line says about its net, if the line has a form of this
+/// version.
 pub(crate) fn spelled_line(version: Version, code: &[u8]) -> Option<(&[u8], Spelled)>
     ensures { option_map (λ found. record { name = found.0.now; spelled = found.1 }) result
         ≡ option_map (cut_line (2 ^ 64 - 1)) (line_in version code.now) }
@@ -178,7 +180,7 @@ pub(crate) fn spelled_line(version: Version, code: &[u8]) -> Option<(&[u8], Spel
     }
 }
 
-/// The same for a line `NAME TICKS`, whatever bytes it has.
+/// Does the same for a line `NAME TICKS`, with any bytes.
 fn line_of_first(code: &[u8]) -> Option<(&[u8], Spelled)>
     ensures { option_map (λ found. record { name = found.0.now; spelled = found.1 }) result
         ≡ option_map (cut_line (2 ^ 64 - 1)) (line_of_first (words_of code.now)) }
@@ -190,7 +192,7 @@ fn line_of_first(code: &[u8]) -> Option<(&[u8], Spelled)>
     Some((name, Spelled::Delay(number(ticks)?)))
 }
 
-/// The same for a line `delay NAME TICKS`, `init NAME VALUE`, `clock NAME PERIOD PHASE` or
+/// Does the same for a line `delay NAME TICKS`, `init NAME VALUE`, `clock NAME PERIOD PHASE` or
 /// `wire NAME PLACE TICKS`.
 fn line_of_second(code: &[u8]) -> Option<(&[u8], Spelled)>
     ensures { option_map (λ found. record { name = found.0.now; spelled = found.1 }) result

@@ -22,11 +22,11 @@ struct NetChange {
     change: Change,
 }
 
-/// The stimuli of each net, by net number; none but for an input.
+/// Returns the stimuli of each net, by net number. Only inputs have any.
 ///
 /// # Errors
-/// The first fault of the text, as [`StimulusFault`] says, or [`StimulusFault::Memory`] where a growth
-/// was refused. A text that is too long is refused before any memory is taken.
+/// The first fault of the text, in the order of [`StimulusFault`], or [`StimulusFault::Memory`] if an
+/// allocation fails. A text that is too long is refused before anything is allocated.
 pub fn read_stimuli(
     alloc: Global,
     netlist: &Netlist,
@@ -53,7 +53,7 @@ pub fn read_stimuli(
     Ok(stimuli)
 }
 
-/// Gives back the memory that lists don't use.
+/// Frees the memory that the lists don't use.
 fn give_back(stimuli: &mut [Vec<Change>])
     ensures { map (λ changes. changes.items) stimuli.new ≡ map (λ changes. changes.items) stimuli.old }
 {
@@ -62,7 +62,7 @@ fn give_back(stimuli: &mut [Vec<Change>])
     }
 }
 
-/// No changes for each of so many nets.
+/// Returns an empty list of changes for each of `nets` nets.
 fn no_changes(alloc: Global, nets: u32) -> Result<Vec<Vec<Change>>, AllocError>
     ensures { IfOk result (λ stimuli.
         map (λ changes. changes.items) stimuli.items ≡ replicate nets []) }
@@ -74,7 +74,7 @@ fn no_changes(alloc: Global, nets: u32) -> Result<Vec<Vec<Change>>, AllocError>
     Ok(stimuli)
 }
 
-/// Whether the tick is above that of the last change.
+/// Returns whether the tick is above that of the last change.
 fn is_after(tick: u64, changes: &[Change]) -> bool
     ensures { result
         ≡ option_map_or (λ (last : Change). nat_lt last.tick tick) (slice_get changes.now (length changes.now - 1)) true }
@@ -82,7 +82,8 @@ fn is_after(tick: u64, changes: &[Change]) -> bool
     changes.last().is_none_or(|last| last.tick < tick)
 }
 
-/// What the line of this number gives, or its first fault; `code` is the line without its comment.
+/// Returns the change on the line with this number, or its first fault. `code` is the line without its
+/// comment.
 fn net_change(netlist: &Netlist, line: u64, code: &[u8]) -> Result<NetChange, StimulusFault>
     ensures net { IfOk result (λ given. given.net < length netlist.now.nets) }
     ensures change { result_map_both (λ given. record { name = (net_at netlist.now given.net).name; change = given.change })
@@ -110,7 +111,7 @@ fn net_change(netlist: &Netlist, line: u64, code: &[u8]) -> Result<NetChange, St
     })
 }
 
-/// The number, the name and the word for a value on a line, if it has just these.
+/// Returns the number, the name and the word for a value on a line, if the line consists of these.
 fn tick_name_and_word(code: &[u8]) -> Option<(u64, &[u8], &[u8])>
     ensures { option_map (λ found. record { tick = found.0; name = found.1.now; value = found.2.now }) result
         ≡ option_map (λ (s : StimulusLine). record s { tick = min (2 ^ 64 - 1) s.tick })

@@ -2,24 +2,24 @@
 use logic3::Value;
 use smallvec::SmallVec;
 
-/// When a net looks at its pins, and what it shows before, in ticks.
+/// When a net reads its pins, in ticks, and what it shows before that.
 #[derive(Clone, Copy, Debug, PartialEq, Eq)]
 pub struct Timing {
     /// 0 for an input, else 1 to 1,000,000.
     pub delay: u64,
     /// 1 to 10,000,000 for a flip-flop, else 0.
     pub period: u64,
-    /// A flip-flop samples at the ticks of at least 1 whose remainder by the period is this. Below the
-    /// period for a flip-flop, else 0.
+    /// A flip-flop samples at the ticks of at least 1 whose remainder by the period is this. Less than
+    /// the period for a flip-flop, else 0.
     pub phase: u64,
-    /// What a flip-flop shows before its first sample shows; unknown for all others.
+    /// What a flip-flop shows before its first sample shows; X for all other nets.
     pub initial: Value,
 }
 
-/// The timing of a net, and the delays of the wires to its pins.
+/// The timing of a net, and the wire delays of its pins.
 #[derive(Debug, Drop)]
 pub struct NetTiming {
     pub timing: Timing,
-    /// How many ticks later than its source each pin is seen, in the order of the pins: 0 to 1,000,000.
+    /// The wire delay of each pin in ticks, in the order of the pins: 0 to 1,000,000.
     pub wires: SmallVec<u32, 4>,
 }

@@ -23,13 +23,13 @@ struct GivenProperty {
     property: Property,
 }
 
-/// The timing of each net, by net number: that of its lines, else the default delay, and for a
-/// flip-flop this period, phase 0 and an unknown initial value. The wire of a pin without a line
-/// takes no ticks.
+/// Returns the timing of each net, by net number: what its lines give, else the default delay, and
+/// for a flip-flop this period, phase 0 and the initial value X. A pin without a line has wire delay
+/// 0.
 ///
 /// # Errors
-/// The first fault of the text, as [`DelayFault`] says, or [`DelayFault::Memory`] where a growth was
-/// refused. A text that is too long is refused before any memory is taken.
+/// The first fault of the text, in the order of [`DelayFault`], or [`DelayFault::Memory`] if an
+/// allocation fails. A text that is too long is refused before anything is allocated.
 pub fn read_timings(
     alloc: Global,
     netlist: &Netlist,
@@ -54,7 +54,7 @@ pub fn read_timings(
     Ok(timings)
 }
 
-/// The timing of a net of this part that was given these properties.
+/// Returns the timing of a net with this part and these properties.
 fn timing_of_part(default_delay: u64, period: u64, given: Properties, part: Part) -> Timing
     ensures { result ≡ timing_of_part default_delay period given part }
 {
@@ -76,7 +76,7 @@ fn timing_of_part(default_delay: u64, period: u64, given: Properties, part: Part
     }
 }
 
-/// What the lines of a text give each net, by net number.
+/// Returns what the lines of a text give each net, by net number.
 fn properties_given(
     alloc: Global,
     netlist: &Netlist,
@@ -103,7 +103,7 @@ fn properties_given(
     Ok(given)
 }
 
-/// The version of a text, and its lines without a header.
+/// Returns the version of a text, and its lines without a header.
 fn version_and_lines(text: &[u8]) -> (Version, CodeLines<'_>)
     ensures version { result.0 ≡ version_of (code_lines text.now) }
     ensures lines { result.1 ≡ net_lines (code_lines text.now) }
@@ -115,7 +115,7 @@ fn version_and_lines(text: &[u8]) -> (Version, CodeLines<'_>)
     }
 }
 
-/// Whether a line is just the words `timing version 2`.
+/// Returns whether a line consists of the words `timing version 2`.
 fn is_header(code: &[u8]) -> bool
     ensures { result ≡ are_header (words_of code.now) }
 {
@@ -131,7 +131,8 @@ fn is_header(code: &[u8]) -> bool
     first == b"timing".as_slice() && second == b"version".as_slice() && third == b"2".as_slice()
 }
 
-/// What the line of this number gives, or its first fault; `code` is the line without its comment.
+/// Returns the property on the line with this number, or its first fault. `code` is the line without
+/// its comment.
 fn given_property(
     version: Version,
     netlist: &Netlist,

@@ -4,7 +4,7 @@ ghost use Rattle.timing_text.specs.Words.{value_of_word};
 
 use logic3::Value;
 
-/// The value that a word means.
+/// Returns the value of a word, if it means one.
 pub(crate) fn value_of(word: &[u8]) -> Option<Value>
     ensures { result ≡ value_of_word word.now }
 {

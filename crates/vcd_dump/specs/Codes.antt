@@ -1,7 +1,7 @@
 -- The identifier codes of a dump.
 use Rattle.std.specs.Prelude.{ℕ, zero, suc, ◌+◌, ◌-◌, ◌/◌, ◌%◌, nat_lt, if◌then◌else◌, List, [], ◌∷◌}
 
--- the code of a place, of so many characters at most: one of the 94 from '!' to '~', and from place 94 on a code behind it
+-- the code of a place, with a limit on its characters: one of the 94 from '!' to '~', and from place 94 on a code after it
 abbrev pub code_within : ℕ → ℕ → List ℕ
 code_within zero place = []
 code_within (suc characters) place =

@@ -56,7 +56,7 @@ heading unit =
     ++ line (codes "$timescale 1 " ++ unit_text unit ++ codes " $end")
     ++ line (codes "$scope module top $end")
 
--- the declarations: all that stands before the first time
+-- the declarations: everything before the first time
 abbrev pub declarations : TimeUnit → List Variable → List ℕ
 declarations unit variables =
     heading unit ++ flat_map declaration variables ++ line (codes "$upscope $end") ++ line (codes "$enddefinitions $end")
@@ -85,7 +85,7 @@ abbrev pub changes_at : List Variable → ℕ → List ℕ
 changes_at variables tick =
     flat_map (λ (v : Variable). if is_same (v.signal (tick - 1)) (v.signal tick) then [] else change_line tick v) variables
 
--- the lines of a tick from 1 on: its time and its changes, where there are any or it is the last one
+-- the lines of a tick from 1 on: its time and its changes, if there are any or it is the last tick
 abbrev pub lines_at : List Variable → ℕ → ℕ → List ℕ
 lines_at variables horizon tick =
     if is_empty (changes_at variables tick) && not (tick == horizon) then []

@@ -1,4 +1,4 @@
--- What a fault tells, its name, and which faults are those of a write.
+-- The names of faults, and which faults are those of a write.
 use Rattle.std.specs.Prelude.{List, codes, ℕ}
 use Rattle.vcd_dump.specs.declared.fault.DumpFault.{DumpFault}
 use Rattle.vcd_dump.specs.declared.fault.DumpFault.TheVariants.{Write, WroteNothing, Memory, Failed}
@@ -9,7 +9,7 @@ name_of WroteNothing = codes "WroteNothing"
 name_of Memory = codes "Memory"
 name_of Failed = codes "Failed"
 
--- a write failed: it answered a fault, or took none of its bytes
+-- a write failed: it returned an error, or took none of its bytes
 abbrev pub IsFailedWrite : DumpFault → Type 0
 IsFailedWrite Write = Unit {0}
 IsFailedWrite WroteNothing = Unit {0}

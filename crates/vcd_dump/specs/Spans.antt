@@ -1,4 +1,4 @@
--- The text of a dump a span of ticks at a time.
+-- The text of a dump, one span of ticks at a time.
 use Rattle.std.specs.Prelude.{ℕ, ◌+◌, ◌-◌, ◌≤◌, ◌<◌, ◌≡◌, ◌==◌, max, Bool, false, if◌then◌else◌, List, [], ◌∷◌, ◌++◌, length, map, filter, flat_map, All, Vec, codes}
 use Rattle.std.specs.List.{enumerate_from, range_with_len}
 use Rattle.logic3.specs.declared.value.Value.{Value}
@@ -22,11 +22,11 @@ abbrev pub is_at_zero : List Change → Bool
 is_at_zero [] = false
 is_at_zero (change ∷ part) = change.tick == 0
 
--- what a net shows from tick 0 on: X there, where it has no change at it
+-- what a net shows from tick 0 on: X there, unless it has a change there
 abbrev pub from_zero : List Change → List Change
 from_zero part = if is_at_zero part then part else record { tick = 0; value = Unknown } ∷ part
 
--- the lines of the net at a place, of its changes in a span that begins at a tick
+-- the lines of the net at a place, given its changes in a span that begins at a tick
 abbrev pub lines_of : ℕ → ℕ × List Change → List Line
 lines_of from (place, part) = map (line_of place) (if from == 0 then from_zero part else part)
 
@@ -47,7 +47,7 @@ line_text line = change_text line.value (code_at line.place)
 abbrev pub zero_text : List ℕ → List ℕ
 zero_text values = time_line 0 ++ line (codes "$dumpvars") ++ values ++ line (codes "$end")
 
--- a later tick with its lines, where there are any
+-- a later tick with its lines, if any
 abbrev pub later_text : ℕ → List Line → List ℕ
 later_text tick here = if is_empty here then [] else time_line tick ++ flat_map line_text here
 
@@ -66,8 +66,8 @@ span_text from to parts = lines_text from to (span_lines from parts)
 
 -- ---- streams
 
--- what a stream has written: how many nets it shows, its last tick, the ticks that went out, and the last time line;
--- and what it was given since: the changes of how many nets, and their lines, net after net
+-- what a stream has written: the number of nets that it shows, its last tick, the number of ticks written, and the last time
+-- line; and what it was given since: the number of nets whose changes were given, and their lines, net after net
 pub record StreamView : Type 0 where
   pub nets : ℕ
   pub horizon : ℕ
@@ -101,7 +101,7 @@ with_part stream part = record {
   failed = false;
 }
 
--- a stream that was given the changes of these nets alone, the first ones
+-- a stream that was given only the changes of these nets, the first ones
 abbrev pub with_parts : StreamView → List (List Change) → StreamView
 with_parts stream parts = record {
   nets = stream.nets;
@@ -130,7 +130,7 @@ spanned stream upto = record {
   failed = false;
 }
 
--- what ends the dump: the last tick, where no line was of it
+-- the end of the dump: the last tick, if it had no line
 abbrev pub last_text : StreamView → List ℕ
 last_text stream = time_line_after stream.time stream.horizon
 
@@ -140,8 +140,8 @@ pub record IsPart (from to : ℕ) (part : List Change) : Type 0 where
   pub low : All (λ (change : Change). from ≤ change.tick) part
   pub high : All (λ (change : Change). change.tick < to) part
 
--- a stream can go on up to but not including a tick: it was given the changes of each net, of which each shows a value
--- at tick 0, and all of them are at the ticks of the span
+-- a stream can advance up to but not including a tick: it was given the changes of each net, each net has a line at tick 0 if
+-- that isn't written yet, and all lines are at the ticks of the span
 pub record CanSpan (stream : StreamView) (upto : ℕ) : Type 0 where
   pub ahead : stream.written < upto
   pub within : upto ≤ stream.horizon + 1
@@ -158,7 +158,7 @@ pub record IsSpan (stream : StreamView) (upto : ℕ) (parts : List (List Change)
   pub proper : All (IsPart stream.written upto) parts
 
 module _ {A : Type 0} where
-  -- the changes that stand in each of some lists
+  -- the changes in each of some lists
   abbrev pub changes_in : List (Vec Change A) → List (List Change)
   changes_in parts = map (λ (part : Vec Change A). part.items) parts
 
@@ -184,7 +184,7 @@ stream_at signals horizon to = record {
 abbrev pub shown_signals : List Trace → List (ℕ → Value)
 shown_signals traces = map (λ (trace : Trace). trace.1) traces
 
--- all that stands behind the declarations: one span of all ticks up to a horizon, and what ends it
+-- everything after the declarations: one span of all ticks up to a horizon, and the end of the dump
 abbrev pub whole_text : ℕ → List (ℕ → Value) → List ℕ
 whole_text horizon signals =
     span_text 0 (horizon + 1) (parts_of signals 0 (horizon + 1)) ++ last_text (stream_at signals horizon (horizon + 1))

@@ -20,6 +20,6 @@ abbrev pub traces : Circuit → List ℕ → List Wave → List Trace
 traces circuit (net ∷ shown) (wave ∷ waves) = (name_of circuit net, value_at wave) ∷ traces circuit shown waves
 traces circuit shown waves = []
 
--- the shown nets as their declarations show them: what they show at a tick stands nowhere there
+-- the shown nets as in their declarations, which contain no values
 abbrev pub named : Circuit → List ℕ → List Variable
 named circuit shown = variables_of (map (λ net. (name_of circuit net, λ tick. Unknown)) shown)

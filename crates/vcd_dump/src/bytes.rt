@@ -6,11 +6,11 @@ ghost use Rattle.vcd_dump.specs.Faults.{IsFailedWrite};
 use crate::fault::DumpFault;
 use std::io::Write;
 
-/// Writes the whole text, by as many calls of `write` as it takes, and takes no memory.
+/// Writes the whole text, by as many calls of `write` as needed. Allocates nothing.
 ///
 /// # Errors
-/// `Write` where a call answers a fault, an interruption too, and `WroteNothing` where it takes none
-/// of the bytes; a first part of the text was written then. Never `Memory` or `Failed`.
+/// `Write` if a call returns an error, including an interruption, and `WroteNothing` if it takes none
+/// of the bytes. A prefix of the text has been written then. Never `Memory` or `Failed`.
 pub fn write_all_bytes<W: Write>(out: &mut W, text: &[u8]) -> Result<(), DumpFault>
     ensures ok { OnOk result (Appends (W.contents out.old) (W.contents out.new) text.now) }
     ensures err { OnErr result (AppendsPrefix (W.contents out.old) (W.contents out.new) text.now) }

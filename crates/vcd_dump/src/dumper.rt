@@ -39,7 +39,7 @@ fn write_variables<W: Write>(
     Ok(())
 }
 
-/// Writes all that stands before the first time. No text may wait, and none waits then.
+/// Writes everything before the first time. `text` must be empty, and is empty after success.
 pub fn write_declarations<W: Write>(
     out: &mut W,
     text: &mut Vec<u8>,
@@ -64,12 +64,12 @@ pub fn write_declarations<W: Write>(
 
 /// Writes the dump of the shown nets, from their waveforms, up to a horizon.
 ///
-/// It goes out in pieces of some 64 KiB. Nothing is written after a fault, and nothing is flushed.
+/// It is written in pieces of about 64 KiB. Nothing is written after a fault, and `out` isn't flushed.
 ///
 /// # Errors
-/// [`DumpFault::Write`] where a `write` answers a fault, also an interruption,
-/// [`DumpFault::WroteNothing`] where a `write` takes none of some bytes, and [`DumpFault::Memory`];
-/// never [`DumpFault::Failed`].
+/// [`DumpFault::Write`] if a `write` returns an error, including an interruption,
+/// [`DumpFault::WroteNothing`] if a `write` takes none of its bytes, and [`DumpFault::Memory`] if an
+/// allocation fails; never [`DumpFault::Failed`]. A prefix of the dump has been written then.
 pub fn dump<W: Write>(
     alloc: Global,
     out: &mut W,

@@ -6,21 +6,21 @@ use std::alloc::{AllocError, AllocFailed};
 use std::fmt;
 use thiserror::Error;
 
-/// Why a dump ended early: what went out is then a prefix of its text.
+/// Why a dump ended early. A prefix of its text has been written then.
 #[derive(Clone, Copy, Debug, PartialEq, Eq, Error)]
 pub enum DumpFault {
-    /// A `write` answered a fault, of whatever kind.
+    /// A `write` returned an error of any kind.
     Write,
-    /// A `write` of some bytes took none of them.
+    /// A `write` took none of its bytes.
     WroteNothing,
-    /// A growth was refused.
+    /// An allocation failed.
     Memory,
-    /// An earlier call on the stream answered a fault.
+    /// An earlier call on the stream returned a fault.
     Failed,
 }
 
 impl DumpFault {
-    /// The fault's name, which is its text.
+    /// Returns the fault's name, which is its text.
     pub fn name(&self) -> &'static str
         ensures { result.now ≡ name_of self.now }
     {

@@ -1,20 +1,22 @@
 //! Facts about the definitions alone.
-ghost use Rattle.std.specs.Prelude.{◌≡◌, ◌≢◌, ℕ, ◌+◌, ◌<◌, ◌≤◌, ◌^◌, false, List, [], ◌∷◌, ◌++◌, length, flat_map, All, Contains};
+ghost use Rattle.std.specs.Prelude.{◌≡◌, ◌≢◌, ℕ, ◌+◌, ◌<◌, ◌≤◌, ◌^◌, false, List, [], ◌∷◌, ◌++◌, length, map, flat_map, All, Contains};
 ghost use Rattle.logic3.specs.declared.value.Value.{Value};
 ghost use Rattle.logic3.specs.declared.change.Change.{Change};
+ghost use Rattle.design.specs.Circuit.{Circuit};
 ghost use Rattle.text_lines.specs.Text.{lines_of, words_of};
 ghost use Rattle.vcd_dump.specs.declared.unit.TimeUnit.{TimeUnit};
 ghost use Rattle.vcd_dump.specs.Codes.{code_at};
 ghost use Rattle.vcd_dump.specs.Dump.{dump_keywords, Trace, variables_of, declarations, dump_text};
 ghost use Rattle.vcd_dump.specs.Spans.{StreamView, begun, with_part, with_parts, spanned, span_text, IsPart, IsSpan, CanSpan, parts_of, stream_at, shown_signals, whole_text};
 ghost use Rattle.vcd_dump.specs.Shown.{dump_tokens, IsReadable, Shows};
+ghost use Rattle.vcd_dump.specs.Traces.{name_of, named};
 
 /// The identifier codes of distinct places differ.
 pub fn distinct_codes()
     ensures { (first second : ℕ) → first ≢ second → code_at first ≢ code_at second }
 {}
 
-/// The code of a place below 100,000 has at most three characters, and is no keyword of a dump.
+/// The code of a place below 100,000 has at most three characters, and isn't a keyword of a dump.
 pub fn codes_are_no_keywords()
     ensures short { (place : ℕ) → place < 100_000 → length (code_at place) ≤ 3 }
     ensures no_keyword { (place : ℕ) → place < 100_000 → ¬ Contains dump_keywords (code_at place) }
@@ -34,8 +36,8 @@ pub fn shown()
         All (Shows (dump_text unit horizon traces) horizon) traces }
 {}
 
-/// Changes that are given net after net are the stream's lines, and it can go on by those of each net
-/// at the ticks of a span.
+/// Changes that are given net after net become the stream's lines. With those of every net at the
+/// ticks of a span, the stream can write the span.
 pub fn parts_are_given()
     ensures first { (stream : StreamView) → stream.given ≡ 0 → stream.lines ≡ [] → with_parts stream [] ≡ stream }
     ensures next { (stream : StreamView) (parts : List (List Change)) (part : List Change) → stream.failed ≡ false →
@@ -47,8 +49,9 @@ pub fn parts_are_given()
         All (IsPart stream.written upto) parts → CanSpan (with_parts stream parts) upto }
 {}
 
-/// What a stream writes of signals, span by span, is their dump: it begins, can go on from any tick to
-/// any later one up to the horizon, and has then written what one span would have.
+/// What a stream writes for signals, span by span, is their dump. After the declarations it can advance
+/// from any tick to any later one up to the horizon, and writes what a single span would have. The
+/// declarations with which it begins, and what it writes after them, are the dump of the shown nets.
 pub fn spans_make_the_dump()
     ensures begins { (signals : List (ℕ → Value)) (horizon : ℕ) →
         begun (length signals) horizon ≡ stream_at signals horizon 0 }
@@ -65,4 +68,7 @@ pub fn spans_make_the_dump()
     ensures whole { (unit : TimeUnit) (horizon : ℕ) (traces : List Trace) →
         declarations unit (variables_of traces) ++ whole_text horizon (shown_signals traces)
         ≡ dump_text unit horizon traces }
+    ensures nets { (unit : TimeUnit) (horizon : ℕ) (circuit : Circuit) (shown : List ℕ) (signal : ℕ → ℕ → Value) →
+        declarations unit (named circuit shown) ++ whole_text horizon (map signal shown)
+        ≡ dump_text unit horizon (map (λ net. (name_of circuit net, signal net)) shown) }
 {}

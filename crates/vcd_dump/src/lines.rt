@@ -8,7 +8,7 @@ use itoa::Buffer;
 use logic3::Value;
 use std::alloc::AllocError;
 
-/// The word of a unit.
+/// Returns the word for a unit.
 pub fn unit_text(unit: TimeUnit) -> &'static [u8]
     ensures { result.now ≡ unit_text unit }
 {
@@ -25,7 +25,7 @@ pub fn unit_text(unit: TimeUnit) -> &'static [u8]
 /// Adds a text and a number in decimal.
 ///
 /// # Errors
-/// An `AllocError` where a growth was refused.
+/// `AllocError` if an allocation fails.
 pub fn push_numbered(text: &mut Vec<u8>, before: &[u8], number: u64) -> Result<(), AllocError>
     ensures { OnOk result (text.new.items ≡ text.old.items ++ (before.now ++ decimal number)) }
 {
@@ -67,7 +67,7 @@ pub fn push_declaration(line: &mut Vec<u8>, place: usize, name: &[u8]) -> Result
     Ok(())
 }
 
-/// Adds the line of a time, where it is later than the time before.
+/// Adds the line of a time, if it is later than the time before.
 pub fn push_time_after(line: &mut Vec<u8>, before: u64, tick: u64) -> Result<(), AllocError>
     ensures { OnOk result (line.new.items ≡ line.old.items ++ time_line_after before tick) }
 {

@@ -8,10 +8,10 @@ use crate::bytes::write_all_bytes;
 use crate::fault::DumpFault;
 use std::io::Write;
 
-// A text that is as long as this goes out.
+// A waiting text of at least this length is written.
 const PIECE: usize = 65_536;
 
-/// Writes the whole text that is waiting, and none waits then.
+/// Writes and removes the waiting text.
 pub fn send<W: Write>(out: &mut W, text: &mut Vec<u8>) -> Result<(), DumpFault>
     ensures ok { OnOk result (Appends (W.contents out.old) (W.contents out.new) text.old.items) }
     ensures empty { OnOk result (text.new.items ≡ []) }
@@ -23,11 +23,11 @@ pub fn send<W: Write>(out: &mut W, text: &mut Vec<u8>) -> Result<(), DumpFault>
     Ok(())
 }
 
-/// Writes the text that is waiting where it has 65,536 bytes or more, and none waits then; a shorter one
-/// waits on. Takes no memory.
+/// Writes and removes the waiting text if it has 65,536 bytes or more; a shorter one keeps waiting.
+/// Allocates nothing.
 ///
 /// # Errors
-/// `Write` or `WroteNothing`; a first part of the text went out then.
+/// `Write` or `WroteNothing`; a prefix of the text has been written then.
 pub fn send_long<W: Write>(out: &mut W, text: &mut Vec<u8>) -> Result<(), DumpFault>
     ensures ok { OnOk result
         (GoesOut (W.contents out.old) (W.contents out.new) text.old.items text.new.items) }

@@ -17,15 +17,15 @@ use std::io::Write;
 use std::marker::Model;
 use timing_text::Horizon;
 
-/// A dump that is written a span of ticks at a time: [`begin`](Self::begin), a [`span`](Self::span) for
-/// each, and [`finish`](Self::finish).
+/// A dump that is written one span of ticks at a time: by [`begin`](Self::begin), a [`span`](Self::span)
+/// for each, and [`finish`](Self::finish).
 ///
-/// A span's changes may also be given net by net, by a [`part`](Self::part) for each, and
-/// [`write_parts`](Self::write_parts) then writes it: so who has them net by net needs one list at a time.
+/// A span's changes may also be given net by net, by a [`part`](Self::part) for each, and then written by
+/// [`write_parts`](Self::write_parts). The caller then needs only one list of changes at a time.
 ///
-/// Text goes out in pieces of some 64 KiB, and at the end of each call. A call that answers a fault
-/// wrote a prefix of its text; the stream has failed then, writes nothing more, and answers
-/// [`DumpFault::Failed`]. Nothing is flushed.
+/// Text is written in pieces of about 64 KiB, and at the end of each call. A call that returns a fault
+/// has written a prefix of its text. The stream has failed then: it writes nothing more, and returns
+/// [`DumpFault::Failed`]. The writer isn't flushed.
 #[derive(Drop)]
 pub struct Stream {
     nets: usize,
@@ -33,7 +33,7 @@ pub struct Stream {
     written: u64,
     // The time of the last time line.
     time: u64,
-    // The nets whose changes were given since, and their lines.
+    // The number of nets whose changes were given since, and their lines.
     given: usize,
     lines: Vec<Line>,
     failed: bool,
@@ -95,21 +95,21 @@ impl Stream {
         })
     }
 
-    /// The number of ticks whose lines went out.
+    /// Returns the number of ticks whose lines have been written.
     pub fn written(&self) -> u64
         ensures { result ≡ self.now.written }
     {
         self.written
     }
 
-    /// Writes the lines of the ticks up to but not including one: the parts are the changes in them of
-    /// each shown net, in order. What was given by [`part`](Self::part) before plays no part.
+    /// Writes the lines of the ticks up to but not including `upto`. The parts are the changes of each
+    /// shown net at these ticks, in order. Changes given by [`part`](Self::part) before are discarded.
     ///
-    /// It takes time for the changes, and none for ticks at which nothing happens.
+    /// Takes time in proportion to the changes, and none for ticks without changes.
     ///
     /// # Errors
-    /// [`DumpFault::Failed`] where the stream has failed, else as [`begin`](Self::begin); the stream has
-    /// failed then.
+    /// [`DumpFault::Failed`] if the stream has failed before, else as [`begin`](Self::begin). The stream
+    /// has failed then.
     pub fn span<W: Write>(
         &mut self,
         out: &mut W,
@@ -132,7 +132,7 @@ impl Stream {
         self.write_parts(out, upto)
     }
 
-    // Takes the changes of each shown net, in place of what was given so far.
+    // Takes the changes of each shown net, in place of those given so far.
     fn take_parts(&mut self, parts: &[Vec<Change>]) -> Result<(), DumpFault>
         ensures stream { OnOk result (self.new ≡ with_parts self.old (changes_in parts.now)) }
         ensures running { OnOk result (self.old.failed ≡ false) }
@@ -151,11 +151,10 @@ impl Stream {
         Ok(())
     }
 
-    /// Gives the changes of the next shown net at the ticks that weren't written yet, those of the
-    /// next span alone. Nothing is written.
+    /// Adds the changes of the next shown net, all at ticks of the next span. Nothing is written.
     ///
     /// # Errors
-    /// [`DumpFault::Failed`] where the stream has failed, else [`DumpFault::Memory`]; the stream has
+    /// [`DumpFault::Failed`] if the stream has failed before, else [`DumpFault::Memory`]. The stream has
     /// failed then.
     pub fn part(&mut self, changes: &[Change]) -> Result<(), DumpFault>
         requires { self.old.failed ≡ false → self.old.given < self.old.nets }
@@ -174,13 +173,13 @@ impl Stream {
         Ok(())
     }
 
-    /// Writes the lines of the ticks up to but not including one, from the changes that were given, of
+    /// Writes the lines of the ticks up to but not including `upto`, from the changes that were given for
     /// each shown net.
     ///
-    /// It takes time for the changes, and none for ticks at which nothing happens.
+    /// Takes time in proportion to the changes, and none for ticks without changes.
     ///
     /// # Errors
-    /// [`DumpFault::Failed`] where the stream has failed, else as [`begin`](Self::begin).
+    /// As [`span`](Self::span).
     pub fn write_parts<W: Write>(&mut self, out: &mut W, upto: u64) -> Result<(), DumpFault>
         requires { self.old.failed ≡ false → CanSpan self.old upto }
         ensures stream { OnOk result (self.new ≡ spanned self.old upto) }
@@ -213,7 +212,7 @@ impl Stream {
         Ok(())
     }
 
-    /// Writes the last time, where no line was of it, once all ticks up to the horizon went out.
+    /// Writes the last time, if it had no line, after all ticks up to the horizon have been written.
     ///
     /// # Errors
     /// As [`span`](Self::span).

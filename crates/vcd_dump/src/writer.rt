@@ -11,7 +11,7 @@ use crate::lines::{push_change, push_time_after};
 use crate::pieces::{send, send_long};
 use std::io::Write;
 
-// Lines one after the other, behind a time; answers the time of the last.
+// Writes lines in order, after a time, and returns the time of the last.
 fn write_lines<W: Write>(
     out: &mut W,
     text: &mut Vec<u8>,
@@ -36,7 +36,7 @@ fn write_lines<W: Write>(
     Ok(before)
 }
 
-// The values at tick 0; answers the time.
+// Writes the values at tick 0, and returns the time.
 fn write_values<W: Write>(
     out: &mut W,
     text: &mut Vec<u8>,
@@ -56,7 +56,7 @@ fn write_values<W: Write>(
     Ok(last)
 }
 
-// The lines of a span that begins at a tick, in their order; answers the time of the last.
+// Writes the lines of a span that begins at a tick, in their order, and returns the time of the last.
 fn write_in_order<W: Write>(
     out: &mut W,
     text: &mut Vec<u8>,
@@ -80,8 +80,8 @@ fn write_in_order<W: Write>(
     write_lines(out, text, &lines[nets..], time)
 }
 
-/// Writes the lines of a span that begins at a tick, in their order, and answers the time of the last:
-/// `time`, where there are none. No text may wait, and none waits then.
+/// Writes the lines of a span that begins at a tick, in their order, and returns the time of the last,
+/// or `time` if there are none. `text` must be empty, and is empty after success.
 pub fn write_span<W: Write>(
     out: &mut W,
     text: &mut Vec<u8>,
@@ -105,7 +105,7 @@ pub fn write_span<W: Write>(
     Ok(last)
 }
 
-/// Writes the horizon, where the last time was before it. No text may wait.
+/// Writes the horizon, if the last time was before it. `text` must be empty.
 pub fn write_last_time<W: Write>(
     out: &mut W,
     text: &mut Vec<u8>,

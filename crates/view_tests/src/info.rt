@@ -1,4 +1,4 @@
-//! Tests of what is told of a circuit: counts, levels, loops, nets that no output hangs on, and the whole text.
+//! Tests of the description of a circuit: counts, levels, loops, unobserved nets, and the whole text.
 
 mod counts;
 mod levels;

@@ -1,5 +1,5 @@
-//! Tests of what people see beside dumps: what a circuit is, drawn stimuli, diagrams, traces, causes and
-//! differences.
+//! Tests of what users see besides dumps: descriptions of circuits, drawn stimuli, diagrams, traces, causes
+//! and differences.
 #![tactic(auto)]
 
 #[cfg(test)]

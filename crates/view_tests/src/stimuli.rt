@@ -1,4 +1,4 @@
-//! Drawn stimulus texts, byte for byte, their faults, and what their reader makes of them.
+//! Drawn stimulus texts, byte for byte, their faults, and how they are read back.
 
 mod circuits;
 mod faults;

@@ -26,7 +26,7 @@ abbrev pub compared_ticks : ComparedTicks → List ℕ
 compared_ticks ticks =
     filter (λ tick. tick % ticks.every == 0) (range_with_len ticks.from (ticks.to + 1 - ticks.from))
 
--- the multiples of a number from a tick up to a horizon, where signals can be compared there
+-- the multiples of a number from a tick up to a horizon, if signals can be compared there
 abbrev pub compared_of : ℕ → ℕ → ℕ → Result ComparedTicks ComparedFault
 compared_of from every horizon =
     if every == 0 then Err BadEvery

@@ -1,4 +1,4 @@
--- How what a name shows in two runs compares.
+-- How a name compares in two runs.
 use Rattle.std.specs.Prelude.{Bool, true, false}
 use Rattle.wave_diff.specs.declared.comparison.Comparison.{Comparison}
 use Rattle.wave_diff.specs.declared.comparison.Comparison.TheVariants.{Same, Differs, OnlyIn}

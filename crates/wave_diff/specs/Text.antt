@@ -11,7 +11,7 @@ abbrev pub difference_text : Difference → List ℕ
 difference_text found =
     codes " differs " ++ decimal found.tick ++ codes " " ++ value_text found.first ++ codes " " ++ value_text found.second
 
--- what is told behind a name
+-- the text after a name
 abbrev pub comparison_text : Comparison → List ℕ
 comparison_text (Same true) = codes " same"
 comparison_text (Same false) = codes " same, cones differ"

@@ -5,7 +5,7 @@ use crate::ticks::next_multiple;
 use std::marker::Model;
 
 /// The ticks at which waveforms are compared: the multiples of a number from a tick up to the horizon
-/// of a run. The multiples of 1 are all ticks from one to the other.
+/// of a run. With the number 1 these are all ticks.
 #[derive(Clone, Copy, Debug, PartialEq, Eq)]
 pub struct Compared {
     from: u64,
@@ -29,11 +29,11 @@ impl Compared {
     ghost use Rattle.wave_diff.specs.Compared.{IsComparable, IsCompared, compared_of};
     ghost use Rattle.wave_diff.specs.Ticks.{IsBefore};
 
-    /// The multiples of `every` that are at least `from` and at most the horizon.
+    /// Returns the multiples of `every` that are at least `from` and at most the horizon.
     ///
     /// # Errors
-    /// [`ComparedFault::BadEvery`] where `every` is 0, else [`ComparedFault::PastHorizon`] where `from` is
-    /// past the horizon.
+    /// [`ComparedFault::BadEvery`] if `every` is 0, else [`ComparedFault::PastHorizon`] if `from` is past
+    /// the horizon.
     pub fn new(from: u64, every: u64, horizon: u64) -> Result<Compared, ComparedFault>
         ensures exact { result ≡ compared_of from every horizon }
         ensures comparable { IfOk result IsComparable }
@@ -52,7 +52,7 @@ impl Compared {
         })
     }
 
-    /// The first compared tick from a tick on, where there is one.
+    /// Returns the first compared tick from a tick on, if any.
     pub(crate) fn next_from(self, tick: u64) -> Option<u64>
         ensures compared { IfSome result (IsCompared self) }
         ensures from { IfSome result (λ at. tick ≤ at) }

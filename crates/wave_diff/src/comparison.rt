@@ -9,21 +9,22 @@ pub enum Side {
     Second,
 }
 
-/// How what a name shows in one run compares with what it shows in another.
+/// How a name compares in two runs.
 #[derive(Clone, Copy, Debug, PartialEq, Eq)]
 pub enum Comparison {
-    /// It shows the same at every compared tick; whether the two runs agree on its fan-in cone, too.
+    /// It shows the same at every compared tick. `agree` says whether the two runs agree on its
+    /// fan-in cone.
     Same { agree: bool },
-    /// It doesn't, first at this tick.
+    /// It differs, first at this tick.
     Differs(Difference),
-    /// Only one run has a net of this name.
+    /// Only one run has a net with this name.
     OnlyIn(Side),
 }
 
 impl Comparison {
     ghost use Rattle.wave_diff.specs.Comparison.{is_same};
 
-    /// Whether the name shows the same in both runs, whether they agree on its cone or not.
+    /// Returns whether the name shows the same in both runs, whether they agree on its cone or not.
     pub fn is_same(self) -> bool
         ensures { result ≡ is_same self }
     {

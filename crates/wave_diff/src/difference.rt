@@ -17,11 +17,11 @@ pub struct Difference {
     pub second: Value,
 }
 
-/// The first of the compared ticks at which two waveforms differ, and what each shows there; none
-/// where they show the same at all of them.
+/// Returns the first of the compared ticks at which two waveforms differ, and what each shows there;
+/// `None` if they show the same at all of them.
 ///
-/// Takes a step for each change of the two, at most, and logarithmic time for each step, however many
-/// ticks are compared. Takes no memory.
+/// Takes at most a step for each change of the two, and logarithmic time for each step, for any
+/// number of compared ticks. Allocates nothing.
 pub fn first_difference(
     first: &Waveform,
     second: &Waveform,
@@ -45,14 +45,14 @@ pub fn first_difference(
     None
 }
 
-/// Whether two values are not the same.
+/// Returns whether two values differ.
 fn differ(first: Value, second: Value) -> bool
     ensures { result ≡ not (is_same first second) }
 {
     first != second
 }
 
-/// The first compared tick from a tick on, where there is a tick.
+/// Returns the first compared tick from a tick on; `None` if there is no tick.
 fn next_compared(compared: Compared, tick: Option<u64>) -> Option<u64>
     ensures compared { IfSome result (IsCompared compared) }
     ensures from { IfSome result (λ at. NotBefore at tick) }

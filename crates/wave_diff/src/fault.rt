@@ -7,14 +7,14 @@ use thiserror::Error;
 /// Why waveforms can't be compared.
 #[derive(Clone, Copy, Debug, PartialEq, Eq, Error)]
 pub enum ComparedFault {
-    /// They would be compared at the multiples of 0.
+    /// The compared ticks would be the multiples of 0.
     BadEvery,
     /// The first tick is past the horizon of the runs.
     PastHorizon,
 }
 
 impl ComparedFault {
-    /// The fault's name, which is its text.
+    /// Returns the fault's name, which is its text.
     pub fn name(&self) -> &'static str
         ensures { result.now ≡ name_of self.now }
     {

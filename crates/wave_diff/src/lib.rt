@@ -1,4 +1,4 @@
-//! Where two waveforms differ, and the line that tells it.
+//! Where two waveforms differ, and the line that reports it.
 #![tactic(auto)]
 
 mod compared;

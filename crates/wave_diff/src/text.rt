@@ -1,4 +1,4 @@
-//! What a comparison tells, a line for each name.
+//! The text of a comparison, a line for each name.
 ghost use Rattle.std.specs.Prelude.{◌≡◌, ◌++◌, OnOk};
 ghost use Rattle.wave_diff.specs.Text.{comparison_line, comparison_text, difference_text};
 
@@ -7,10 +7,10 @@ use crate::difference::Difference;
 use itoa::Buffer;
 use std::alloc::AllocError;
 
-/// Adds the line that tells of a name: `y same`; `y same, cones differ`; `y differs 7 0 x`, with the
+/// Adds the line about a name: `y same`; `y same, cones differ`; `y differs 7 0 x`, with the
 /// tick and what the first and the second run show there; `y only in first` or `y only in second`.
 ///
-/// An `AllocError` leaves the text with a first part of the line.
+/// After an `AllocError` a prefix of the line may have been added.
 pub fn push_line(text: &mut Vec<u8>, name: &[u8], comparison: Comparison) -> Result<(), AllocError>
     ensures { OnOk result (text.new.items ≡ text.old.items ++ comparison_line name.now comparison) }
 {

@@ -1,11 +1,11 @@
-//! Which tick is looked at next.
+//! The tick that is checked next.
 ghost use Rattle.std.specs.Prelude.{◌≡◌, ◌≢◌, ℕ, ◌<◌, ◌≤◌, ◌%◌, ◌^◌, Some};
 ghost use Rattle.logic3.specs.Wave.{value_at};
 ghost use Rattle.wave_diff.specs.Ticks.{IsBefore};
 
 use logic3::{Change, Waveform};
 
-/// The first multiple of a number from a tick on; none where it doesn't fit.
+/// Returns the first multiple of a number from a tick on; `None` if it doesn't fit in a `u64`.
 pub fn next_multiple(tick: u64, every: u64) -> Option<u64>
     requires { 0 < every }
     ensures multiple { (at : ℕ) → result ≡ Some at → at % every ≡ 0 }
@@ -19,7 +19,7 @@ pub fn next_multiple(tick: u64, every: u64) -> Option<u64>
     tick.checked_add(every - over)
 }
 
-/// The tick of the first change of a waveform after a tick. Takes logarithmic time.
+/// Returns the tick of the first change of a waveform after a tick, if any. Takes logarithmic time.
 fn change_after(wave: &Waveform, tick: u64) -> Option<u64>
     ensures later { (at : ℕ) → result ≡ Some at → tick < at }
     ensures steady { (at : ℕ) → tick ≤ at → IsBefore at result → value_at wave.now at ≡ value_at wave.now tick }
@@ -33,7 +33,7 @@ fn change_after(wave: &Waveform, tick: u64) -> Option<u64>
     }
 }
 
-/// The tick of the first change of two waveforms after a tick.
+/// Returns the tick of the first change of two waveforms after a tick, if any.
 pub fn next_change(first: &Waveform, second: &Waveform, tick: u64) -> Option<u64>
     ensures later { (at : ℕ) → result ≡ Some at → tick < at }
     ensures first { (at : ℕ) → tick ≤ at → IsBefore at result → value_at first.now at ≡ value_at first.now tick }

@@ -2,7 +2,7 @@
 use std::alloc::Global;
 use std::io::{self, ErrorKind, Write};
 
-/// A writer that takes at most so many bytes in all, and so many a call; then it fails or takes none.
+/// A writer with a limit on the bytes that it takes in all, and in each call; then it fails or takes none.
 #[derive(Drop)]
 pub struct Narrow {
     /// What it took.
@@ -11,7 +11,7 @@ pub struct Narrow {
     pub calls: u32,
     room: usize,
     most: usize,
-    /// Whether it fails where there is no room.
+    /// Whether it fails if there is no room.
     pub fails: bool,
     /// How often it was flushed.
     pub flushes: u32,
@@ -20,7 +20,7 @@ pub struct Narrow {
 }
 
 impl Narrow {
-    /// A writer with so much room, which fails where there is none.
+    /// Returns a writer with this much room, which fails if there is none.
     pub fn new(alloc: Global, room: usize, most: usize) -> Narrow {
         Narrow {
             taken: Vec::new(alloc),
@@ -64,7 +64,7 @@ pub enum Slip {
     TakesNothing,
 }
 
-/// Each way to stumble: to be interrupted is to fail too.
+/// Each way to stumble: an interruption is a failure, too.
 pub static SLIPS: [Slip; 3] = [
     Slip::Fails(ErrorKind::Other),
     Slip::Fails(ErrorKind::Interrupted),
@@ -85,7 +85,7 @@ pub struct Stumbling {
 }
 
 impl Stumbling {
-    /// A writer that stumbles so at the call of this number, from 0.
+    /// Returns a writer that stumbles in this way at the call of this number, from 0.
     pub fn new(alloc: Global, at: u32, slip: Slip) -> Stumbling {
         Stumbling {
             taken: Vec::new(alloc),

@@ -1,4 +1,4 @@
-//! What empty logs are made of.
+//! The parts of empty logs.
 ghost use Rattle.std.specs.Prelude.{◌≡◌, ◌<◌, All, length, replicate, IfOk};
 ghost use Rattle.design.specs.Pins.{sources_of};
 ghost use Rattle.cmb_channels.specs.Logs.{logs_read_by};
@@ -7,7 +7,7 @@ use crate::logs::log::Log;
 use design::Design;
 use std::alloc::{AllocError, Global};
 
-/// The net that feeds each pin.
+/// Returns the net that feeds each pin.
 pub(super) fn pin_sources(alloc: Global, design: &Design) -> Result<Vec<u32>, AllocError>
     ensures sources { IfOk result (λ sources. sources.items ≡ sources_of design.now.circuit) }
     ensures within { IfOk result (λ sources. All (λ source. source < length design.now.circuit) sources.items) }
@@ -20,7 +20,7 @@ pub(super) fn pin_sources(alloc: Global, design: &Design) -> Result<Vec<u32>, Al
     Ok(sources)
 }
 
-/// For each of so many pins, that it has taken nothing.
+/// Returns the count 0 for each of `pins` pins.
 pub(super) fn no_counts(alloc: Global, pins: u32) -> Result<Vec<u64>, AllocError>
     ensures { IfOk result (λ counts. counts.items ≡ replicate pins 0) }
 {
@@ -31,7 +31,7 @@ pub(super) fn no_counts(alloc: Global, pins: u32) -> Result<Vec<u64>, AllocError
     Ok(counts)
 }
 
-/// An empty log for each net, read by the pins that the net feeds.
+/// Returns an empty log for each net, read by the pins that the net feeds.
 pub(super) fn read_logs(alloc: Global, design: &Design) -> Result<Vec<Log>, AllocError>
     ensures { IfOk result (λ logs. logs.items ≡ logs_read_by (length design.now.circuit) (sources_of design.now.circuit)) }
 {

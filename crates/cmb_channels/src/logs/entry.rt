@@ -13,7 +13,7 @@ pub struct Entry {
     tick: u64,
     // The value of a change. A null message has none.
     value: Option<Value>,
-    // How many pins haven't taken it.
+    // The number of pins that haven't taken it.
     left: u32,
 }
 
@@ -26,7 +26,7 @@ impl Model for Entry {
 }
 
 impl Entry {
-    /// A message that this number of pins haven't taken.
+    /// Makes the entry of a message that `left` pins haven't taken.
     pub fn new(message: Message, left: u32) -> Entry
         ensures { result ≡ record { message = message; left = left } }
     {
@@ -37,7 +37,7 @@ impl Entry {
         Entry { tick, value, left }
     }
 
-    /// How many pins haven't taken the message.
+    /// Returns the number of pins that haven't taken the message.
     pub fn left(&self) -> u32
         ensures { result ≡ self.now.left }
     {

@@ -9,12 +9,12 @@ use std::alloc::{AllocError, Global};
 use std::collections::VecDeque;
 use std::marker::Model;
 
-/// What a net sent, as far as some pin that it feeds hasn't taken it.
+/// The messages of a net that some pin that it feeds hasn't taken yet.
 #[derive(Debug, Drop)]
 pub struct Log {
-    // How many pins read it.
+    // The number of pins that read it.
     readers: u32,
-    // How many messages were cut away, modulo 2^64.
+    // The number of messages that were removed, modulo 2^64.
     cut: u64,
     entries: VecDeque<Entry>,
 }
@@ -28,7 +28,7 @@ impl Model for Log {
 }
 
 impl Log {
-    /// An empty log that so many pins read.
+    /// Makes an empty log that `readers` pins read.
     pub fn new(alloc: Global, readers: u32) -> Log
         ensures { result ≡ empty_log readers }
     {
@@ -39,14 +39,14 @@ impl Log {
         }
     }
 
-    /// How many messages it holds.
+    /// Returns the number of messages in the log.
     pub fn len(&self) -> u64
         ensures { result ≡ length self.now.entries }
     {
         self.entries.len() as u64
     }
 
-    /// How many messages a pin hasn't taken that has taken so many.
+    /// Returns the number of messages that a pin that has taken `count` messages hasn't taken.
     pub fn unread(&self, count: u64) -> u64
         requires { past self.now.cut count ≤ length self.now.entries }
         ensures { result ≡ length self.now.entries - past self.now.cut count }
@@ -54,9 +54,9 @@ impl Log {
         self.len() - count.wrapping_sub(self.cut)
     }
 
-    /// Writes a message at its end. A log that no pin reads keeps nothing, and takes no memory.
+    /// Adds a message at the end. A log that no pin reads keeps nothing, and allocates nothing.
     ///
-    /// An `AllocError` changes nothing.
+    /// An `AllocError` leaves the log unchanged.
     pub fn write(&mut self, message: Message) -> Result<(), AllocError>
         ensures ok { OnOk result (self.new ≡ written message self.old) }
         ensures err { OnErr result (self.new ≡ self.old) }
@@ -68,7 +68,7 @@ impl Log {
         Ok(())
     }
 
-    /// The first message that a pin hasn't taken that has taken so many. Takes no memory.
+    /// Hands the next message, if any, to a pin that has taken `count` messages. Allocates nothing.
     pub fn read(&mut self, count: u64) -> Option<Message>
         requires { IfSome (slice_get self.old.entries (past self.old.cut count)) (λ entry. 0 < entry.left) }
         ensures message { result ≡ option_map (λ (entry : EntryView). entry.message) (slice_get self.old.entries (past self.old.cut count)) }
@@ -82,7 +82,7 @@ impl Log {
         Some(message)
     }
 
-    /// Cuts the first message away where every pin has taken it.
+    /// Removes the first message if every pin has taken it.
     fn trim(&mut self)
         ensures { self.new ≡ trimmed self.old self.old.entries }
     {
@@ -96,7 +96,7 @@ impl Log {
     }
 }
 
-/// Gives back half of a queue's memory where it is larger than a few messages and less than a quarter
+/// Gives back half of a queue's memory if it is for more than a few messages and less than a quarter
 /// full.
 fn give_back(entries: &mut VecDeque<Entry>)
     ensures { entries.new.items ≡ entries.old.items }

@@ -1,4 +1,4 @@
-//! What empty channels are made of.
+//! The parts of empty channels.
 ghost use Rattle.std.specs.Prelude.{◌≡◌, [], length, replicate, IfOk};
 ghost use Rattle.design.specs.Circuit.{IsCircuit};
 ghost use Rattle.design.specs.Pins.{sources_of, all_fed};
@@ -10,7 +10,7 @@ use design::Design;
 use std::alloc::{AllocError, Global};
 use std::collections::VecDeque;
 
-/// The pins that each net feeds, in rising order, as the design has them.
+/// Returns the pins that each net of the design feeds, in rising order.
 pub(super) fn fed_pins(alloc: Global, design: &Design) -> Result<Vec<Vec<u32>>, AllocError>
     ensures fed { IfOk result (λ fed.
         pins_in fed.items ≡ all_fed (length design.now.circuit) (sources_of design.now.circuit)) }
@@ -24,7 +24,7 @@ pub(super) fn fed_pins(alloc: Global, design: &Design) -> Result<Vec<Vec<u32>>, 
     Ok(fed)
 }
 
-/// An empty queue for each of so many pins.
+/// Returns an empty queue for each of `pins` pins.
 pub(super) fn empty_queues(alloc: Global, pins: u32) -> Result<Vec<VecDeque<Message>>, AllocError>
     ensures { IfOk result (λ queues. lists_in queues.items ≡ replicate pins []) }
 {

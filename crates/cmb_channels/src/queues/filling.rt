@@ -1,4 +1,4 @@
-//! A message into the queues of many pins: room in all of them first, and then the message.
+//! Sending a message to the queues of several pins: room is made in all of them first.
 ghost use Rattle.std.specs.Prelude.{◌≡◌, ◌<◌, vec_len, All, OnOk};
 ghost use Rattle.logic3.specs.Rising.{Rises};
 ghost use Rattle.cmb_channels.specs.Waiting.{appended, lists_in, HasRoom};
@@ -9,7 +9,7 @@ use std::collections::VecDeque;
 
 /// Makes room for one more message in the queue of each of these pins.
 ///
-/// An `AllocError` leaves some of them without.
+/// After an `AllocError` some of them may lack the room.
 pub(super) fn reserve_places(
     queues: &mut Vec<VecDeque<Message>>,
     pins: &[u32],
@@ -24,7 +24,7 @@ pub(super) fn reserve_places(
     Ok(())
 }
 
-/// Puts a message at the end of the queue of each of these pins.
+/// Adds a message at the end of the queue of each of these pins.
 pub(super) fn push_at_all(queues: &mut Vec<VecDeque<Message>>, pins: &[u32], message: Message)
     requires rising { Rises pins.now }
     requires exist { All (λ pin. pin < vec_len queues.old) pins.now }

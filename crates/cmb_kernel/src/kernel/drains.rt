@@ -11,8 +11,8 @@ use cmb_channels::Fabric;
 use logic3::Change;
 
 impl<'d, F: Fabric> Kernel<'d, F> {
-    /// The tick from which on a net's waveform is kept: 0, until changes of the net are taken out. It is
-    /// never past the net's frontier.
+    /// Returns the tick from which on a net's waveform is kept: 0 until changes of the net are taken out. It
+    /// is never past the net's frontier.
     pub fn floor(&self, net: u32) -> u64
         requires running { self.now.failed ≡ false }
         requires net { net < length self.now.circuit }
@@ -50,11 +50,11 @@ impl<'d, F: Fabric> Kernel<'d, F> {
         Ok(changes)
     }
 
-    /// Drains as [`drain_below`](Self::drain_below) does, and adds the changes in order to the end of a list:
-    /// so a list serves many drains.
+    /// Drains as [`drain_below`](Self::drain_below) does, and adds the changes in order to the end of a list,
+    /// so one list serves many drains.
     ///
     /// # Errors
-    /// As of `drain_below`; the list stays as it was, too.
+    /// As for `drain_below`; the list is unchanged, too.
     pub fn drain_below_into(
         &mut self,
         net: u32,

@@ -19,8 +19,8 @@ use design::Design;
 use std::alloc::AllocError;
 
 impl<'d, F: Fabric> Kernel<'d, F> {
-    /// Applies an event, and answers whether it was useful: whether it raised a frontier, of a net or of a
-    /// pin. One that raises none is counted, changes nothing else, and takes no memory.
+    /// Applies an event, and returns whether it was useful: whether it raised a frontier, of a net or of a
+    /// pin. An event that raises none is counted, changes nothing else, and takes no memory.
     ///
     /// # Errors
     /// [`KernelFault::Failed`], and [`KernelFault::NoSuchPin`] or [`KernelFault::NoSuchNet`] at
@@ -30,7 +30,7 @@ impl<'d, F: Fabric> Kernel<'d, F> {
             (step self.old.state event) (is_useful self.old.state event) result }
         ensures useful { IfOk result (λ useful. useful ≡ is_useful self.old.state event) }
         ensures ok { OnOk result (self.new ≡ record self.old { state = step self.old.state event }) }
-        // It answers `Ok` to a running kernel and an event that is there alone.
+        // It returns `Ok` only for a running kernel and an event whose pin or net exists.
         ensures running { OnOk result (self.old.failed ≡ false) }
         ensures exists { OnOk result (Exists self.old.circuit event) }
         ensures memory { result ≡ Err Memory → is_useful self.old.state event ≡ true }
@@ -40,7 +40,7 @@ impl<'d, F: Fabric> Kernel<'d, F> {
         Ok(self.step(event)?)
     }
 
-    /// Applies some events in order. The whole list is checked before the first of them.
+    /// Applies some events in order. The whole list is checked before the first event is applied.
     ///
     /// # Errors
     /// [`KernelFault::Failed`], [`KernelFault::TooManyEvents`], and the fault of the first bad event;
@@ -57,7 +57,7 @@ impl<'d, F: Fabric> Kernel<'d, F> {
         Ok(())
     }
 
-    /// That no call was broken off.
+    /// Checks that no call ran out of memory.
     pub(crate) fn check_running(&self) -> Result<(), KernelFault>
         ensures answer { result ≡ answer (refusal self.now None) tt }
         ensures circuit { OnOk result (IsCircuit self.now.circuit) }
@@ -69,7 +69,7 @@ impl<'d, F: Fabric> Kernel<'d, F> {
         Ok(())
     }
 
-    /// Applies an event that is there. After an `AllocError` the kernel has failed.
+    /// Applies an event whose pin or net exists. After an `AllocError` the kernel has failed.
     pub(crate) fn step(&mut self, event: Event) -> Result<bool, AllocError>
         requires running { self.old.failed ≡ false }
         requires exists { Exists self.old.circuit event }
@@ -99,8 +99,8 @@ impl<'d, F: Fabric> Kernel<'d, F> {
         self.deliver_there(pin, net, place)
     }
 
-    /// Lets a pin, which is that at a place of a net, take the oldest message that waits. After an
-    /// `AllocError` the kernel has failed.
+    /// Lets the pin at a place of a net take the oldest message that waits. After an `AllocError` the kernel
+    /// has failed.
     pub(crate) fn deliver_there(
         &mut self,
         pin: u32,
@@ -118,7 +118,7 @@ impl<'d, F: Fabric> Kernel<'d, F> {
         ensures memory { OnErr result (is_useful self.old.state (Deliver pin) ≡ true) }
         ensures sound { OnOk result (IsSound self.new.circuit self.new.end self.new.state) }
     {
-        // So it stays where the event is broken off.
+        // This stays if the event runs out of memory.
         self.failed = true;
         let message = self.fabric.take(pin);
         if let Some(message) = message {
@@ -138,7 +138,7 @@ impl<'d, F: Fabric> Kernel<'d, F> {
         ensures memory { OnErr result (is_useful self.old.state (Advance net) ≡ true) }
         ensures sound { OnOk result (IsSound self.new.circuit self.new.end self.new.state) }
     {
-        // So it stays where the event is broken off.
+        // This stays if the event runs out of memory.
         self.failed = true;
         self.processes.advance_into(net, &mut self.news)?;
         send_all(&mut self.fabric, net, self.news.as_slice())?;
@@ -148,7 +148,7 @@ impl<'d, F: Fabric> Kernel<'d, F> {
     }
 }
 
-/// Sends messages of a net in order. None takes no memory.
+/// Sends messages of a net in order. An empty list takes no memory.
 fn send_all<F: Fabric>(fabric: &mut F, net: u32, messages: &[Message]) -> Result<(), AllocError>
     requires { net < F.nets fabric.old }
     ensures lists { OnOk result (F.lists fabric.new ≡ sent net messages.now (F.sources fabric.old) (F.lists fabric.old)) }
@@ -162,7 +162,7 @@ fn send_all<F: Fabric>(fabric: &mut F, net: u32, messages: &[Message]) -> Result
     Ok(())
 }
 
-/// That the event at this place of a list names a pin or a net of the design.
+/// Checks that the event at this place of a list names a pin or a net of the design.
 fn check_event(design: &Design, at: u64, event: Event) -> Result<(), KernelFault>
     ensures { result ≡ answer (event_fault design.now.circuit at event) tt }
 {
@@ -173,7 +173,7 @@ fn check_event(design: &Design, at: u64, event: Event) -> Result<(), KernelFault
     }
 }
 
-/// That there are not too many events, and that each names a pin or a net of the design.
+/// Checks that there are not too many events, and that each names a pin or a net of the design.
 fn check_events(design: &Design, events: &[Event]) -> Result<(), KernelFault>
     ensures { result ≡ answer (list_fault design.now.circuit events.now) tt }
 {

@@ -8,8 +8,8 @@ use crate::kernel::Kernel;
 use cmb_channels::Fabric;
 
 impl<'d, F: Fabric> Kernel<'d, F> {
-    /// The least frontier of all nets: up to there every net is known, and can be drained. It looks at each
-    /// net once.
+    /// Returns the least frontier of all nets: up to there every net is known, and can be drained. It looks
+    /// at each net once.
     pub fn least_frontier(&self) -> u64
         requires { self.now.failed ≡ false }
         ensures { result ≡ least_frontier self.now.end self.now.state }
@@ -17,7 +17,7 @@ impl<'d, F: Fabric> Kernel<'d, F> {
         self.frontier(self.slowest())
     }
 
-    /// Whether each net is known up to the horizon. Then each waveform is whole, from the net's
+    /// Returns whether each net is known up to the horizon. If so, each waveform is whole, from the net's
     /// [`floor`](Self::floor) on; messages may still wait. It looks at each net once.
     pub fn is_complete(&self) -> bool
         requires { self.now.failed ≡ false }
@@ -32,7 +32,7 @@ impl<'d, F: Fabric> Kernel<'d, F> {
         self.least_frontier() == self.end
     }
 
-    /// The first net of the least frontier.
+    /// Returns the first net with the least frontier.
     pub(crate) fn slowest(&self) -> u32
         requires { self.now.failed ≡ false }
         ensures net { result < length self.now.circuit }

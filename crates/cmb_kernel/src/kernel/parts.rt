@@ -9,14 +9,14 @@ use cmb_channels::Fabric;
 use design::Design;
 
 impl<'d, F: Fabric> Kernel<'d, F> {
-    /// The design that runs.
+    /// Returns the design that runs.
     pub fn design(&self) -> &'d Design
         ensures { result.now.circuit ≡ self.now.circuit }
     {
         self.design
     }
 
-    /// How many nets there are, which are numbered from 0: 1 to 100,000.
+    /// Returns the number of nets: 1 to 100,000. They are numbered from 0.
     pub fn nets(&self) -> u32
         ensures count { result ≡ length self.now.circuit }
         ensures some { 1 ≤ result }
@@ -26,7 +26,7 @@ impl<'d, F: Fabric> Kernel<'d, F> {
         self.design.nets()
     }
 
-    /// How many pins all nets have, which are numbered from 0, net by net: at most 1,000,000.
+    /// Returns the number of pins of all nets: at most 1,000,000. They are numbered from 0, net by net.
     pub fn pins(&self) -> u32
         ensures count { result ≡ pin_count self.now.circuit }
         ensures most { result ≤ most_pins }
@@ -34,7 +34,7 @@ impl<'d, F: Fabric> Kernel<'d, F> {
         self.design.pins()
     }
 
-    /// The first tick after the horizon, where each frontier ends: at most 10,000,001.
+    /// Returns the first tick after the horizon, at which each frontier ends: at most 10,000,001.
     pub fn end(&self) -> u64
         ensures end { result ≡ self.now.end }
         ensures most { self.now.failed ≡ false → result ≤ most_ticks + 1 }
@@ -42,7 +42,7 @@ impl<'d, F: Fabric> Kernel<'d, F> {
         self.end
     }
 
-    /// The channels, with what waits in them now.
+    /// Returns the channels, with what waits in them now.
     pub fn fabric(&self) -> &F
         ensures lists { F.lists result.now ≡ self.now.state.lists }
         ensures pins { self.now.failed ≡ false → length (F.lists result.now) ≡ pin_count self.now.circuit }

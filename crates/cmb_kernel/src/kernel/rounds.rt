@@ -16,8 +16,8 @@ use cmb_events::Event;
 use std::alloc::AllocError;
 
 impl<'d, F: Fabric> Kernel<'d, F> {
-    /// Lets each pin in order of number take all messages that wait there, and then advances each net
-    /// in order of number. It brings every net at least the least delay farther than the slowest was, or to
+    /// Lets each pin in order of number take all messages that wait there, and then advances each net in
+    /// order of number. Every net is then known at least the least delay past the old least frontier, or to
     /// the end.
     ///
     /// # Errors
@@ -39,11 +39,11 @@ impl<'d, F: Fabric> Kernel<'d, F> {
         Ok(())
     }
 
-    /// Does rounds until each net is known up to the horizon; where each is already, it does nothing
-    /// and takes no memory.
+    /// Does rounds until each net is known up to the horizon. If each already is, it does nothing and takes
+    /// no memory.
     ///
-    /// It takes at most `ceil((horizon + 1) / least)` rounds, where `least` is the least delay of a gate
-    /// or flip-flop, or one round where there is neither; and never more than a fresh kernel would.
+    /// It takes at most `ceil((horizon + 1) / least)` rounds, where `least` is the least delay of a gate or
+    /// flip-flop, or one round if there is neither; and never more than a new kernel would.
     ///
     /// # Errors
     /// [`KernelFault::Failed`]; nothing changed. [`KernelFault::Memory`]; the kernel has failed from
@@ -59,7 +59,7 @@ impl<'d, F: Fabric> Kernel<'d, F> {
         // Rounds take out no changes.
         ensures undrained { IsUndrained self.old.state →
             OnOk result (waves_in self.new.state ≡ waves_of self.new.circuit self.new.end) }
-        // Rounds that complete a fresh kernel are enough here.
+        // Rounds that complete a new kernel are enough here.
         ensures fresh { OnOk result ((count : ℕ) → IsComplete (rounds count (started self.old.circuit self.old.end)) →
             self.new.state ≡ completed_within count self.old.state) }
         ensures memory { result ≡ Err Memory → is_complete self.old.state ≡ false }

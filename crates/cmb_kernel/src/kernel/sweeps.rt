@@ -15,12 +15,12 @@ use cmb_events::Event;
 use std::alloc::AllocError;
 
 impl<'d, F: Fabric> Kernel<'d, F> {
-    /// Lets the nets of a list, one after another, take what they need to reach a tick, and advance: at
-    /// each pin of the net in order messages are taken as long as the pin is known up to less than the
-    /// tick, and then the net advances.
+    /// Lets the nets of a list, one after another, take what they need to reach a tick, and advance: each pin
+    /// of the net in order takes messages as long as it is known up to less than the tick, and then the net
+    /// advances.
     ///
-    /// A pin that is known up to the tick takes nothing. What is taken and each advance count as events;
-    /// a sweep is no round.
+    /// A pin that is known up to the tick takes nothing. Each message taken and each advance counts as an
+    /// event; a sweep isn't a round.
     ///
     /// # Errors
     /// [`KernelFault::Failed`]; nothing changed. [`KernelFault::Memory`]; the kernel has failed from
@@ -28,8 +28,8 @@ impl<'d, F: Fabric> Kernel<'d, F> {
     pub fn sweep(&mut self, order: &[u32], tick: u64) -> Result<(), KernelFault>
         requires nets { All (λ net. net < length self.old.circuit) order.now }
         ensures outcome { IsOutcome self.old self.new None (swept tick order.now self.old.state) tt result }
-        // Where it goes over all nets, to a tick that is not below the least frontier, it raises that by
-        // at least the least delay, or to the end.
+        // If it goes over all nets, to a tick that is not below the least frontier, it raises that by at
+        // least the least delay, or to the end.
         ensures raises { HoldsAll self.old.circuit order.now → least_frontier self.old.end self.old.state ≤ tick →
             OnOk result
             (min self.old.end (least_frontier self.old.end self.old.state + least_delay self.old.end self.old.circuit)
@@ -37,8 +37,8 @@ impl<'d, F: Fabric> Kernel<'d, F> {
         ensures rises { HoldsAll self.old.circuit order.now → least_frontier self.old.end self.old.state ≤ tick →
             OnOk result (least_frontier self.old.end self.old.state < self.old.end →
             least_frontier self.old.end self.old.state < least_frontier self.new.end self.new.state) }
-        // Where every net is known up to a tick, each net of the list comes at least the least delay farther,
-        // or to the end.
+        // If every net is known up to a tick, each net of the list is then known at least the least delay
+        // past it, or to the end.
         ensures farther { (low : ℕ) → AllKnow self.old.circuit low self.old.state → low ≤ tick → low ≤ self.old.end →
             OnOk result (All (λ net.
             min self.old.end (low + least_delay self.old.end self.old.circuit) ≤ frontier_at self.new.state net) order.now) }
@@ -90,7 +90,7 @@ impl<'d, F: Fabric> Kernel<'d, F> {
         Ok(())
     }
 
-    /// How many ticks of its source the pin at a place of a net knows.
+    /// Returns the number of ticks of its source that the pin at a place of a net knows.
     fn received_there(&self, net: u32, place: u32) -> u64
         requires running { self.now.failed ≡ false }
         requires net { net < length self.now.circuit }

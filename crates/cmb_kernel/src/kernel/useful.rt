@@ -12,11 +12,11 @@ use cmb_channels::Fabric;
 use cmb_events::Event;
 
 impl<'d, F: Fabric> Kernel<'d, F> {
-    /// Some event that raises a frontier, or `None` where each net is known up to the horizon. Then each
-    /// waveform is whole, from the net's [`floor`](Self::floor) on; messages may still wait.
+    /// Returns an event that raises a frontier, or `None` if each net is known up to the horizon. In that
+    /// case each waveform is whole, from the net's [`floor`](Self::floor) on; messages may still wait.
     ///
-    /// It looks at each net and each pin once, at most. That there is such an event is the absence of
-    /// deadlock (Chandy and Misra, 1979).
+    /// It looks at each net and each pin at most once. That there is such an event is the absence of deadlock
+    /// (Chandy and Misra, 1979).
     pub fn useful(&self) -> Option<Event>
         requires { self.now.failed ≡ false }
         ensures none { IsNone result ↔ IsComplete self.now.state }
@@ -39,8 +39,8 @@ impl<'d, F: Fabric> Kernel<'d, F> {
         }
     }
 
-    /// Whether an event would raise a frontier: a delivery where a message waits at the pin, an advance where
-    /// the net can be reckoned farther. It looks at each pin of one net at most, and takes no memory.
+    /// Returns whether an event would raise a frontier: a delivery if a message waits at the pin, an advance
+    /// if the net can be computed further. It looks at most at each pin of one net, and takes no memory.
     pub fn is_useful(&self, event: Event) -> bool
         requires running { self.now.failed ≡ false }
         requires exists { Exists self.now.circuit event }
@@ -68,7 +68,7 @@ impl<'d, F: Fabric> Kernel<'d, F> {
         self.processes.of_net(net).can_advance()
     }
 
-    /// The first pin where a message waits.
+    /// Returns the first pin where a message waits.
     fn waiting_pin(&self) -> Option<u32>
         requires { self.now.failed ≡ false }
         ensures some { IfSome result (λ pin. (pin < pin_count self.now.circuit)

@@ -13,17 +13,18 @@ use std::alloc::{AllocError, Global};
 use timing_text::{options, read_stimuli, read_timings};
 
 impl Design {
-    /// A netlist with the timing and the wires of a delay text and the stimuli of a stimulus text.
+    /// Makes a design from a netlist, the timing and wire delays of a delay text, and the stimuli of a
+    /// stimulus text.
     ///
-    /// A gate or a flip-flop that the delay text gives no delay takes the default one, and a flip-flop
-    /// that it gives no clock has this period and phase 0, in ticks. One without an initial value begins
-    /// with X. A pin that it gives no wire delay sees its source at once. The netlist is given up on a
-    /// refusal.
+    /// A gate or a flip-flop without a delay in the delay text has the default delay. A flip-flop
+    /// without a clock there has this period and phase 0, in ticks, and one without an initial value
+    /// begins with X. A pin without a wire delay shows its source at once. The netlist is dropped if a
+    /// text is refused.
     ///
     /// # Errors
     /// The first fault, in the order default delay, period, delay text, stimulus text, or
-    /// [`BuildFault::Memory`] where a growth was refused in any step; the settings and the length of
-    /// the delay text are looked at before any memory is taken.
+    /// [`BuildFault::Memory`] if an allocation fails in any step. The settings and the length of
+    /// the delay text are checked before anything is allocated.
     pub fn build(
         alloc: Global,
         netlist: Netlist,
@@ -54,7 +55,7 @@ impl Design {
     }
 }
 
-/// The first pin of each net, and at the end how many pins there are.
+/// Returns the first pin of each net, and at the end the number of pins.
 pub(super) fn first_pins(alloc: Global, netlist: &Netlist) -> Result<Vec<u32>, AllocError>
     ensures starts { IfOk result (λ starts. starts.items ≡ first_pins_of netlist.now) }
     ensures well_formed { IsNetlist netlist.now }

@@ -5,7 +5,8 @@ ghost use Rattle.design.specs.Pins.{all_fed};
 
 use std::alloc::{AllocError, Global};
 
-/// The pins that each of so many nets feeds, in rising order, given the net that feeds each pin.
+/// Returns the pins that each of `nets` nets feeds, in rising order, given the net that feeds each
+/// pin.
 pub(super) fn fed_pins(
     alloc: Global,
     nets: u32,
@@ -22,7 +23,7 @@ pub(super) fn fed_pins(
     Ok(fed)
 }
 
-/// No pins for each of so many nets.
+/// Returns an empty list of pins for each of `nets` nets.
 fn no_pins(alloc: Global, nets: u32) -> Result<Vec<Vec<u32>>, AllocError>
     ensures { IfOk result (λ fed. map (λ v. v.items) fed.items ≡ replicate nets []) }
 {

@@ -13,12 +13,12 @@ use std::alloc::{AllocError, Global};
 use timing_text::NetTiming;
 
 impl Design {
-    /// The nets of these numbers in this order, with these outputs, as a design of their own. Each
-    /// keeps its timing, its wires and its stimuli too; of the rest, and of what is asked for,
-    /// [`Netlist::pick`](netlist::Netlist::pick) tells.
+    /// Returns the nets with these numbers in this order, with these outputs, as a design of their
+    /// own. Each keeps its timing, wire delays and stimuli. For the rest, and for the requirements,
+    /// see [`Netlist::pick`](netlist::Netlist::pick).
     ///
-    /// Takes time in proportion to the nets that are kept and to their stimuli, and for each of their
-    /// pins and for each output logarithmic time. It is an `AllocError` where memory is refused.
+    /// Takes time in proportion to the nets that are kept and to their stimuli, and logarithmic time
+    /// for each of their pins and for each output. Returns `AllocError` if an allocation fails.
     pub fn pick(&self, alloc: Global, keep: &[u32], outputs: &[u32]) -> Result<Design, AllocError>
         requires some { 0 < length keep.now }
         requires rising { Rises keep.now }
@@ -45,7 +45,7 @@ impl Design {
     }
 }
 
-/// The timings of these nets, in order.
+/// Returns the timings of these nets, in order.
 fn timings_of(alloc: Global, design: &Design, nets: &[u32]) -> Result<Vec<NetTiming>, AllocError>
     requires { All (λ net. net < length design.now.circuit) nets.now }
     ensures { IfOk result (λ timings. map seen_timing timings.items ≡ map (timing_in design.now.circuit) nets.now) }
@@ -60,7 +60,7 @@ fn timings_of(alloc: Global, design: &Design, nets: &[u32]) -> Result<Vec<NetTim
     Ok(timings)
 }
 
-/// The stimuli of these nets, in order.
+/// Returns the stimuli of these nets, in order.
 fn stimuli_of(alloc: Global, design: &Design, nets: &[u32]) -> Result<Vec<Vec<Change>>, AllocError>
     requires { All (λ net. net < length design.now.circuit) nets.now }
     ensures { IfOk result

@@ -46,7 +46,7 @@ pub(crate) const SAMPLER: Circuit = Circuit {
     period: 4,
 };
 
-/// An input whose name has the marks of XML.
+/// An input whose name has the special characters of XML.
 pub(crate) const MARKED: Circuit = Circuit {
     bench: b"INPUT(a<b&c>)\n",
     stimuli: b"",

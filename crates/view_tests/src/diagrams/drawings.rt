@@ -20,7 +20,7 @@ const INVERTER_SVG: &[u8] =
       <text x=\"8\" y=\"74\">y</text><path transform=\"translate(24 60)\" d=\"M0 0h10m-10 16h10m-10 0l10-16M10 16v-16h10M20 0h10M30 0h10M40 0v16h10M50 16h10\" fill=\"none\" stroke=\"black\"/>\n\
       </svg>\n";
 
-// Where a net changes within a column there is a cross.
+// If a net changes within a column, there is a cross.
 const HAZARD_SVG: &[u8] =
     b"<svg xmlns=\"http://www.w3.org/2000/svg\" width=\"134\" height=\"130\" font-family=\"monospace\" font-size=\"12\">\n\
       <rect width=\"100%\" height=\"100%\" fill=\"white\"/>\n\

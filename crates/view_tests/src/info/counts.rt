@@ -1,4 +1,4 @@
-//! How many nets a part drives, and at how many pins nets stand.
+//! How many nets a part drives, and how many pins a net feeds.
 use bench_text::read;
 use circuit_info::{fan_ins, fan_outs, first_greatest, gate_count, part_count};
 use logic3::GateKind;
@@ -31,7 +31,7 @@ fn parts_of_s27(rt: HostRuntime) -> Result<(), Fail> {
     Ok(())
 }
 
-// Netlists, the numbers of their nets' pins, and at how many pins each net stands.
+// Netlists, how many pins each net has, and how many it feeds.
 static FANS: [(&[u8], &[usize], &[usize]); 5] = [
     (
         S27_BENCH,

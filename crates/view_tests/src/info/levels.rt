@@ -1,4 +1,4 @@
-//! Levels and loops of gates, and nets that no output hangs on.
+//! Levels and loops of gates, and unobserved nets.
 use bench_text::read;
 use circuit_info::{Depths, greatest, info_text, levels_of};
 use fanin_cone::outside;
@@ -21,10 +21,10 @@ static LEVELS: [(&[u8], &[u32], u32); 6] = [
         &[0, 1, 2],
         2,
     ),
-    // A flip-flop stands in these loops.
+    // A flip-flop is in these loops.
     (b"q = DFF(n)\nn = NOT(q)", &[0, 1], 1),
     (b"q = DFF(q)", &[0], 0),
-    // Two ways from a gate to another, of which the longer one counts.
+    // Two ways from a gate to another, of which the longer one decides.
     (
         b"INPUT(a)\ny = AND(a, d)\nd = NOT(c)\nc = NOT(b)\nb = NOT(a)",
         &[0, 4, 3, 2, 1],
@@ -40,21 +40,21 @@ static LOOPS: [(&[u8], &[u32]); 11] = [
     (b"x = NOT(y)\ny = NOT(z)\nz = NOT(x)", &[0, 1, 2]),
     // The oscillator with a gate.
     (b"INPUT(e)\nOUTPUT(y)\ny = NAND(e, y)", &[1]),
-    // A gate that isn't in the loop takes what it shows.
+    // A gate that isn't in the loop reads what it shows.
     (b"y = NOT(p)\np = NOT(q)\nq = NOT(p)", &[1, 2]),
-    // The way to the loop comes to it in the midst of its nets.
+    // The walk reaches the loop in the middle of its nets.
     (
         b"s = NOT(c)\na = NOT(b)\nb = NOT(c)\nc = NOT(a)",
         &[3, 1, 2],
     ),
-    // Two loops, of which the least net leads to that at its first pin.
+    // Two loops: from the least net the walk reaches the one at its first pin.
     (
         b"y = AND(d, b)\na = NOT(b)\nb = NOT(a)\nc = NOT(d)\nd = NOT(c)",
         &[4, 3],
     ),
     // Two loops with one gate in both.
     (b"a = AND(c, b)\nb = NOT(a)\nc = NOT(a)", &[0, 2]),
-    // Two loops that have nothing to do with each other, behind a gate that has a level.
+    // Two unconnected loops, after a gate that has a level.
     (
         b"INPUT(e)\nu = NOT(e)\na = NOT(b)\nb = NOT(a)\nc = NOT(d)\nd = NOT(c)",
         &[2, 3],
@@ -64,9 +64,9 @@ static LOOPS: [(&[u8], &[u32]); 11] = [
         b"q = DFF(n)\nn = NOT(q)\nINPUT(a)\nb = OR(a, c)\nc = AND(a, b)",
         &[3, 4],
     ),
-    // A flip-flop stands at a gate's first pin and behind it, and the loop goes through the second one.
+    // A flip-flop is at a gate's first pin and after it, and the loop goes through the second one.
     (b"q = DFF(a)\na = AND(q, b)\nb = OR(a, q)", &[1, 2]),
-    // The first pin of a gate has a level by a gate that is defined last.
+    // The first pin of a gate has a level from a gate that is defined last.
     (b"INPUT(e)\na = OR(u, b)\nb = OR(u, a)\nu = NOT(e)", &[1, 2]),
 ];
 
@@ -115,8 +115,8 @@ fn loops(rt: HostRuntime) -> Result<(), Fail> {
 
 const LONG: u32 = 50_000;
 
-// An input `a`, and so many inverters `g0`, `g1` and so on, each with the next one at its pin, and this net at the pin
-// of the last one.
+// An input `a`, and this number of inverters `g0`, `g1` and so on, each with the next one at its pin, and
+// this net at the pin of the last one.
 fn chain(alloc: Global, gates: u32, end: &[u8]) -> Result<Vec<u8>, AllocError> {
     let mut text = Vec::from_slice(alloc, b"INPUT(a)\ng0 = NOT(")?;
     for number in 1..gates {
@@ -161,7 +161,7 @@ fn long_ring(rt: HostRuntime) -> Result<(), Fail> {
     Ok(())
 }
 
-// The walk over the whole chain comes to a net that is its own pin.
+// The walk over the whole chain reaches a net that is at its own pin.
 #[test]
 fn long_way(rt: HostRuntime) -> Result<(), Fail> {
     let bench = chain(rt.alloc(), LONG, b"g49999")?;
@@ -169,13 +169,13 @@ fn long_way(rt: HostRuntime) -> Result<(), Fail> {
     tells_end(&rt, rt.alloc(), &netlist, b"\nloop g49999\n")
 }
 
-// Netlists, and their nets that no output hangs on.
+// Netlists, and their unobserved nets.
 static OUTSIDE: [(&[u8], &[u32]); 5] = [
     (S27_BENCH, &[]),
     (b"INPUT(a)\nINPUT(b)\nOUTPUT(y)\ny = NOT(a)", &[1]),
-    // Without outputs all nets.
+    // Without outputs, all nets.
     (b"q = DFF(n)\nn = NOT(q)", &[0, 1]),
-    // A gate that only gates outside hang on, and an input behind a flip-flop that an output hangs on.
+    // A gate that feeds only unobserved gates, and an input that an output depends on through a flip-flop.
     (
         b"INPUT(a)\nz = NOT(u)\nu = NOT(a)\nINPUT(d)\nq = DFF(d)\nOUTPUT(q)",
         &[0, 1, 2],

@@ -1,4 +1,4 @@
-//! What is told of whole circuits, worked out by hand.
+//! Descriptions of whole circuits, worked out independently.
 use bench_text::read;
 use circuit_info::info_text;
 use fanin_cone::outside;
@@ -8,7 +8,7 @@ use std::process::Abort;
 use std::test::Fail;
 use worked_examples::S27_BENCH;
 
-// Netlists, and what is told of them and of their nets that no output hangs on.
+// Netlists, and their descriptions, with their unobserved nets.
 static TEXTS: [(&[u8], &[u8]); 5] = [
     (
         S27_BENCH,

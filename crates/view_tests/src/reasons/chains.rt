@@ -1,4 +1,4 @@
-//! Chains of causes, worked by hand.
+//! Chains of causes, worked out independently.
 use crate::reasons::circuits::{
     CONTROLLED, Circuit, GATE_RING, HAZARD, PRESET_RING, RING_COUNTER, S27, WIRED,
 };
@@ -160,7 +160,7 @@ fn net_of(rt: &impl Abort, design: &Design, name: &[u8]) -> u32 {
     found.unwrap_or(0)
 }
 
-// The lines of why a net has its value at a tick, from waveforms up to a later one.
+// The lines of why a net has its value at a tick, from waveforms up to a later tick.
 fn tells(rt: &impl Abort, alloc: Global, row: &Row, later: u64) -> Result<(), Fail> {
     let (circuit, name, tick, lines) = *row;
     let design = circuit.build(alloc)?;

@@ -1,4 +1,4 @@
-//! Where two waveforms differ first, worked by hand, and the lines of comparisons.
+//! Where two waveforms differ first, worked out independently, and the lines of comparisons.
 use crate::reasons::circuits::TWO_INPUTS;
 use Value::{One, Unknown, Zero};
 use design::plain_waves;
@@ -10,8 +10,8 @@ use wave_diff::{
     Compared, ComparedFault, Comparison, Difference, Side, first_difference, push_line,
 };
 
-// The first tick that is compared, by each so many, to the horizon, and the tick of the first
-// difference with what the two show there.
+// The first tick that is compared, the number whose multiples are compared, the horizon, and the tick of the
+// first difference with what the two show there.
 type Row = ((u64, u64, u64), Option<(u64, Value, Value)>);
 
 // Of an input that shows 1 from 5 to 8 and one that shows 1 from 6 to 8 and from 12 on.
@@ -81,7 +81,7 @@ fn worked_differences(rt: HostRuntime) -> Result<(), Fail> {
     differ(&rt, &waves[0], &waves[0], ALIKE.as_slice())
 }
 
-// What can't be compared: the first tick, by each so many, to the horizon.
+// What can't be compared: the first tick, the number whose multiples are compared, and the horizon.
 static FAULTS: [((u64, u64, u64), ComparedFault, &str); 6] = [
     ((0, 0, 20), ComparedFault::BadEvery, "BadEvery"),
     ((21, 0, 20), ComparedFault::BadEvery, "BadEvery"),

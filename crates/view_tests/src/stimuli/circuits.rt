@@ -13,10 +13,10 @@ pub(crate) const THREE: &[u8] = b"INPUT(c)\nINPUT(b)\ny = AND(a, b, c)\nINPUT(a)
 /// No input.
 pub(crate) const COUNTER: &[u8] = b"q = DFF(n)\nn = NOT(q)\n";
 
-/// A seed, and every how many ticks values are drawn.
+/// A seed, and how many ticks are between draws.
 pub(crate) type Drawn = (u64, u64);
 
-/// What is asked for where no input is drawn.
+/// The draws if no input is drawn.
 pub(crate) const NONE: Drawn = (0, 1);
 
 /// The text of a netlist with these drives and draws, up to a tick.

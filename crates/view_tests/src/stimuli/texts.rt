@@ -1,7 +1,7 @@
-//! Texts of small circuits. The words of the generator were reckoned from its published algorithm
-//! (PCG's XSH RR with 64 bits of state, seeded as `rand_core` expands a number to a seed), apart from
-//! this repository: an odd word is a 1. For the first seeds the words are, by their last bits,
-//! 0: 1110 1100 0010 .., 1: 0010 1000 0010 1010 .., 7: 10100 .., 42: 0000 0101 1111 ...
+//! Texts of small circuits. The words of the generator were computed from its published algorithm (PCG's XSH
+//! RR with 64 bits of state, seeded as `rand_core` expands a number to a seed), independently of this
+//! repository: an odd word is a 1. For the first seeds the words are, by their last bits, 0: 1110 1100 0010
+//! .., 1: 0010 1000 0010 1010 .., 7: 10100 .., 42: 0000 0101 1111 ...
 use crate::stimuli::circuits::{COUNTER, Drawn, INVERTER, NONE, THREE, text_of};
 use Drive::{Clock, Hold, Pulse};
 use Value::{One, Unknown, Zero};

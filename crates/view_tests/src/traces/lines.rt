@@ -1,4 +1,4 @@
-//! Traces that were worked out by hand.
+//! Traces that were worked out independently.
 use crate::traces::circuits::{
     CROSSING, Circuit, DOUBLE_PIN, GATED_OSCILLATOR, HAZARD, INVERTER, PRESET_RING, SAMPLER,
     SELF_INVERTER,
@@ -11,8 +11,8 @@ use std::process::Abort;
 use std::test::Fail;
 use timing_text::Horizon;
 
-// A circuit, its horizon, a schedule, the trace, and the counts that its last line tells: of events,
-// changes, null messages and rounds.
+// A circuit, its horizon, a schedule, the trace, and the counts in its last line: of events, changes, null
+// messages and rounds.
 type Row = (
     Circuit,
     u64,
@@ -44,7 +44,7 @@ const SCHEDULED_TRACE: &[u8] = b"deliver y 0: idle\n\
       advance y 1 -> 6: 1@1 0@4 null 6\n\
       events 9 changes 4 nulls 3 rounds 1\n";
 
-// Where the input is 0 the gate is known farther than its own pin.
+// While the input is 0, the gate is known further than its own pin.
 const OSCILLATOR_TRACE: &[u8] = b"round 1\n\
       advance e 0 -> 8: 0@0 1@3 null 8\n\
       advance y 0 -> 2: null 2\n\
@@ -132,7 +132,7 @@ const HAZARD_TRACE: &[u8] = b"round 1\n\
       advance y 2 -> 9: 0@2 1@6 0@7 null 9\n\
       events 19 changes 7 nulls 6 rounds 3\n";
 
-// Where both pins change at tick 4 the gate stays.
+// Both pins change at tick 4, and the gate stays.
 const CROSSING_TRACE: &[u8] = b"round 1\n\
       advance a 0 -> 7: 1@0 0@4 null 7\n\
       advance b 0 -> 7: 0@0 1@4 null 7\n\
@@ -213,8 +213,8 @@ fn worked_circuits(rt: HostRuntime) -> Result<(), Fail> {
     Ok(())
 }
 
-// A trace of more than 64 KiB: in each round but the first the gate hears its last null message, and
-// tells the next.
+// A trace of more than 64 KiB: in each round but the first the gate takes its last null message, and sends
+// the next.
 #[test]
 fn long_trace(rt: HostRuntime) -> Result<(), Fail> {
     let alloc = rt.alloc();

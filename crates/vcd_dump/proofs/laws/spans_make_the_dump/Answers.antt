@@ -1,7 +1,7 @@
 use Rattle.std.proofs.Common.{arith}
 use Rattle.vcd_dump.proofs.Signals.{span_text-more}
 use Rattle.vcd_dump.proofs.Streams.{stream_at-begun, stream_at-span, stream_at-can, stream_at-spanned}
-use Rattle.vcd_dump.proofs.Wholes.{dump_text-whole}
+use Rattle.vcd_dump.proofs.Wholes.{dump_text-whole, dump_text-nets}
 use Rattle.vcd_dump.proofs.laws.spans_make_the_dump.Goals as goal
 
 pub returns-clause-begins : goal.returns-clause-begins
@@ -21,3 +21,6 @@ returns-clause-text c = span_text-more
 
 pub returns-clause-whole : goal.returns-clause-whole
 returns-clause-whole c = dump_text-whole
+
+pub returns-clause-nets : goal.returns-clause-nets
+returns-clause-nets c = dump_text-nets
