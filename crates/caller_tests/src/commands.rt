@@ -9,7 +9,7 @@ use worked_examples::{S27_BENCH, S27_STIMULI};
 /// A text with its name.
 type Named = (&'static str, &'static [u8]);
 
-static FILES: [Named; 6] = [
+static FILES: [Named; 8] = [
     ("inv.bench", b"INPUT(a)\nOUTPUT(y)\ny = NOT(a)\n"),
     ("inv.stim", b"0 a 0\n3 a 1\n"),
     ("bad.sched", b"deliver y 1\n"),
@@ -17,6 +17,11 @@ static FILES: [Named; 6] = [
         "one.bench",
         b"INPUT(a)\nOUTPUT(y)\ny = NOT(a)\nINPUT(b)\nz = AND(a, b)\n",
     ),
+    (
+        "other.bench",
+        b"INPUT(c)\nk = BUF(c)\nm = NOT(k)\nz = XOR(a, b)\nINPUT(b)\nINPUT(a)\ny = NOT(a)\n",
+    ),
+    ("both.stim", b"0 a 0\n3 a 1\n0 b 1\n"),
     ("s27.bench", S27_BENCH),
     ("s27.stim", S27_STIMULI),
 ];
@@ -48,7 +53,7 @@ fn words_of(alloc: Global, line: &str) -> Result<Vec<String>, AllocError> {
 // A command line, its status, what goes to standard output, and what to standard error.
 type Row = (&'static str, u8, &'static [u8], &'static [u8]);
 
-static ROWS: [Row; 10] = [
+static ROWS: [Row; 15] = [
     (
         "run --bench inv.bench --stimuli inv.stim --horizon 5 --counts",
         0,
@@ -74,9 +79,27 @@ static ROWS: [Row; 10] = [
         b"",
     ),
     (
-        "twin --first inv.bench --first-stimuli inv.stim --second one.bench --second-stimuli inv.stim --net y --horizon 5",
+        "twin --first one.bench --first-stimuli both.stim --second other.bench --second-stimuli both.stim --net y --horizon 5",
         0,
         b"agree yes\nfirst 1 1\nfirst 4 0\nsecond 1 1\nsecond 4 0\n",
+        b"",
+    ),
+    (
+        "twin --first one.bench --first-stimuli both.stim --second other.bench --second-stimuli both.stim --net z --horizon 5",
+        0,
+        b"agree no\nfirst 1 0\nfirst 4 1\nsecond 1 1\nsecond 4 0\n",
+        b"",
+    ),
+    (
+        "twin --first one.bench --second other.bench --net m --horizon 5",
+        1,
+        b"",
+        b"one.bench:0: UnknownNet\n",
+    ),
+    (
+        "cone --bench s27.bench G12 G14 G12",
+        0,
+        b"INPUT(G0)\nINPUT(G1)\nINPUT(G2)\nG7 = DFF(G13)\nG14 = NOT(G0)\nG12 = NOR(G1, G7)\nG13 = NOR(G2, G12)\nOUTPUT(G12)\nOUTPUT(G14)\n",
         b"",
     ),
     (
@@ -99,6 +122,18 @@ static ROWS: [Row; 10] = [
     ),
     (
         "plain --bench inv.bench --horizon 10000001",
+        1,
+        b"",
+        b"options:0: BadHorizon\n",
+    ),
+    (
+        "run --bench inv.bench --horizon 5 --picks 10000001",
+        1,
+        b"",
+        b"schedule:0: TooManyEvents\n",
+    ),
+    (
+        "twin --first inv.bench --second one.bench --net z --horizon 10000001",
         1,
         b"",
         b"options:0: BadHorizon\n",

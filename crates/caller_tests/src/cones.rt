@@ -28,7 +28,9 @@ const LATER: Circuit = Circuit {
 // Two circuits, a name, a horizon, and whether they agree on its cone.
 type Pair = (Circuit, Circuit, &'static [u8], u64, Option<bool>);
 
-static PAIRS: [Pair; 5] = [
+static PAIRS: [Pair; 7] = [
+    (SECOND, FIRST, b"y", 5, Some(true)),
+    (SECOND, FIRST, b"m", 5, None),
     (FIRST, SECOND, b"y", 5, Some(true)),
     (FIRST, SECOND, b"z", 5, Some(false)),
     (FIRST, SECOND, b"m", 5, None),
@@ -76,6 +78,8 @@ fn has_cone(
 #[test]
 fn cones_of_s27(rt: HostRuntime) -> Result<(), Fail> {
     let design: Design = S27.build(rt.alloc())?;
+    has_cone(&rt, rt.alloc(), &design, 0, &[0])?;
+    has_cone(&rt, rt.alloc(), &design, 7, &[0, 7])?;
     has_cone(&rt, rt.alloc(), &design, 15, &[1, 2, 6, 15, 16])?;
     let all = [0, 1, 2, 3, 4, 5, 6, 7, 8, 9, 10, 11, 12, 13, 14, 15, 16];
     has_cone(&rt, rt.alloc(), &design, 8, &all)
@@ -84,8 +88,9 @@ fn cones_of_s27(rt: HostRuntime) -> Result<(), Fail> {
 // A circuit, names of its nets, and the canonical text of their cones.
 type Extracted = (Circuit, &'static [&'static [u8]], &'static [u8]);
 
-static EXTRACTED: [Extracted; 2] = [
+static EXTRACTED: [Extracted; 3] = [
     (FIRST, &[b"y"], b"INPUT(a)\ny = NOT(a)\nOUTPUT(y)\n"),
+    (SECOND, &[b"y"], b"INPUT(a)\ny = NOT(a)\nOUTPUT(y)\n"),
     (
         S27,
         &[b"G12", b"G14", b"G12"],
@@ -129,5 +134,7 @@ fn unknown_names(rt: HostRuntime) -> Result<(), Fail> {
     let netlist: Netlist = read(rt.alloc(), S27.bench)?;
     let refused: Option<ConeFault> = extract(rt.alloc(), &netlist, &[b"G0", b"zz"]).err();
     assert!(rt; refused.and_then(place) == Some(1));
+    let refused: Option<ConeFault> = extract(rt.alloc(), &netlist, &[b"g0", b"zz"]).err();
+    assert!(rt; refused.and_then(place) == Some(0));
     Ok(())
 }

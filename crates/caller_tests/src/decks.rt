@@ -63,6 +63,29 @@ fn refused_decks(rt: HostRuntime) {
     assert!(rt; is_of_memory(ReadFault::Memory) && !is_of_memory(ReadFault::Read));
 }
 
+// Decks that are refused, and the fault line.
+static PRINTED: [(&[u8], &[u8]); 3] = [
+    (b"nullsim 5\n", b"deck:1: BadDeck\n"),
+    (b"%nullsim 5\n", b"bench:0: NoNets\n"),
+    (
+        b"%nullsim 5\n%bench\nINPUT(a)\ny = NOT(a)\n%schedule\ndeliver y 1\n",
+        b"schedule:1: BadPin\n",
+    ),
+];
+
+#[test]
+fn fault_lines(rt: HostRuntime) {
+    for &(text, fault) in &PRINTED {
+        let mut input: &[u8] = text;
+        let mut out: Vec<u8> = Vec::new(rt.alloc());
+        let mut err: Vec<u8> = Vec::new(rt.alloc());
+        let status: u8 = tell(rt.alloc(), &mut input, &mut out, &mut err);
+        assert!(rt; status == 1);
+        assert!(rt; out.is_empty());
+        assert!(rt; err.as_slice() == fault);
+    }
+}
+
 // The room of the writer; the status and the fault line.
 static TOLD: [(usize, u8, &[u8]); 2] = [(190, 0, b""), (40, 3, b"stdout:0: Write\n")];
 

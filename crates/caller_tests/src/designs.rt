@@ -1,7 +1,8 @@
 //! Designs: what they are built of, and what the plain engine gives for them.
 use crate::circuits::{
-    CLOCKED, CONTROLLED_AND, CROSSING, Circuit, GATED_OSCILLATOR, INVERTER, LATE_PIN, PRESET_RING,
-    RING_COUNTER, SAMPLER, SELF_INVERTER, WIRED_FLOP, WIRED_INVERTER, WIRED_XOR,
+    CLOCKED, CONTROLLED_AND, CROSSING, Circuit, EARLY_AND, GATED_OSCILLATOR, INVERTER, LATE_PIN,
+    PRESET_RING, RING_COUNTER, S27, SAMPLER, SELF_INVERTER, SLOW_INVERTER, WIRED_FLOP,
+    WIRED_INVERTER, WIRED_XOR,
 };
 use Value::{One, Unknown, Zero};
 use bench_text::{Netlist, Part, read};
@@ -104,7 +105,7 @@ fn clocks(rt: HostRuntime) -> Result<(), Fail> {
 // A delay text and a stimulus text of the inverter, and how they are refused.
 type Refused = (&'static [u8], &'static [u8], Option<BuildFault>);
 
-static BUILT: [Refused; 8] = [
+static BUILT: [Refused; 9] = [
     (
         b"",
         b"3 y 1",
@@ -128,6 +129,11 @@ static BUILT: [Refused; 8] = [
     ),
     (b"y 1000000", b"", None),
     (
+        b"",
+        b"0 a z",
+        Some(BuildFault::Stimulus(StimulusFault::BadValue { line: 1 })),
+    ),
+    (
         b"y 2\ny 2",
         b"",
         Some(BuildFault::Timing(DelayFault::Twice { line: 2 })),
@@ -141,12 +147,13 @@ static BUILT: [Refused; 8] = [
 
 fn refusal(
     alloc: Global,
+    circuit: Circuit,
     delays: &[u8],
     stimuli: &[u8],
     default_delay: u64,
     period: u64,
 ) -> Result<Option<BuildFault>, Fail> {
-    let netlist: Netlist = read(alloc, INVERTER.bench)?;
+    let netlist: Netlist = read(alloc, circuit.bench)?;
     let answer: Result<Design, BuildFault> = Design::build(
         alloc,
         netlist,
@@ -161,21 +168,122 @@ fn refusal(
 #[test]
 fn refused_texts(rt: HostRuntime) -> Result<(), Fail> {
     for &(delays, stimuli, wanted) in &BUILT {
-        let refused: Option<BuildFault> = refusal(rt.alloc(), delays, stimuli, 1, 10)?;
+        let refused: Option<BuildFault> = refusal(rt.alloc(), INVERTER, delays, stimuli, 1, 10)?;
         assert!(rt; refused == wanted);
     }
-    let refused: Option<BuildFault> = refusal(rt.alloc(), b"y", b"y", 0, 0)?;
+    let refused: Option<BuildFault> = refusal(rt.alloc(), INVERTER, b"y", b"y", 0, 0)?;
     assert!(rt; refused == Some(BuildFault::Setting(OptionFault::BadDelay)));
+    Ok(())
+}
+
+// A circuit, a delay text of it, and how it is refused.
+type Timed = (Circuit, &'static [u8], DelayFault);
+
+static TIMED: [Timed; 11] = [
+    (INVERTER, b"zz 2\ny", DelayFault::UnknownNet { line: 1 }),
+    // One hundred times the digit 9.
+    (
+        INVERTER,
+        b"y 9999999999999999999999999999999999999999999999999999999999999999999999999999999999999999999999999999",
+        DelayFault::BadTicks { line: 1 },
+    ),
+    (
+        SAMPLER,
+        b"timing version 2\nclock d 4 1",
+        DelayFault::NotAFlop { line: 2 },
+    ),
+    (
+        SAMPLER,
+        b"timing version 2\nclock q 4 4",
+        DelayFault::BadPhase { line: 2 },
+    ),
+    (
+        SAMPLER,
+        b"timing version 2\nclock q 0 0",
+        DelayFault::BadPeriod { line: 2 },
+    ),
+    (
+        SAMPLER,
+        b"timing version 2\ninit q z",
+        DelayFault::BadValue { line: 2 },
+    ),
+    (
+        SAMPLER,
+        b"timing version 2\ndelay d 2",
+        DelayFault::IsInput { line: 2 },
+    ),
+    (
+        SAMPLER,
+        b"timing version 3",
+        DelayFault::BadLine { line: 1 },
+    ),
+    (
+        INVERTER,
+        b"timing version 2\nwire y 0 1000001",
+        DelayFault::BadTicks { line: 2 },
+    ),
+    (
+        INVERTER,
+        b"timing version 2\nwire y 1 2",
+        DelayFault::BadPin { line: 2 },
+    ),
+    (
+        INVERTER,
+        b"timing version 2\nwire a 0 2",
+        DelayFault::BadPin { line: 2 },
+    ),
+];
+
+// There are these faults of a design, and no others; they are looked for in this order.
+fn number(fault: BuildFault) -> u8 {
+    match fault {
+        BuildFault::Setting(_) => 1,
+        BuildFault::Timing(_) => 2,
+        BuildFault::Stimulus(_) => 3,
+        BuildFault::Memory => 4,
+    }
+}
+
+#[test]
+fn refused_delays(rt: HostRuntime) -> Result<(), Fail> {
+    for &(circuit, delays, fault) in &TIMED {
+        let refused: Option<BuildFault> = refusal(rt.alloc(), circuit, delays, b"", 1, 10)?;
+        assert!(rt; refused == Some(BuildFault::Timing(fault)));
+        assert!(rt; refused.map(number) == Some(2));
+    }
+    Ok(())
+}
+
+const ZEROS: Circuit = Circuit {
+    delays: b"y 0000000000000000000000000000000002",
+    ..INVERTER
+};
+
+fn has_delay(rt: &impl Abort, design: &Design, wanted: u64) {
+    assert!(rt; design.nets() == 2);
+    let delay: u64 = design.delay(1);
+    assert!(rt; delay == wanted);
+}
+
+// Zeros before a number play no part.
+#[test]
+fn a_delay_with_zeros(rt: HostRuntime) -> Result<(), Fail> {
+    let design: Design = ZEROS.build(rt.alloc())?;
+    has_delay(&rt, &design, 2);
     Ok(())
 }
 
 // A circuit, its horizon, a net by its number, and the changes that it shows.
 type Shown = (Circuit, u64, usize, &'static [(u64, Value)]);
 
-static SHOWN: [Shown; 15] = [
+static SHOWN: [Shown; 26] = [
     (INVERTER, 5, 0, &[(0, Zero), (3, One)]),
     (INVERTER, 5, 1, &[(1, One), (4, Zero)]),
+    (INVERTER, 4, 0, &[(0, Zero), (3, One)]),
+    (INVERTER, 4, 1, &[(1, One), (4, Zero)]),
+    (INVERTER, 0, 0, &[(0, Zero)]),
     (INVERTER, 0, 1, &[]),
+    (SLOW_INVERTER, 5, 1, &[]),
     (SELF_INVERTER, 3, 0, &[]),
     (
         GATED_OSCILLATOR,
@@ -183,11 +291,14 @@ static SHOWN: [Shown; 15] = [
         1,
         &[(2, One), (7, Zero), (9, One), (11, Zero)],
     ),
+    (LATE_PIN, 8, 1, &[(1, Zero), (6, One)]),
     (LATE_PIN, 8, 2, &[(2, Zero), (6, One), (7, Zero)]),
     (CROSSING, 6, 2, &[(1, Zero)]),
     (CONTROLLED_AND, 2, 1, &[]),
+    (CONTROLLED_AND, 2, 2, &[(1, Zero)]),
     (SAMPLER, 9, 1, &[(5, One), (9, Zero)]),
     (RING_COUNTER, 10, 0, &[]),
+    (RING_COUNTER, 10, 1, &[]),
     (CLOCKED, 9, 1, &[(0, Zero), (2, Unknown), (6, Zero)]),
     (
         PRESET_RING,
@@ -195,9 +306,13 @@ static SHOWN: [Shown; 15] = [
         0,
         &[(0, Zero), (4, One), (7, Zero), (10, One)],
     ),
+    (PRESET_RING, 10, 1, &[(1, One), (5, Zero), (8, One)]),
+    (WIRED_XOR, 8, 1, &[(1, Zero), (6, One)]),
     (WIRED_XOR, 8, 2, &[(2, Zero)]),
     (WIRED_FLOP, 9, 1, &[(9, Zero)]),
     (WIRED_INVERTER, 5, 1, &[]),
+    (EARLY_AND, 5, 1, &[(1, Zero)]),
+    (S27, 35, 8, &[(6, One), (27, Zero)]),
 ];
 
 fn waves_of(alloc: Global, circuit: Circuit, horizon: u64) -> Result<Vec<Waveform>, Fail> {

@@ -87,7 +87,15 @@ fn first_events<F: Fabric>(rt: &impl Abort, alloc: Global, design: &Design) -> R
     let no_net = KernelFault::NoSuchNet { at: 1 };
     refuses(rt, &mut kernel, &[Advance(0), Advance(2)], no_net);
     counts_are(rt, &kernel, [3, 0, 1, 0]);
+    knows_nothing_of_the_input(rt, &kernel);
     Ok(())
+}
+
+fn knows_nothing_of_the_input<F: Fabric>(rt: &impl Abort, kernel: &Kernel<F>) {
+    assert!(rt; !kernel.is_failed());
+    assert!(rt; 0 < kernel.nets());
+    let frontier: u64 = kernel.frontier(0);
+    assert!(rt; frontier == 0);
 }
 
 #[test]

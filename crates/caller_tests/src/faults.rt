@@ -92,8 +92,8 @@ const FIVE: View = View {
     unit: TimeUnit::Ns,
 };
 
-// Everything is wrong with the first; each further one has a fault less.
-static REFUSED: [(Source<'static>, SimFault, u8, u64); 5] = [
+// Everything is wrong with the first; each further one has a fault less, but for the last, which has another one.
+static REFUSED: [(Source<'static>, SimFault, u8, u64); 6] = [
     (
         Source {
             bench: b"",
@@ -149,6 +149,18 @@ static REFUSED: [(Source<'static>, SimFault, u8, u64); 5] = [
         5,
         0,
     ),
+    (
+        Source {
+            picks: Picks::Seeded {
+                seed: 0,
+                picks: 10_000_001,
+            },
+            ..INVERTER
+        },
+        SimFault::Schedule(ScheduleFault::TooManyEvents),
+        5,
+        0,
+    ),
 ];
 
 #[test]
@@ -160,6 +172,30 @@ fn refused_runs(rt: HostRuntime) {
         assert!(rt; number(wanted) == which && place(wanted) == at);
         assert!(rt; out.is_empty());
     }
+}
+
+// All options are wrong, and the text.
+#[test]
+fn the_first_option(rt: HostRuntime) {
+    let view = View {
+        horizon: 10_000_001,
+        ..FIVE
+    };
+    let source = Source {
+        bench: b"",
+        default_delay: 0,
+        period: 0,
+        ..INVERTER
+    };
+    let mut out: Vec<u8> = Vec::new(rt.alloc());
+    let fault = simulate(rt.alloc(), &source, &view, &mut out).err();
+    assert!(rt; fault == Some(SimFault::Setting(OptionFault::BadDelay)));
+    let later = Source {
+        default_delay: 1,
+        ..source
+    };
+    let fault = simulate(rt.alloc(), &later, &view, &mut out).err();
+    assert!(rt; fault == Some(SimFault::Setting(OptionFault::BadPeriod)));
 }
 
 // The horizon is looked at after the other options, and before the texts.

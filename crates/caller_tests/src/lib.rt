@@ -28,6 +28,8 @@ mod kernels;
 #[cfg(test)]
 mod laws;
 #[cfg(test)]
+mod long_chain;
+#[cfg(test)]
 mod netlists;
 #[cfg(test)]
 mod processes;

@@ -189,7 +189,7 @@ const LOW_AT_9: Change = Change {
 };
 
 // Its second pin lags, and what the first one knows settles it from tick 5 on.
-const AND: [Step; 13] = [
+const AND: [Step; 14] = [
     Receives(
         0,
         &[
@@ -205,6 +205,7 @@ const AND: [Step; 13] = [
     Receives(1, &[Message::Change(LOW_AT_0)]),
     Tells(&[Message::Change(LOW_AT_1)]),
     Receives(1, &[Message::Change(HIGH_AT_4)]),
+    Knows(5, 2),
     Tells(&[Null(7)]),
     Receives(1, &[Null(7)]),
     Tells(&[]),

@@ -1,9 +1,12 @@
 //! Whole runs of four texts: by the kernel and by the plain engine.
 use cmb_kernel::Counts;
 use nullsim::{Picks, Report, Show, SimFault, Source, TimeUnit, View, plain, simulate};
+use std::alloc::{AllocError, Global};
 use std::process::Abort;
 use std::test::Fail;
-use worked_examples::dumps::{EDGE_DUMP, INVERTER_DUMP, OUTPUTS_DUMP};
+use worked_examples::dumps::{
+    EDGE_DUMP, INVERTER_DUMP, OUTPUTS_DUMP, SELF_INVERTER_DUMP, SLOW_DUMP,
+};
 
 /// The inverter's texts.
 pub(crate) const INVERTER: Source<'static> = Source {
@@ -21,6 +24,17 @@ const LATE_PIN: Source<'static> = Source {
     ..INVERTER
 };
 
+const SELF_INVERTER: Source<'static> = Source {
+    bench: b"y = NOT(y)\n",
+    stimuli: b"",
+    ..INVERTER
+};
+
+const SLOW_INVERTER: Source<'static> = Source {
+    delays: b"y 9\n",
+    ..INVERTER
+};
+
 const WITHOUT_OUTPUT: Source<'static> = Source {
     bench: b"INPUT(a)\n",
     stimuli: b"",
@@ -35,6 +49,8 @@ const NS: View = View {
 
 const AT_ZERO: View = View { horizon: 0, ..NS };
 
+const AT_THREE: View = View { horizon: 3, ..NS };
+
 const LATE: View = View { horizon: 8, ..NS };
 
 const OUTPUTS: View = View {
@@ -46,6 +62,17 @@ const OUTPUTS: View = View {
 const NO_NETS_DUMP: &[u8] =
     b"$version nullsim 1 $end\n$timescale 1 ps $end\n$scope module top $end\n$upscope $end\n$enddefinitions $end\n#0\n$dumpvars\n$end\n#5\n";
 
+const FIFTY: &[u8] = b"advance y\nadvance y\nadvance y\nadvance y\nadvance y\n\
+      advance y\nadvance y\nadvance y\nadvance y\nadvance y\n\
+      advance y\nadvance y\nadvance y\nadvance y\nadvance y\n\
+      advance y\nadvance y\nadvance y\nadvance y\nadvance y\n\
+      advance y\nadvance y\nadvance y\nadvance y\nadvance y\n\
+      advance y\nadvance y\nadvance y\nadvance y\nadvance y\n\
+      advance y\nadvance y\nadvance y\nadvance y\nadvance y\n\
+      advance y\nadvance y\nadvance y\nadvance y\nadvance y\n\
+      advance y\nadvance y\nadvance y\nadvance y\nadvance y\n\
+      advance y\nadvance y\nadvance y\nadvance y\nadvance y\n";
+
 const DELIVERIES: Picks<'static> = Picks::Text(b"deliver b 0\ndeliver y 0\ndeliver y 1\n");
 
 const AHEAD: Picks<'static> = Picks::Text(b"advance a\ndeliver b 0\nadvance b\n");
@@ -53,9 +80,17 @@ const AHEAD: Picks<'static> = Picks::Text(b"advance a\ndeliver b 0\nadvance b\n"
 // A source and a view of it; what is counted after its schedule and in all; its dump.
 type Run = (Source<'static>, View, [u64; 4], [u64; 4], &'static [u8]);
 
-static RUNS: [Run; 7] = [
+static RUNS: [Run; 10] = [
     (INVERTER, NS, [0, 0, 0, 0], [7, 4, 3, 2], INVERTER_DUMP),
     (INVERTER, OUTPUTS, [0, 0, 0, 0], [7, 4, 3, 2], OUTPUTS_DUMP),
+    (
+        SELF_INVERTER,
+        AT_THREE,
+        [0, 0, 0, 0],
+        [7, 0, 4, 4],
+        SELF_INVERTER_DUMP,
+    ),
+    (SLOW_INVERTER, NS, [0, 0, 0, 0], [2, 2, 2, 1], SLOW_DUMP),
     (
         WITHOUT_OUTPUT,
         OUTPUTS,
@@ -64,6 +99,16 @@ static RUNS: [Run; 7] = [
         NO_NETS_DUMP,
     ),
     (LATE_PIN, LATE, [0, 0, 0, 0], [19, 7, 6, 3], EDGE_DUMP),
+    (
+        Source {
+            picks: Picks::Text(FIFTY),
+            ..LATE_PIN
+        },
+        LATE,
+        [50, 0, 1, 0],
+        [69, 7, 6, 3],
+        EDGE_DUMP,
+    ),
     (
         Source {
             picks: DELIVERIES,
@@ -127,6 +172,29 @@ fn by_both_engines(rt: HostRuntime) -> Result<(), Fail> {
     Ok(())
 }
 
+// These nets can be shown, and no others.
+fn shows_all(show: Show) -> bool {
+    match show {
+        Show::All => true,
+        Show::Outputs => false,
+    }
+}
+
+// Events are picked in these ways, and no others: a seed, and how many.
+fn seeded(picks: Picks<'_>) -> Option<(u64, u64)> {
+    match picks {
+        Picks::Nothing | Picks::Text(_) => None,
+        Picks::Seeded { seed, picks } => Some((seed, picks)),
+    }
+}
+
+#[test]
+fn variants(rt: HostRuntime) {
+    assert!(rt; shows_all(Show::All) && !shows_all(Show::Outputs));
+    assert!(rt; seeded(Picks::Nothing).is_none() && seeded(AHEAD).is_none());
+    assert!(rt; seeded(Picks::Seeded { seed: 3, picks: 4 }) == Some((3, 4)));
+}
+
 // A view and the kinds of nets that are shown are plain values, and can be used again.
 #[test]
 fn views_are_copied(rt: HostRuntime) {
@@ -139,6 +207,41 @@ fn views_are_copied(rt: HostRuntime) {
         assert!(rt; simulate(rt.alloc(), &INVERTER, &view, &mut out).is_ok());
         assert!(rt; out.as_slice() == &INVERTER_DUMP[..169]);
     }
+}
+
+// The inputs `n0`, `n1` and so on.
+fn inputs(alloc: Global, count: u32) -> Result<Vec<u8>, AllocError> {
+    let mut bench: Vec<u8> = Vec::new(alloc);
+    for number in 0..count {
+        push_input(&mut bench, number)?;
+    }
+    Ok(bench)
+}
+
+fn push_input(bench: &mut Vec<u8>, number: u32) -> Result<(), AllocError> {
+    let alloc: Global = *bench.allocator();
+    let line = format!(in alloc; "INPUT(n{number})\n")?;
+    bench.extend_from_slice(line.as_bytes())
+}
+
+// After 94 codes of one character come those of two.
+#[test]
+fn codes_of_many_nets(rt: HostRuntime) -> Result<(), Fail> {
+    let bench: Vec<u8> = inputs(rt.alloc(), 96)?;
+    let source = Source {
+        bench: &bench,
+        delays: b"",
+        stimuli: b"",
+        default_delay: 1,
+        period: 10,
+        picks: Picks::Nothing,
+    };
+    let mut out: Vec<u8> = Vec::new(rt.alloc());
+    simulate(rt.alloc(), &source, &AT_ZERO, &mut out)?;
+    let last =
+        b"$var wire 1 ~ n93 $end\n$var wire 1 !! n94 $end\n$var wire 1 \"! n95 $end\n".as_slice();
+    assert!(rt; out.windows(last.len()).any(|window| window == last));
+    Ok(())
 }
 
 // A seeded schedule of a thousand picks.

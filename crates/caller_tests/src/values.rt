@@ -47,10 +47,12 @@ fn are_opposites(rt: &impl Abort, first: Value, second: Value, wanted: Value) {
 
 #[test]
 fn gates_of_two_pins(rt: HostRuntime) {
-    for (pins, and, or, xor) in &TABLE {
-        are_opposites(&rt, gate(And, pins), gate(Nand, pins), *and);
-        are_opposites(&rt, gate(Or, pins), gate(Nor, pins), *or);
-        are_opposites(&rt, gate(Xor, pins), gate(Xnor, pins), *xor);
+    for &([first, second], and, or, xor) in &TABLE {
+        for pins in [[first, second], [second, first]] {
+            are_opposites(&rt, gate(And, &pins), gate(Nand, &pins), and);
+            are_opposites(&rt, gate(Or, &pins), gate(Nor, &pins), or);
+            are_opposites(&rt, gate(Xor, &pins), gate(Xnor, &pins), xor);
+        }
     }
 }
 
@@ -61,5 +63,15 @@ fn gates_of_one_pin(rt: HostRuntime) {
         let turned: Value = gate(Not, &[pin]);
         assert!(rt; same == pin);
         assert!(rt; turned == opposite);
+        assert!(rt; gate(And, &[pin]) == pin);
+        assert!(rt; gate(Nor, &[pin]) == opposite);
     }
+}
+
+#[test]
+fn gates_of_three_pins(rt: HostRuntime) {
+    assert!(rt; gate(Xor, &[One, One, One]) == One);
+    assert!(rt; gate(Xnor, &[One, One, One]) == Zero);
+    assert!(rt; gate(And, &[One, Unknown, Zero]) == Zero);
+    assert!(rt; gate(Nand, &[One, One, One]) == Zero);
 }

@@ -58,6 +58,7 @@ fn splits(rt: &impl Abort, wave: &mut Waveform) -> Result<(), AllocError> {
     let split: Vec<Change> = wave.split_below(3)?;
     assert!(rt; split.as_slice() == [LOW].as_slice());
     assert!(rt; wave.before() == Zero);
+    assert!(rt; wave.value_at(2) == Zero);
     assert!(rt; wave.changes() == [HIGH].as_slice());
     let none: Vec<Change> = wave.split_below(3)?;
     assert!(rt; none.is_empty());
@@ -76,5 +77,7 @@ fn copied_and_split(rt: HostRuntime) -> Result<(), Fail> {
     assert!(rt; copied == wave);
     splits(&rt, &mut wave)?;
     assert!(rt; copied != wave);
+    // Without changes they differ by the value before.
+    assert!(rt; wave != Waveform::new(rt.alloc()));
     Ok(())
 }

@@ -173,7 +173,7 @@ fn answers<W: Write>(
     design: &Design,
     horizon: Horizon,
 ) -> Option<()> {
-    let mut listener = listener(alloc, teller, design, horizon)?;
+    let mut listener = new_listener(alloc, teller, design, horizon)?;
     hears(teller, &mut listener)?;
     advances(teller, &mut listener)?;
     drains(teller, &mut listener)
@@ -186,14 +186,14 @@ fn fills<W: Write>(
     design: &Design,
     horizon: Horizon,
 ) -> Option<()> {
-    let mut listener = listener(alloc, teller, design, horizon)?;
+    let mut listener = new_listener(alloc, teller, design, horizon)?;
     hears(teller, &mut listener)?;
     advances_into(alloc, teller, &mut listener)?;
     drains_into(alloc, teller, &mut listener)
 }
 
 /// The process of the inverter's output.
-fn listener<'d, W: Write>(
+fn new_listener<'d, W: Write>(
     alloc: Global,
     teller: &mut Teller<W>,
     design: &'d Design,

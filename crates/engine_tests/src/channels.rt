@@ -1,4 +1,4 @@
-//! Channels from nets to pins: what is sent waits at each pin, in order.
+//! Channels from several nets to the pins of several gates; those of one net are in `caller_tests`.
 ghost use Rattle.std.specs.Prelude.{◌≡◌, length};
 
 use crate::circuits::built;
@@ -65,14 +65,6 @@ impl<F: Fabric> Channels<F> {
     }
 }
 
-impl Channels<Logs> {
-    // The log of a net holds this number of messages.
-    fn keeps(&self, rt: &impl Abort, net: u32, wanted: u64) {
-        assert!(rt; net < self.nets);
-        assert!(rt; self.fabric.kept(net) == wanted);
-    }
-}
-
 const RISE: Message = Message::Change(Change {
     tick: 3,
     value: One,
@@ -100,20 +92,6 @@ fn follows<F: Fabric>(
     Ok(())
 }
 
-// One net at two pins of a gate sends to both.
-const AT_TWO_PINS: [Step; 10] = [
-    Waits(0, 0),
-    Waits(1, 0),
-    Sends(0, RISE),
-    Waits(0, 1),
-    Waits(1, 1),
-    Takes(0, Some(RISE)),
-    Waits(0, 0),
-    Waits(1, 1),
-    Takes(0, None),
-    Takes(1, Some(RISE)),
-];
-
 // A net feeds pins of two others; each pin takes all messages, in the order of sending.
 const AT_TWO_GATES: [Step; 14] = [
     Sends(0, Null(2)),
@@ -132,49 +110,6 @@ const AT_TWO_GATES: [Step; 14] = [
     Takes(0, Some(Null(9))),
 ];
 
-const HIGH: Message = Message::Change(Change {
-    tick: 0,
-    value: One,
-});
-
-// Three pins of one net: one has taken both messages, one the first, and one nothing.
-const AT_THREE_PINS: [Step; 9] = [
-    Sends(0, HIGH),
-    Sends(0, Null(6)),
-    Sends(1, Null(9)),
-    Takes(0, Some(HIGH)),
-    Takes(0, Some(Null(6))),
-    Takes(1, Some(HIGH)),
-    Waits(0, 0),
-    Waits(1, 1),
-    Waits(2, 2),
-];
-
-// Steps over logs, and how many messages the first net's log holds after each part of them; the
-// second net feeds no pin.
-fn keep(rt: &impl Abort, alloc: Global, design: &Design) -> Result<(), Fail> {
-    let mut channels: Channels<Logs> = Channels::empty_for(alloc, design)?;
-    for (steps, kept) in [
-        (AT_THREE_PINS.as_slice(), 2),
-        ([Takes(2, Some(HIGH))].as_slice(), 1),
-        ([Takes(0, None)].as_slice(), 1),
-    ] {
-        for step in steps {
-            channels.step(rt, *step)?;
-        }
-        channels.keeps(rt, 0, kept);
-        channels.keeps(rt, 1, 0);
-    }
-    Ok(())
-}
-
-#[test]
-fn one_log(rt: HostRuntime) -> Result<(), Fail> {
-    let bench = b"INPUT(a)\ny = AND(a, a, a)\n";
-    let design = built(rt.alloc(), bench, b"", b"", 10)?;
-    keep(&rt, rt.alloc(), &design)
-}
-
 fn follow_both(
     rt: &impl Abort,
     alloc: Global,
@@ -189,8 +124,6 @@ fn follow_both(
 
 #[test]
 fn steps_of_channels(rt: HostRuntime) -> Result<(), Fail> {
-    let two_pins = b"INPUT(a)\ny = XOR(a, a)\n";
-    follow_both(&rt, rt.alloc(), two_pins, (2, 2), &AT_TWO_PINS)?;
     let two_gates = b"INPUT(a)\nINPUT(b)\ny = AND(b, a)\nz = NOT(a)\n";
     follow_both(&rt, rt.alloc(), two_gates, (4, 3), &AT_TWO_GATES)
 }

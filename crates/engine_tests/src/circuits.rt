@@ -76,12 +76,6 @@ pub(crate) const CROSSING: Circuit = Circuit {
     ..INVERTER
 };
 
-/// The same gate, known by one pin.
-pub(crate) const CONTROLLED_AND: Circuit = Circuit {
-    stimuli: b"0 a 0",
-    ..CROSSING
-};
-
 /// A gate at its own pin, which its input settles: the nets `a` and `y`.
 pub(crate) const EARLY_AND: Circuit = Circuit {
     bench: b"INPUT(a)\ny = AND(a, y)",

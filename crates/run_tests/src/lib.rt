@@ -6,8 +6,6 @@ mod cones;
 #[cfg(test)]
 mod far_runs;
 #[cfg(test)]
-mod long_chain;
-#[cfg(test)]
 mod noting;
 #[cfg(test)]
 mod showing;

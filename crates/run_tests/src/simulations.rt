@@ -1,12 +1,10 @@
 //! Runs by the kernel: dumps byte for byte, what is reported, schedules.
-use cmb_events::ScheduleFault;
 use cmb_kernel::Counts;
 use plain_runs::plain;
-use prepared_runs::{Picks, Show, SimFault, Source, View};
+use prepared_runs::{Picks, Show, Source, View};
 use runs::{Report, simulate, sweep};
 use std::alloc::Global;
 use std::process::Abort;
-use timing_text::StimulusFault;
 use vcd_dump::TimeUnit;
 use worked_examples::dumps::{
     CLOCKED_DUMP, EDGE_DUMP, INVERTER_DUMP, LATCH_DUMP, OSCILLATOR_DUMP, OUTPUTS_DUMP,
@@ -272,51 +270,6 @@ fn random_schedule(rt: HostRuntime) {
         assert!(rt; out.as_slice() == EDGE_DUMP);
         dumps_alike(&rt, rt.alloc(), &source, &all_up_to(8), EDGE_DUMP);
     }
-}
-
-// The run is refused, and nothing is written.
-fn refuses(rt: &impl Abort, alloc: Global, source: Source, fault: SimFault) {
-    let mut out = Vec::new(alloc);
-    assert!(rt; simulate(alloc, &source, &all_up_to(5), &mut out) == Err(fault));
-    assert!(rt; out.is_empty());
-}
-
-#[test]
-fn faulty_schedules(rt: HostRuntime) {
-    for (text, fault) in [
-        (b"deliver y 1".as_slice(), ScheduleFault::BadPin { line: 1 }),
-        (b"Advance y".as_slice(), ScheduleFault::BadLine { line: 1 }),
-        (
-            b"advance zz".as_slice(),
-            ScheduleFault::UnknownNet { line: 1 },
-        ),
-        (
-            b"advance y\n# none\nadvance".as_slice(),
-            ScheduleFault::BadLine { line: 3 },
-        ),
-    ] {
-        let source = Source {
-            picks: Picks::Text(text),
-            ..INVERTER
-        };
-        refuses(&rt, rt.alloc(), source, SimFault::Schedule(fault));
-        // The stimuli are looked at before.
-        let not_an_input = Source {
-            stimuli: b"3 y 1",
-            ..source
-        };
-        let fault = SimFault::Stimulus(StimulusFault::NotAnInput { line: 1 });
-        refuses(&rt, rt.alloc(), not_an_input, fault);
-    }
-    let many = Source {
-        picks: Picks::Seeded {
-            seed: 0,
-            picks: 10_000_001,
-        },
-        ..INVERTER
-    };
-    let fault = SimFault::Schedule(ScheduleFault::TooManyEvents);
-    refuses(&rt, rt.alloc(), many, fault);
 }
 
 // The dump of the outputs of a circuit, in picoseconds, up to tick 5.

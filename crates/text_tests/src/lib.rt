@@ -1,13 +1,8 @@
-//! Tests of gates and waveforms, of texts and netlists, and of the texts and settings that a design is
-//! built with.
+//! Tests of texts and netlists, and of the texts and settings that a design is built with.
 #![tactic(auto)]
 
 #[cfg(test)]
 mod flow;
-#[cfg(test)]
-mod logic;
-#[cfg(test)]
-mod picking;
 #[cfg(test)]
 mod reading;
 #[cfg(test)]

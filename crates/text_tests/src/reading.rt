@@ -1,79 +1,19 @@
-//! Reading and writing .bench texts.
+//! Reading and writing .bench texts: further faults and keywords, and the limits.
 use crate::texts::longest;
-use bench_text::{BenchFault, read, write};
-use logic3::GateKind;
-use netlist::{Netlist, Part};
+use bench_text::{BenchFault, Netlist, read, write};
 use std::alloc::{AllocError, Global};
 use std::process::Abort;
 use std::test::Fail;
-
-// The net of this number has this name and is this part, with pins at these nets.
-fn net_is(rt: &impl Abort, netlist: &Netlist, net: u32, name: &[u8], part: Part, pins: &[u32]) {
-    assert!(rt; net < netlist.nets());
-    assert!(rt; netlist.name(net) == name);
-    assert!(rt; netlist.part(net) == part);
-    assert!(rt; netlist.pins_of(net) == pins);
-}
 
 fn finds(rt: &impl Abort, netlist: &Netlist, name: &[u8], net: Option<u32>) {
     assert!(rt; netlist.find(name) == net);
 }
 
-fn is_inverter(rt: &impl Abort, netlist: &Netlist) {
-    assert!(rt; netlist.nets() == 2);
-    net_is(rt, netlist, 0, b"a", Part::Input, &[]);
-    net_is(rt, netlist, 1, b"y", Part::Gate(GateKind::Not), &[0]);
-    assert!(rt; netlist.outputs() == [1].as_slice());
-}
-
-#[test]
-fn the_inverter(rt: HostRuntime) -> Result<(), Fail> {
-    let netlist = read(rt.alloc(), b"INPUT(a)\nOUTPUT(y)\ny = NOT(a)\n")?;
-    is_inverter(&rt, &netlist);
-    finds(&rt, &netlist, b"y", Some(1));
-    finds(&rt, &netlist, b"z", None);
-    Ok(())
-}
-
-#[test]
-fn names_in_order_of_definition(rt: HostRuntime) -> Result<(), Fail> {
-    let netlist = read(rt.alloc(), b"OUTPUT(y)\ny = NOT(n)\nn = NOT(a)\nINPUT(a)")?;
-    for (net, name) in [(0, b"y"), (1, b"n"), (2, b"a")] {
-        finds(&rt, &netlist, name, Some(net));
-    }
-    Ok(())
-}
-
 // Texts, and what they are refused with.
-static REFUSED: [(&[u8], BenchFault); 18] = [
-    (b"", BenchFault::NoNets),
-    (
-        b"INPUT(a)\ny = NOT(a)\ny = BUF(a)",
-        BenchFault::DefinedTwice { line: 3 },
-    ),
-    (
-        b"INPUT(a)\ny = AND(a, zz)",
-        BenchFault::Undefined { line: 2 },
-    ),
-    (
-        b"INPUT(a)\nINPUT(b)\nq = DFF(a, b)",
-        BenchFault::BadArity { line: 3 },
-    ),
-    (b"INPUT(a)\ny = AND()", BenchFault::BadArity { line: 2 }),
-    (b"y = MUX(a)", BenchFault::UnknownGate { line: 1 }),
+static REFUSED: [(&[u8], BenchFault); 6] = [
     (b"y = MUX()", BenchFault::UnknownGate { line: 1 }),
-    (b"INOUT(a)", BenchFault::BadLine { line: 1 }),
-    // If there are several faults, one is reported.
-    (b"INPUT(a)\nINPUT(a)\nx y", BenchFault::BadLine { line: 3 }),
-    (
-        b"INPUT(a)\nINPUT(a)\nOUTPUT(z)",
-        BenchFault::DefinedTwice { line: 2 },
-    ),
-    (b"INPUT(a)\nOUTPUT(z)", BenchFault::Undefined { line: 2 }),
-    (b"INPUT($end)", BenchFault::BadLine { line: 1 }),
     (b"$INPUT(a)", BenchFault::BadLine { line: 1 }),
     (b"y = $AND(a)", BenchFault::UnknownGate { line: 1 }),
-    (b"\xEF\xBB\xBFINPUT(a)", BenchFault::BadByte { line: 1 }),
     (b"x y \x80", BenchFault::BadByte { line: 1 }),
     (b"INPUT(a)\x0B", BenchFault::BadByte { line: 1 }),
     (b"INPUT(a)y=AND(a)", BenchFault::BadLine { line: 1 }),
@@ -99,19 +39,7 @@ fn is_written(
 }
 
 // Texts, and their canonical texts.
-static WRITTEN: [(&[u8], &[u8]); 5] = [
-    (
-        b"input(a)\r\n\toutput ( y ) # \xC3\xA9\r\noutput(y)\r\ny = and( a )",
-        b"INPUT(a)\ny = AND(a)\nOUTPUT(y)\n",
-    ),
-    (
-        b"OUTPUT(y)\ny = NOT(n)\nn = NOT(a)\nINPUT(a)\n",
-        b"y = NOT(n)\nn = NOT(a)\nINPUT(a)\nOUTPUT(y)\n",
-    ),
-    (
-        b"INPUT(INPUT)\nNOT = not(INPUT)",
-        b"INPUT(INPUT)\nNOT = NOT(INPUT)\n",
-    ),
+static WRITTEN: [(&[u8], &[u8]); 2] = [
     (
         b"INPUT(a)\nb=nand(a,a)\nc=or(a)\nd=Nor(c,b,a)\ne=xor(a)\nf=xnor(a)",
         b"INPUT(a)\nb = NAND(a, a)\nc = OR(a)\nd = NOR(c, b, a)\ne = XOR(a)\nf = XNOR(a)\n",

@@ -1,4 +1,4 @@
-//! Delay texts, stimulus texts and settings: what is refused, and with which fault.
+//! Delay texts, stimulus texts and settings: what is refused, and with which fault, beside what `caller_tests` has.
 use crate::texts::longest;
 use bench_text::read;
 use design::{BuildFault, Design};
@@ -6,7 +6,7 @@ use logic3::Value;
 use std::alloc::Global;
 use std::process::Abort;
 use std::test::Fail;
-use timing_text::{DelayFault, Horizon, OptionFault, StimulusFault, Timing, options};
+use timing_text::{DelayFault, OptionFault, StimulusFault, Timing, options};
 
 fn build(
     alloc: Global,
@@ -36,11 +36,7 @@ fn answers(
 const FINE: (u64, u64) = (1, 10);
 
 // Stimulus texts, and what they are refused with.
-static FAULTY_STIMULI: [(&[u8], StimulusFault); 8] = [
-    (b"3 y 1", StimulusFault::NotAnInput { line: 1 }),
-    (b"3 a 1\n3 a 1", StimulusFault::NotRising { line: 2 }),
-    (b"10000001 a 1", StimulusFault::TickTooLarge { line: 1 }),
-    (b"0 a z", StimulusFault::BadValue { line: 1 }),
+static FAULTY_STIMULI: [(&[u8], StimulusFault); 4] = [
     (b"0 zz 1", StimulusFault::UnknownNet { line: 1 }),
     (b"# fine\n0 a", StimulusFault::BadLine { line: 2 }),
     (b"x a 1", StimulusFault::BadLine { line: 1 }),
@@ -72,22 +68,13 @@ fn gate_has_delay(rt: &impl Abort, built: &Design, delay: u64) {
 }
 
 // Delay texts, and what they are refused with.
-static FAULTY_DELAYS: [(&[u8], DelayFault); 9] = [
-    (b"y 0", DelayFault::BadTicks { line: 1 }),
+static FAULTY_DELAYS: [(&[u8], DelayFault); 3] = [
     (b"y 1000001", DelayFault::BadTicks { line: 1 }),
-    (b"y 2\ny 2", DelayFault::Twice { line: 2 }),
-    (b"a 2", DelayFault::IsInput { line: 1 }),
-    (b"zz 2\ny", DelayFault::UnknownNet { line: 1 }),
     (b"y", DelayFault::BadLine { line: 1 }),
     // No header of the second version.
-    (b"timing version 3", DelayFault::BadLine { line: 1 }),
     (
         b"timing version 02\ndelay y 2",
         DelayFault::BadLine { line: 1 },
-    ),
-    (
-        b"y 9999999999999999999999999999999999999999999999999999999999999999999999999999999999999999999999999999",
-        DelayFault::BadTicks { line: 1 },
     ),
 ];
 
@@ -99,7 +86,6 @@ fn faulty_delays(rt: HostRuntime) -> Result<(), Fail> {
     }
     for (text, delay) in [
         (b"y 1000000".as_slice(), 1_000_000),
-        (b"y 0000000000000000000000000000000002".as_slice(), 2),
         (b"# y 3".as_slice(), 1),
     ] {
         delays_gate(&rt, rt.alloc(), text, delay)?;
@@ -355,12 +341,4 @@ fn settings_first(rt: HostRuntime) -> Result<(), Fail> {
     options_are(&rt, 1_000_000, 10_000_000, Ok(()));
     let fault = BuildFault::Timing(DelayFault::BadLine { line: 1 });
     answers(&rt, rt.alloc(), (b"y", b"0 a"), FINE, Some(fault))
-}
-
-#[test]
-fn horizons(rt: HostRuntime) -> Result<(), Fail> {
-    assert!(rt; Horizon::new(0)?.ticks() == 0);
-    assert!(rt; Horizon::new(10_000_000)?.ticks() == 10_000_000);
-    assert!(rt; Horizon::new(10_000_001) == Err(OptionFault::BadHorizon));
-    Ok(())
 }

@@ -1,10 +1,11 @@
 //! A chain of 100,000 nets, each the opposite of the one before it: no call recurses to the depth of the circuit.
-use circuit_texts::cone_text;
-use prepared_runs::{Picks, Show, Source, View};
-use runs::{CheckAnswer, check, simulate};
+use bench_text::{Netlist, read};
+use design::Design;
+use fanin_cone::cone;
+use nullsim::{CheckAnswer, Picks, Show, SimFault, Source, TimeUnit, View, check, simulate};
 use std::alloc::{AllocError, Global};
+use std::process::Abort;
 use std::test::Fail;
-use vcd_dump::TimeUnit;
 
 // An input, and gates that each invert the net before: so many nets.
 fn chain(alloc: Global, nets: u32) -> Result<Vec<u8>, AllocError> {
@@ -42,23 +43,38 @@ fn driven(bench: &[u8]) -> Source<'_> {
 #[test]
 fn checked(rt: HostRuntime) -> Result<(), Fail> {
     let bench = chain(rt.alloc(), most_nets())?;
-    let answer = CheckAnswer {
-        nets: most_nets(),
-        pins: 99_999,
-        same: most_nets(),
-    };
-    assert!(rt; check(rt.alloc(), &driven(&bench), 3) == Ok(answer));
+    let answer: Result<CheckAnswer, SimFault> = check(rt.alloc(), &driven(&bench), 3);
+    let CheckAnswer { nets, pins, same } = answer?;
+    assert!(rt; (nets, pins, same) == (most_nets(), 99_999, most_nets()));
+    Ok(())
+}
+
+fn built(alloc: Global, bench: &[u8]) -> Result<Design, Fail> {
+    let netlist: Netlist = read(alloc, bench)?;
+    let design: Design = Design::build(alloc, netlist, b"", b"", 1, 10)?;
+    Ok(design)
+}
+
+// The cone of a net has this number of nets, each once.
+fn has_cone(
+    rt: &impl Abort,
+    alloc: Global,
+    design: &Design,
+    net: u32,
+    wanted: usize,
+) -> Result<(), Fail> {
+    assert!(rt; net < design.nets());
+    let nets: Vec<u32> = cone(alloc, design, net)?;
+    assert!(rt; nets.len() == wanted);
     Ok(())
 }
 
 // The cone of the last net is all nets.
 #[test]
 fn its_cone(rt: HostRuntime) -> Result<(), Fail> {
-    let mut bench = chain(rt.alloc(), most_nets())?;
-    let text = cone_text(rt.alloc(), &bench, &[b"n99999"])?;
-    bench.extend_from_slice(b"OUTPUT(n99999)\n")?;
-    assert!(rt; text.as_slice() == bench.as_slice());
-    Ok(())
+    let bench: Vec<u8> = chain(rt.alloc(), most_nets())?;
+    let design: Design = built(rt.alloc(), &bench)?;
+    has_cone(&rt, rt.alloc(), &design, 99_999, most_nets() as usize)
 }
 
 // What the dump says of the ticks from 1 on: the fourth net changes at the horizon, and none after it does.
