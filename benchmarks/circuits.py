@@ -223,14 +223,14 @@ def add_options(parser):
     """Adds the options that decide which circuit is made."""
     parser.add_argument("--size", type=Fraction, default=Fraction(1), metavar="N",
                         help="a fraction of the full size, such as 1/20 or 0.05, or above 1 a number of things")
-    parser.add_argument("--seed", type=int, default=1, metavar="N", help="what is drawn follows from it (1)")
+    parser.add_argument("--seed", type=int, default=1, metavar="N", help="the seed of what is drawn (1)")
 
 
 def main():
     parser = argparse.ArgumentParser(description="Writes the texts of a circuit, and the circuit as Verilog.")
     parser.add_argument("circuit", choices=CIRCUITS)
     add_options(parser)
-    parser.add_argument("--into", type=Path, required=True, metavar="FOLDER", help="where the files go")
+    parser.add_argument("--into", type=Path, required=True, metavar="FOLDER", help="the folder for the files")
     words = parser.parse_args()
     words.into.mkdir(parents=True, exist_ok=True)
     circuit = make(words.circuit, words.size, words.seed)

@@ -1,4 +1,4 @@
-"""Measures `nullsim run`, beside `vvp` where that is installed, and compares what they show."""
+"""Measures `nullsim run`, and `vvp` if it is installed, and compares the values that they give."""
 
 import argparse
 import shutil
@@ -123,12 +123,12 @@ def read_words():
     parser = argparse.ArgumentParser(description=__doc__)
     parser.add_argument("circuits", nargs="*", metavar="CIRCUIT", help=f"{', '.join(circuits.CIRCUITS)} (all)")
     circuits.add_options(parser)
-    parser.add_argument("--runs", type=int, default=3, metavar="N", help="how often each is run (3)")
+    parser.add_argument("--runs", type=int, default=3, metavar="N", help="the number of runs of each (3)")
     parser.add_argument("--program", type=Path, default=PROGRAM, metavar="FILE", help="the program (the built one)")
     parser.add_argument("--alone", dest="vvp", action="store_false", help="leave vvp out")
     parser.add_argument("--counts", action="store_true", help="measure `nullsim run --counts` too")
     parser.add_argument("--nets", metavar="NAMES", help="measure `nullsim run --nets NAMES` too")
-    parser.add_argument("--folder", type=Path, metavar="FOLDER", help="where texts and dumps go for a while")
+    parser.add_argument("--folder", type=Path, metavar="FOLDER", help="the folder for temporary texts and dumps")
     words = parser.parse_args()
     unknown = [name for name in words.circuits if name not in circuits.CIRCUITS]
     if unknown:
@@ -140,9 +140,9 @@ def main():
     words = read_words()
     words.program = words.program.resolve()
     if not words.program.exists():
-        sys.exit(f"{words.program} isn't there; ./nullsim --help builds the program")
+        sys.exit(f"{words.program} not found; ./nullsim --help builds it")
     if not shutil.which("time"):
-        sys.exit("GNU time isn't there, which tells how much memory a program takes")
+        sys.exit("GNU time not found; it reports how much memory a program uses")
     words.vvp = words.vvp and bool(shutil.which("iverilog") and shutil.which("vvp"))
     print_table(words)
 

@@ -1,7 +1,7 @@
-"""How many rounds a circuit takes, and how many messages a round, with and without lookahead by controlling values.
+"""Counts the rounds of circuits and the messages in a round, with and without lookahead by controlling values.
 
-A model of the kernel's rounds, of its counts alone: what `nullsim run --counts` counts is what this counts with
-lookahead. Without it, a gate waits until all of its pins are known; no command of nullsim does so.
+This is a model of the kernel's rounds, for their counts only: with lookahead it counts what `nullsim run --counts`
+counts. Without lookahead, a gate waits until all of its pins are known; no command of nullsim does so.
 `--check PROGRAM` compares the counts with those of a built program, circuit by circuit.
 """
 
@@ -211,7 +211,7 @@ def check(program):
         for size in ("30", "200"):
             circuit = shortened(circuits.make(name, circuits.Fraction(size)), TICKS)
             one, other = Run(circuit, True).complete().line(), counted_by(program, circuit)
-            print(name, size, other if one == other else f"{one}, but the program: {other}")
+            print(name, size, other if one == other else f"{one}, but the program reports {other}")
             differ += one != other
     return differ
 

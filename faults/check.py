@@ -1,13 +1,13 @@
 #!/usr/bin/env python3
-"""Faults around the built programs: refused memory, streams and files that fail, and hostile texts.
+"""Tests the built programs: with refused memory, with streams and files that fail, and with hostile texts.
 
-The probes of memory (crates/memory_probes) and each command of nullsim are run once for each request for
-memory that they make, without it; then nullsim is run over faulty streams and files, over texts that are
-cut off or changed at random, and over texts and circuits as large as they may be. Last come the answers in
-`cases/`, the examples of `explain`, products of a multiplier, the commands, pictures and prose of the pages, and the script
-that builds and starts the program. The last line is 'N passed, M failed', over all of these.
+The memory probes (crates/memory_probes) and each command of nullsim are run once for each of their requests for memory,
+which is then refused. After that nullsim is run over faulty streams and files, over texts that are cut off or changed at
+random, and over texts and circuits of the greatest size. Then come the answers in `cases/`, the examples of `explain`,
+products of a multiplier, the commands, pictures and prose of the pages, and the script that builds and starts the program.
+The last line is 'N passed, M failed', over all of these.
 
-    check.py [--random COUNT] [--seed FIRST]    how many circuits and decks are changed at random, and by which seeds
+    check.py [--random COUNT] [--seed FIRST]    the number of circuits and decks changed at random, and the first seed
 """
 import argparse
 import subprocess
@@ -74,11 +74,11 @@ def fault_of(check: Callable[[], str | None]) -> str | None:
     try:
         return check()
     except subprocess.TimeoutExpired as still:
-        return f"it hadn't ended after {SECONDS} seconds: {still.cmd}"
+        return f"still running after {SECONDS} seconds: {still.cmd}"
 
 
 def main() -> int:
-    words = argparse.ArgumentParser(description="Faults around the built programs.")
+    words = argparse.ArgumentParser(description="Tests the built programs under faults.")
     words.add_argument("--random", type=int, default=3000, metavar="COUNT")
     words.add_argument("--seed", type=int, default=0, metavar="FIRST")
     asked = words.parse_args()
@@ -89,9 +89,9 @@ def main() -> int:
         for name, check in checks(refuser, folder, range(asked.seed, asked.seed + asked.random)):
             fault = fault_of(check)
             passed, failed = passed + (fault is None), failed + (fault is not None)
-            print(f"faults: {name}: {fault or 'fine'}", flush=True)
+            print(f"faults: {name}: {fault or 'ok'}", flush=True)
     seconds = time.monotonic() - begun
-    print(f"faults: {refuser.refused} requests for memory were refused in turn, in {seconds:.0f} seconds")
+    print(f"faults: {refuser.refused} requests for memory were refused one by one, in {seconds:.0f} seconds")
     print(f"{passed} passed, {failed} failed")
     return 1 if failed else 0
 

@@ -1,5 +1,5 @@
-"""Each example that `explain` prints is refused by the program, with the name and the line that it says, and runs where
-it is mended."""
+"""Checks the examples that `explain` prints: the program refuses each faulty text with the name and the line that the
+explanation gives, and accepts the corrected one."""
 import re
 from collections.abc import Callable, Iterator
 from pathlib import Path
@@ -10,12 +10,12 @@ from programs import Ended, run
 # What an example is of, by the subject, and the file that it is then; the circuit of the others is in `cases/files/`.
 OVER_CIRCUIT = "run --bench circuit.bench --horizon 20"
 CALLS = {
-    "a .bench text": ("my.bench", "info --bench my.bench"),
-    "a delay text": ("my.delays", f"{OVER_CIRCUIT} --delays my.delays"),
-    "a stimulus text": ("my.stimuli", f"{OVER_CIRCUIT} --stimuli my.stimuli"),
-    "a schedule text": ("my.schedule", f"{OVER_CIRCUIT} --schedule my.schedule"),
+    ".bench text": ("my.bench", "info --bench my.bench"),
+    "delay text": ("my.delays", f"{OVER_CIRCUIT} --delays my.delays"),
+    "stimulus text": ("my.stimuli", f"{OVER_CIRCUIT} --stimuli my.stimuli"),
+    "schedule text": ("my.schedule", f"{OVER_CIRCUIT} --schedule my.schedule"),
 }
-EXAMPLE = re.compile(r"^for example.*, refused at line (\d+):\n(.*?)^mended:\n(.*)", re.MULTILINE | re.DOTALL)
+EXAMPLE = re.compile(r"^example.*, refused at line (\d+):\n(.*?)^corrected:\n(.*)", re.MULTILINE | re.DOTALL)
 
 
 class Example(NamedTuple):
@@ -25,7 +25,7 @@ class Example(NamedTuple):
     name: str
     line: int
     faulty: str
-    mended: str
+    corrected: str
 
 
 def examples(program: Path) -> Iterator[Example]:
@@ -33,7 +33,7 @@ def examples(program: Path) -> Iterator[Example]:
     subjects = {subject: names.split() for subject, _, names in (line.partition(": ") for line in listed)}
     for name in dict.fromkeys(name for names in subjects.values() for name in names):
         told = run([program, "explain", name]).out.decode()
-        begins = re.compile(rf"^{name} of ({'|'.join(map(re.escape, subjects))}): ", re.MULTILINE)
+        begins = re.compile(rf"^{name} \(({'|'.join(map(re.escape, subjects))})\): ", re.MULTILINE)
         starts = [*begins.finditer(told)]
         for start, end in zip(starts, [*(it.start() for it in starts[1:]), len(told)]):
             if example := EXAMPLE.search(told[start.start():end]):
@@ -42,7 +42,7 @@ def examples(program: Path) -> Iterator[Example]:
 
 def answer(program: Path, folder: Path, subject: str, given: str) -> Ended:
     """Returns the answer to an example of a subject."""
-    if subject == "a deck":
+    if subject == "deck":
         return run([program], input=given.encode(), cwd=folder)
     if subject not in CALLS:
         return run([program, *given.removeprefix("nullsim ").split()], cwd=folder)
@@ -55,9 +55,9 @@ def example_fault(program: Path, folder: Path, example: Example) -> str | None:
     refused = answer(program, folder, example.subject, example.faulty)
     told = f":{example.line}: {example.name}\n".encode()
     if refused.status != (3 if example.name == "Read" else 1) or refused.out or not refused.err.endswith(told):
-        return f"it is refused so: {refused}"
-    mended = answer(program, folder, example.subject, example.mended)
-    return None if mended.status == 0 and not mended.err else f"it is mended so: {mended}"
+        return f"the faulty text is answered by {refused}"
+    corrected = answer(program, folder, example.subject, example.corrected)
+    return None if corrected.status == 0 and not corrected.err else f"the corrected text is answered by {corrected}"
 
 
 def cases(program: Path, folder: str) -> list[tuple[str, Callable[[], str | None]]]:

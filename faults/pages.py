@@ -29,7 +29,7 @@ def stored_fault(program: Path, stored: Path, words: str) -> str | None:
     """What is wrong with a stored answer: it is just what goes out now, and a picture is an SVG text."""
     answer = run([program, *words.split()])
     if answer.status != 0 or answer.err:
-        return f"it ended with {answer.status} and {answer.err!r}"
+        return f"the command exits with status {answer.status} and {answer.err!r}"
     if stored.suffix == ".svg" and ElementTree.fromstring(answer.out).tag != "{http://www.w3.org/2000/svg}svg":
         return "what is drawn is no SVG"
     return None if stored.read_bytes() == answer.out else f"`nullsim {words}` answers another"
@@ -51,10 +51,10 @@ def example_fault(program: Path, commands: str, shown: str | None, folder: str) 
         return None if ended.returncode == 0 else f"it ended with {ended.returncode} and {ended.stdout!r}"
     printed, lines = ended.stdout.splitlines(), shown.splitlines()
     if len(printed) != len(lines):
-        return f"{len(lines)} lines are after it, and it prints {len(printed)}"
+        return f"the page shows {len(lines)} lines, and the command prints {len(printed)}"
     for one, line in zip(printed, lines):
         if line != one and not line.startswith(f"{one}  "):
-            return f"{line!r} is there, and it prints {one!r}"
+            return f"the page shows {line!r}, and the command prints {one!r}"
     return None
 
 
@@ -64,7 +64,7 @@ def source_fault(source: Path, shown: str) -> str | None:
     for part in LEFT_OUT.split(shown):
         begins = text.find("\n" + part, place)
         if begins < 0:
-            return f"{part.splitlines()[0]!r} and the lines after it aren't there in this way"
+            return f"{part.splitlines()[0]!r} and the lines after it aren't in the file in this order"
         place = begins + len(part)
     return None
 
@@ -73,12 +73,12 @@ def source_fault(source: Path, shown: str) -> str | None:
 FAULT_PAGES = ("docs/FORMATS.md", "docs/COMMANDS.md")
 # What these tables are of, by the headings above them, as `explain` calls it.
 SUBJECTS = {
-    "Faults": "a .bench text", "The delay text": "a delay text", "The stimulus text": "a stimulus text",
-    "The schedule text": "a schedule text", "The deck": "a deck", "Settings": "the settings",
-    "`draw`": "the columns of draw", "`stimuli`": "the drives of stimuli", "`diff`": "the ticks of diff",
+    "Faults": ".bench text", "The delay text": "delay text", "The stimulus text": "stimulus text",
+    "The schedule text": "schedule text", "The deck": "deck", "Settings": "settings",
+    "`draw`": "columns of draw", "`stimuli`": "drives of stimuli", "`diff`": "ticks of diff",
 }
 # Faults that the pages name outside their tables.
-UNTABLED = {"nets asked for by name": {"UnknownNet"}, "reading and writing": {"Read", "Write", "WroteNothing"}}
+UNTABLED = {"net names in arguments": {"UnknownNet"}, "reading and writing": {"Read", "Write", "WroteNothing"}}
 # `Memory` is in the tables of several texts, and is explained once, since its line names no text.
 MEMORY = "reading and writing"
 

@@ -67,7 +67,7 @@ def products(program: Path, folder: str, seed: int) -> str | None:
     stimuli.write_bytes(drawn.out)
     dump = run([program, "run", "--bench", bench, "--stimuli", stimuli, "--horizon", str(HORIZON)])
     if drawn.status or dump.status:
-        return f"it ended with {drawn.err!r} and {dump.err!r}"
+        return f"the commands print {drawn.err!r} and {dump.err!r}"
     vectors = set()
     for shown in shown_at_ends(dump.out.decode("ascii")):
         first, second, product = number(shown, "a", BITS), number(shown, "b", BITS), number(shown, "p", 2 * BITS)

@@ -141,7 +141,7 @@ def link_fault(page: Path) -> str | None:
     text = FENCED.sub("", text_of(page))
     dead = [target for _, target in LINK.findall(CODE.sub("code", text)) if is_dead(page, target)]
     missing = [cited for cited in CITED.findall(text) if is_missing(cited)]
-    return f"leads nowhere: {', '.join(dead + missing)}" if dead or missing else None
+    return f"dead links: {', '.join(dead + missing)}" if dead or missing else None
 
 
 def cases() -> list[tuple[str, Callable[[], str | None]]]:

@@ -84,7 +84,7 @@ class Refuser:
                     return f"without {count} from request {first} on: {told or tried.ended}"
                 if tried.requests < first + count - 1:
                     return None
-            return f"{MOST} refusals from request {first} on are not told"
+            return f"{MOST} refusals from request {first} on aren't reported"
 
         self.refused += whole.requests
         with ThreadPoolExecutor(os.cpu_count()) as pool:
@@ -108,7 +108,7 @@ def probes(refuser: Refuser, program: Path, wanted: bytes) -> str | None:
     """What is wrong with the probes."""
     whole = refuser.run([program], b"")
     if whole.ended != Ended(0, wanted, b"") or not whole.requests:
-        return f"wrong where no request is refused: {whole}"
+        return f"wrong although no request is refused: {whole}"
     return refuser.first_fault([program], b"", whole, is_told_by_probes)
 
 
@@ -117,7 +117,7 @@ def command(refuser: Refuser, words: list, given: bytes, status: int) -> str | N
     that is told, and a first part of its text is out."""
     whole = refuser.run(words, given)
     if whole.ended.status != status or not whole.requests:
-        return f"wrong where no request is refused: {whole}"
+        return f"wrong although no request is refused: {whole}"
 
     def is_told(ended: Ended) -> bool | str:
         if (ended.status, ended.err) != (4, b"memory:0: Memory\n"):

@@ -125,7 +125,7 @@ def build_fault(copy: Copy) -> str | None:
         if sorted(calls) != sorted(built) or bool(built) != bool(ended.err):
             return place
         if any(name in calls[:at] for at, name in enumerate(calls) for name in [it for it in calls if name in copy.used[it]]):
-            return f"a crate before those below it: {place}"
+            return f"a crate was built before one that it uses: {place}"
         if broken and not ended.err.endswith(b"a goal is open\n\n"):
             return place
     return None
@@ -141,11 +141,11 @@ def stop_fault(copy: Copy) -> str | None:
         os.killpg(run.pid, number)
         out, err = run.communicate(b"", SECONDS)
         if number == signal.SIGINT and run.returncode not in (status, -number) or out:
-            return f"it was stopped so: {run.returncode}, {out!r}, {err!r}"
+            return f"the stopped build ended with {run.returncode}, {out!r}, {err!r}"
     before = {"logic3", "netlist", "timing_text"}
     ended, calls = copy.ended(), copy.calls()
     if ended.out != b"two words\na deck" or before & set(calls) or "design" not in calls:
-        return f"after a stop: {ended}, {calls}"
+        return f"the build after the stop: {ended}, {calls}"
     return None
 
 
@@ -184,7 +184,7 @@ def unproved_fault(copy: Copy) -> str | None:
          f"--data a.bench={one} --data file1/a.bench={other} -- diff --first=a.bench --second file1/a.bench"),
     ):
         ended, calls = copy.ended("--unproved", *words.split()), copy.calls()
-        if ended.status != 0 or ended.out != b"a deck" or b"nothing of this run is proved" not in ended.err:
+        if ended.status != 0 or ended.out != b"a deck" or b"this run is unproved" not in ended.err:
             return f"{ended}"
         if calls != [f"rt try {wanted}"]:
             return f"{calls}"

@@ -67,7 +67,7 @@ FILES = [
     too_long("a device without end as stimuli",
              "check --bench s27.bench --stimuli /dev/zero --horizon 5".split(), "/dev/zero"),
     Case("a word that is no UTF-8", ["plain", b"--bench", b"\xff.bench"],
-         b"error: a word of the command line is no UTF-8 text\n", 2),
+         b"error: an argument isn't UTF-8 text\n", 2),
 ]
 
 
@@ -143,9 +143,9 @@ def with_full_error(program: Path, words: list, status: int) -> str | None:
 
 
 def told_why(program: Path, words: list, fault: bytes, said: bytes, **how) -> str | None:
-    """With --verbose the second line on standard error is what the system says."""
+    """With --verbose the second line on standard error is the system's message."""
     ended = run([program, "-v", *words], **how)
-    wanted = fault + b"the system says: " + said + b"\n"
+    wanted = fault + b"system error: " + said + b"\n"
     holds = ended.status == 3 and not ended.out and ended.err.startswith(wanted)
     return None if holds else f"{ended}"
 

@@ -113,13 +113,13 @@ def build(name: str) -> None:
     program, begun = out / name, out / "begun"
     if crates.is_current(program, name):
         return
-    tell("proving each library, then building the program: from nothing this takes some twenty minutes on four processors")
+    tell("proving each library, then building the program; from nothing this takes about 20 minutes on four processors")
     out.mkdir(exist_ok=True)
     begun.touch()
     program.unlink(missing_ok=True)
     prove([*crates.below(name), name])
     os.utime(program, (begun.stat().st_atime, begun.stat().st_mtime))
-    tell(f"built: {program}, one file, which can be copied to where it is wanted")
+    tell(f"built {program}, a single file that can be copied anywhere")
 
 
 def stop(number: int, _) -> None:
@@ -140,7 +140,7 @@ def alone() -> Iterator[None]:
 
 def main() -> int:
     if shutil.which("rt") is None:
-        tell("the program isn't built, and to build it the command rt of the Rattle toolchain has to be on the path")
+        tell("command rt not found: to build the program, the Rattle toolchain must be on the PATH")
         return 2
     try:
         with alone():
@@ -149,7 +149,7 @@ def main() -> int:
         tell(str(failed))
         return 2
     except KeyboardInterrupt:
-        tell("stopped; the next call goes on from here")
+        tell("stopped; the next call continues from here")
         return 130
     return 0
 

@@ -40,7 +40,7 @@ class Progress:
     def show(self) -> None:
         if self.rewrites:
             now = time.monotonic()
-            times = f"{minutes(now - self.begun)} gone, about {minutes(self.end - now)} left"
+            times = f"{minutes(now - self.begun)} elapsed, about {minutes(self.end - now)} left"
             line = f"nullsim: {self.done} crates proved, {self.count - self.done} left; {times}"
             print(f"\r\033[K{line}", end="", file=sys.stderr, flush=True)
 

@@ -57,7 +57,7 @@ class Provers:
         """Runs a command in a crate's folder to its end."""
         with self.lock:
             if self.has_ended:
-                raise Failed(f"{crate} was not begun")
+                raise Failed(f"{crate} wasn't started")
             ran = subprocess.Popen(words, cwd=crates.CRATES / crate, stdin=subprocess.DEVNULL, stdout=subprocess.PIPE,
                                    stderr=subprocess.STDOUT, start_new_session=True, text=True, errors="replace")
             self.running.add(ran)
@@ -65,4 +65,4 @@ class Provers:
         with self.lock:
             self.running.discard(ran)
         if ran.returncode:
-            raise Failed(f"{crate} is not proved and built (status {ran.returncode}):\n{said}")
+            raise Failed(f"{crate} can't be proved and built (status {ran.returncode}):\n{said}")

@@ -37,14 +37,14 @@ class Arguments:
 
 
 def main() -> int:
-    tell("nothing of this run is proved, and all sources are compiled first, which takes about a minute")
+    tell("this run is unproved; compiling all sources first takes about a minute")
     arguments = Arguments(sys.argv[1:])
     files = [word for name, file in arguments.files.items() for word in ("--data", f"{name}={file}")]
     os.chdir(crates.CRATES / PROGRAM)
     try:
         os.execvp("rt", ["rt", "try", *files, "--", *arguments.words])
     except FileNotFoundError:
-        tell("the command rt of the Rattle toolchain has to be on the path")
+        tell("command rt not found: the Rattle toolchain must be on the PATH")
         return 2
 
 

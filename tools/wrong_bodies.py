@@ -1,13 +1,13 @@
 #!/usr/bin/env python3
-"""Wrong bodies that the contracts have to rule out: each is a file wrong_bodies/NAME/BUG.edit, or
-crates/NAME/must-fail/BUG.edit where `rt ci` tries it too, by itself.
+"""Checks that the contracts rule out wrong bodies. Each wrong body is a file wrong_bodies/NAME/BUG.edit, or
+crates/NAME/must-fail/BUG.edit, which `rt ci` tries too, by itself.
 
-Those of a crate that are in different functions are planted in one copy of it, which is then checked once: each function
-is proved by itself, over the contracts of those that it calls, so each of them has to be refused, and for the goal that
-its file names. A check takes some twenty seconds before it looks at a function, so this is quicker than a check for each,
-and it says more than that something was refused. The last line is 'N passed, M failed'.
+Wrong bodies in different functions of a crate are planted in one copy of the crate, which is then checked once. Each
+function is proved by itself, over the contracts of the functions that it calls, so each wrong body must be refused, for the
+goal that its file names. A check takes about twenty seconds before it reaches a function, so one check is quicker than many,
+and it reports which goals stay open. The last line is 'N passed, M failed'.
 
-    wrong_bodies.py NAME[/BUG]..   all wrong bodies of these crates, or these alone
+    wrong_bodies.py NAME[/BUG]..   tries all wrong bodies of these crates, or only these
 """
 import os
 import sys
@@ -30,10 +30,10 @@ Answer = tuple[str, str | None]
 def fault_of(body: WrongBody, goals: dict[str, set[str]]) -> str | None:
     """What is wrong with how a wrong body was refused."""
     if not body.refused:
-        return f"its file names no goal; refused are {goals}"
+        return f"the file names no goal; the prover leaves open {goals}"
     for function, goal in body.refused:
         if goal not in goals.get(function, set()):
-            return f"the goal {goal} of {function} doesn't stay open, but {goals.get(function) or 'none'}"
+            return f"the goal {goal} of {function} isn't left open; open are {goals.get(function) or 'none'}"
     return None
 
 

@@ -24,7 +24,7 @@ const LATE: Message = Message::Change(Change {
 
 const NONE_BELOW: Message = Message::Null(6);
 
-// There are these messages, and no others.
+// There are exactly these messages.
 fn bound(message: Message) -> u64 {
     match message {
         Message::Change(change) => change.tick.saturating_add(1),
@@ -39,7 +39,7 @@ fn bounds_of_messages(rt: HostRuntime) {
     }
 }
 
-// A net sends a message; a pin takes this one, or none; this number waits at a pin.
+// A net sends a message; a pin receives this one, or none; this number waits at a pin.
 #[derive(Clone, Copy)]
 enum Step {
     Sends(u32, Message),

@@ -1,4 +1,4 @@
-//! The program with arguments, over texts of a caller's own, and writers that know nothing of faults.
+//! The program with arguments, over a caller's own texts and writers, which define nothing but their calls.
 use nullsim::{ReadFault, Texts, command};
 use std::alloc::{AllocError, Global};
 use std::process::Abort;
@@ -26,7 +26,7 @@ static FILES: [Named; 8] = [
     ("s27.stim", S27_STIMULI),
 ];
 
-/// Texts by name, with nothing else to say of them.
+/// Texts by name, without anything else about them.
 #[derive(Drop)]
 struct Map {
     alloc: Global,
@@ -50,7 +50,7 @@ fn words_of(alloc: Global, line: &str) -> Result<Vec<String>, AllocError> {
     Ok(words)
 }
 
-// A command line, its status, what goes to standard output, and what to standard error.
+// The arguments, the status, standard output and standard error.
 type Row = (&'static str, u8, &'static [u8], &'static [u8]);
 
 static ROWS: [Row; 15] = [
@@ -164,7 +164,7 @@ fn answers(rt: HostRuntime) -> Result<(), Fail> {
     Ok(())
 }
 
-// Wrong arguments: nothing is read, and nothing goes to standard output.
+// Wrong arguments: nothing is read, and nothing is written to standard output.
 #[test]
 fn usage(rt: HostRuntime) -> Result<(), Fail> {
     for line in [

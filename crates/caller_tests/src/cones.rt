@@ -121,7 +121,7 @@ fn extracts_of_cones(rt: HostRuntime) -> Result<(), Fail> {
     Ok(())
 }
 
-// There are these faults, and no others.
+// There are exactly these faults.
 fn place(fault: ConeFault) -> Option<u64> {
     match fault {
         ConeFault::UnknownNet { at } => Some(at),

@@ -23,7 +23,7 @@ fn a_run(rt: HostRuntime) -> Result<(), Fail> {
     Ok(())
 }
 
-// There are these faults of a deck, and no others.
+// There are exactly these faults of a deck.
 fn line(fault: DeckFault) -> u64 {
     match fault {
         DeckFault::BadDeck { line } => line,
@@ -31,7 +31,7 @@ fn line(fault: DeckFault) -> u64 {
     }
 }
 
-// There are these faults of a reader, and no others.
+// There are exactly these faults of a reader.
 fn is_of_memory(fault: ReadFault) -> bool {
     match fault {
         ReadFault::Read => false,

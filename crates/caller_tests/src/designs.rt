@@ -1,4 +1,4 @@
-//! Designs: what they are built of, and what the plain engine gives for them.
+//! Designs: the texts that they are built from, and what the plain engine gives for them.
 use crate::circuits::{
     CLOCKED, CONTROLLED_AND, CROSSING, Circuit, EARLY_AND, GATED_OSCILLATOR, INVERTER, LATE_PIN,
     PRESET_RING, RING_COUNTER, S27, SAMPLER, SELF_INVERTER, SLOW_INVERTER, WIRED_FLOP,
@@ -102,7 +102,7 @@ fn clocks(rt: HostRuntime) -> Result<(), Fail> {
     Ok(())
 }
 
-// A delay text and a stimulus text of the inverter, and how they are refused.
+// A delay text and a stimulus text of the inverter, and their fault.
 type Refused = (&'static [u8], &'static [u8], Option<BuildFault>);
 
 static BUILT: [Refused; 9] = [

@@ -1,4 +1,4 @@
-//! Dumps of waveforms at hand.
+//! Dumps of given waveforms.
 use crate::circuits::INVERTER;
 use design::{Design, Horizon};
 use logic3::Waveform;
@@ -10,7 +10,7 @@ use vcd_dump::{DumpFault, TimeUnit, dump};
 use worked_examples::Narrow;
 use worked_examples::dumps::INVERTER_DUMP;
 
-// There are these units, and no others.
+// There are exactly these units.
 fn spelled(unit: TimeUnit) -> &'static str {
     match unit {
         TimeUnit::S => "s",
@@ -22,7 +22,7 @@ fn spelled(unit: TimeUnit) -> &'static str {
     }
 }
 
-// There are these faults, and no others.
+// There are exactly these faults.
 fn number(fault: DumpFault) -> u8 {
     match fault {
         DumpFault::Write => 1,
@@ -32,7 +32,7 @@ fn number(fault: DumpFault) -> u8 {
     }
 }
 
-// What is answered to the dump of the first net, which is unknown throughout.
+// The result of the dump of the first net, which is unknown throughout.
 fn of_one_net<W: Write>(
     rt: &impl Abort,
     alloc: Global,

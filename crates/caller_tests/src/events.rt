@@ -1,4 +1,4 @@
-//! Events, one by one and in lists: which are useful, which are refused, and what stands after them.
+//! Events, one by one and in lists: which are useful, which are refused, and the state after them.
 ghost use Rattle.std.specs.Prelude.{◌≡◌, OnOk};
 
 use crate::circuits::{INVERTER, LATE_PIN, SELF_INVERTER};
@@ -11,7 +11,7 @@ use std::alloc::Global;
 use std::process::Abort;
 use std::test::Fail;
 
-// There are these events, and no others.
+// There are exactly these events.
 fn number(event: Event) -> u32 {
     match event {
         Event::Deliver(pin) => pin,
@@ -19,7 +19,7 @@ fn number(event: Event) -> u32 {
     }
 }
 
-// There are these faults, and no others: where in a list the event is that is refused.
+// There are exactly these faults: the place in a list of the event that is refused.
 fn place(fault: KernelFault) -> Option<u64> {
     match fault {
         KernelFault::NoSuchPin { at } | KernelFault::NoSuchNet { at } => Some(at),
@@ -75,7 +75,7 @@ fn refuses_one<F: Fabric>(
     assert!(rt; fault == wanted);
 }
 
-// What the events of a fresh kernel of the inverter are answered with.
+// The results of events for a new kernel of the inverter.
 fn first_events<F: Fabric>(rt: &impl Abort, alloc: Global, design: &Design) -> Result<(), Fail> {
     let mut kernel: Kernel<F> = Kernel::new(alloc, design, Horizon::new(5)?)?;
     applies(rt, &mut kernel, Deliver(0), false)?;
@@ -105,7 +105,7 @@ fn fresh_kernel(rt: HostRuntime) -> Result<(), Fail> {
     first_events::<Logs>(&rt, rt.alloc(), &design)
 }
 
-// Applies the event that the kernel names; where it names none, nothing is left to do.
+// Applies the event that the kernel names; if it names none, nothing is left to do.
 fn drive<F: Fabric>(rt: &impl Abort, alloc: Global, design: &Design) -> Result<(), Fail> {
     let mut kernel: Kernel<F> = Kernel::new(alloc, design, Horizon::new(3)?)?;
     for _event in 0..7 {
@@ -153,7 +153,7 @@ fn wait_and_receive<F: Fabric>(
     pins_have(rt, design, &kernel, &[(2, 1), (3, 0), (1, 0)]);
     counts_are(rt, &kernel, [3, 3, 1, 0]);
     round(&mut kernel)?;
-    // `b` goes on by a change and a null message.
+    // `b` advances by a change and a null message.
     pins_have(rt, design, &kernel, &[(0, 9), (0, 9), (2, 2)]);
     Ok(())
 }

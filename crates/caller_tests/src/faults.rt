@@ -8,7 +8,7 @@ use vcd_dump::DumpFault;
 use worked_examples::Narrow;
 use worked_examples::dumps::INVERTER_DUMP;
 
-// There are these faults of a run, and no others; they are looked for in this order.
+// There are exactly these faults of a run; they are looked for in this order.
 fn number(fault: SimFault) -> u8 {
     match fault {
         SimFault::Setting(_) => 1,
@@ -22,7 +22,7 @@ fn number(fault: SimFault) -> u8 {
     }
 }
 
-// There are these faults of options, and no others.
+// There are exactly these faults of options.
 fn of_options(fault: OptionFault) -> u8 {
     match fault {
         OptionFault::BadDelay => 1,
@@ -31,7 +31,7 @@ fn of_options(fault: OptionFault) -> u8 {
     }
 }
 
-// There are these faults of a .bench text, and no others: the line of each, 0 where it has none.
+// There are exactly these faults of a .bench text, with their lines, or 0 for one without a line.
 fn line_in_bench(fault: BenchFault) -> u64 {
     match fault {
         BenchFault::TooLong | BenchFault::NoNets | BenchFault::TooMany | BenchFault::Memory => 0,
@@ -45,7 +45,7 @@ fn line_in_bench(fault: BenchFault) -> u64 {
     }
 }
 
-// There are these faults of a delay text, and no others.
+// There are exactly these faults of a delay text.
 fn line_in_delays(fault: DelayFault) -> u64 {
     match fault {
         DelayFault::TooLong | DelayFault::Memory => 0,
@@ -62,7 +62,7 @@ fn line_in_delays(fault: DelayFault) -> u64 {
     }
 }
 
-// There are these faults of a stimulus text, and no others.
+// There are exactly these faults of a stimulus text.
 fn line_in_stimuli(fault: StimulusFault) -> u64 {
     match fault {
         StimulusFault::TooLong | StimulusFault::Memory => 0,
@@ -75,7 +75,7 @@ fn line_in_stimuli(fault: StimulusFault) -> u64 {
     }
 }
 
-// The line of a fault, or the number of one that has none.
+// The line of a fault, or the number of one without a line.
 fn place(fault: SimFault) -> u64 {
     match fault {
         SimFault::Setting(fault) => u64::from(of_options(fault)),
@@ -92,7 +92,7 @@ const FIVE: View = View {
     unit: TimeUnit::Ns,
 };
 
-// Everything is wrong with the first; each further one has a fault less, but for the last, which has another one.
+// The first has all faults; each further one has a fault less, but for the last, which has another one.
 static REFUSED: [(Source<'static>, SimFault, u8, u64); 6] = [
     (
         Source {

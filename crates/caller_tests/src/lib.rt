@@ -1,6 +1,5 @@
-//! Each public item by the path that callers name it by, and each call in the form that they write, with all types
-//! written out, over worked examples. What compiles here compiles for a caller, and what is answered is what the
-//! examples say.
+//! Each public item by its public path, and each call as callers write it, with all types written out, over
+//! worked examples. What compiles here compiles for a caller, and the results are those of the examples.
 #![tactic(auto)]
 
 #[cfg(test)]

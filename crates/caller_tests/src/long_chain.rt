@@ -7,7 +7,7 @@ use std::alloc::{AllocError, Global};
 use std::process::Abort;
 use std::test::Fail;
 
-// An input, and gates that each invert the net before: so many nets.
+// This number of nets: an input, and gates that each invert the net before.
 fn chain(alloc: Global, nets: u32) -> Result<Vec<u8>, AllocError> {
     let mut text = Vec::from_slice(alloc, b"INPUT(n0)\n")?;
     for before in 0..nets.saturating_sub(1) {
@@ -77,7 +77,7 @@ fn its_cone(rt: HostRuntime) -> Result<(), Fail> {
     has_cone(&rt, rt.alloc(), &design, 99_999, most_nets() as usize)
 }
 
-// What the dump says of the ticks from 1 on: the fourth net changes at the horizon, and none after it does.
+// The dump from tick 1 on: the fourth net changes at the horizon, and no net after it changes.
 const CHANGES: &[u8] = b"$end\n#1\n0\"\n#2\n1#\n#3\n0$\n";
 
 #[test]

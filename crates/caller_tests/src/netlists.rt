@@ -6,7 +6,7 @@ use std::alloc::Global;
 use std::process::Abort;
 use std::test::Fail;
 
-// There are these parts, and no others.
+// There are exactly these parts.
 fn kind_of(part: Part) -> Option<GateKind> {
     match part {
         Part::Input | Part::Flop => None,

@@ -1,4 +1,4 @@
-//! Processes, told step by step: that of an AND, and that of a flip-flop.
+//! Processes step by step: that of an AND, and that of a flip-flop.
 use crate::circuits::{CROSSING, SAMPLER};
 use Message::Null;
 use Step::{Drains, Keeps, Knows, PinKnows, Receives, Tells};
@@ -11,9 +11,9 @@ use std::alloc::{AllocError, Global};
 use std::process::Abort;
 use std::test::Fail;
 
-// A pin receives messages; an advance answers these; the ticks that all pins know, and those that the
-// net knows; what a pin knows, and its last value; the changes before a tick are taken out; the value
-// before the changes that are kept, and these.
+// A pin receives messages; an advance returns these; the ticks known of all pins, and those known of the net;
+// what a pin knows, and its last value; the changes before a tick are taken out; the value before the changes
+// that are kept, and those changes.
 #[derive(Clone, Copy)]
 enum Step {
     Receives(u32, &'static [Message]),

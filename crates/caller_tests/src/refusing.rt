@@ -1,4 +1,4 @@
-//! A fabric of a caller's own, which refuses memory: the kernel goes over it, and has failed from then on.
+//! A caller's own fabric, which refuses memory: the kernel runs over it, and has failed from then on.
 use crate::circuits::INVERTER;
 use Event::Advance;
 use cmb_channels::{Fabric, Message, Queues};
@@ -40,7 +40,7 @@ impl Fabric for Refusing {
     }
 }
 
-// The kernel answers to every call that it has failed.
+// The kernel returns to every call that it has failed.
 fn has_failed(rt: &impl Abort, kernel: &mut Kernel<Refusing>) {
     let is_failed: bool = kernel.is_failed();
     assert!(rt; is_failed);

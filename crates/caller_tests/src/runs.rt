@@ -77,7 +77,7 @@ const DELIVERIES: Picks<'static> = Picks::Text(b"deliver b 0\ndeliver y 0\ndeliv
 
 const AHEAD: Picks<'static> = Picks::Text(b"advance a\ndeliver b 0\nadvance b\n");
 
-// A source and a view of it; what is counted after its schedule and in all; its dump.
+// A source and a view of it; the counts after its schedule and in total; the dump.
 type Run = (Source<'static>, View, [u64; 4], [u64; 4], &'static [u8]);
 
 static RUNS: [Run; 10] = [

@@ -1,4 +1,4 @@
-//! Schedules, from a text and from a seed, and what they are refused with.
+//! Schedules from a text and from a seed, and their faults.
 use crate::circuits::{Circuit, INVERTER, LATE_PIN};
 use Event::{Advance, Deliver};
 use cmb_kernel::{Event, Schedule, ScheduleFault};
@@ -7,7 +7,7 @@ use std::alloc::Global;
 use std::process::Abort;
 use std::test::Fail;
 
-// There are these faults, and no others: the line of each.
+// There are exactly these faults, with their lines.
 fn line(fault: ScheduleFault) -> u64 {
     match fault {
         ScheduleFault::TooLong | ScheduleFault::TooManyEvents | ScheduleFault::Memory => 0,
@@ -17,7 +17,7 @@ fn line(fault: ScheduleFault) -> u64 {
     }
 }
 
-// What is answered to a text for a circuit: the line and the fault of a refusal.
+// The result of a text for a circuit: the line and the fault of a refusal.
 fn refusal(alloc: Global, circuit: Circuit, text: &[u8]) -> Result<Option<ScheduleFault>, Fail> {
     let design: Design = circuit.build(alloc)?;
     let answer: Result<Schedule, ScheduleFault> = Schedule::read(alloc, text, &design);
@@ -59,7 +59,7 @@ fn of_a_text(rt: HostRuntime) -> Result<(), Fail> {
     Ok(())
 }
 
-// The picks were computed apart, after the published algorithm of PCG-XSH-RR 64/32.
+// The picks were computed independently, by the published algorithm of PCG-XSH-RR 64/32.
 #[test]
 fn of_a_seed(rt: HostRuntime) -> Result<(), Fail> {
     let design: Design = INVERTER.build(rt.alloc())?;

@@ -1,4 +1,5 @@
-//! The inverter's dump as a stream of spans: the bytes written after each, and what is left of a stream after a fault.
+//! The inverter's dump as a stream of spans: the bytes written after each span, and the state of a stream after
+//! a fault.
 ghost use Rattle.std.specs.Prelude.{◌≡◌, false, IfOk};
 ghost use Rattle.vcd_dump.specs.Spans.{IsPart};
 
@@ -65,7 +66,7 @@ impl Pair {
         Ok(Pair { stream: begun? })
     }
 
-    // What a span up to a tick is answered with.
+    // The result of a span up to a tick.
     fn span<W: Write>(
         &mut self,
         rt: &impl Abort,

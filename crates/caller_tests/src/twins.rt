@@ -71,7 +71,7 @@ fn twins(rt: HostRuntime) -> Result<(), Fail> {
     Ok(())
 }
 
-// There are these sides, and no others.
+// There are exactly these sides.
 fn is_first(side: Side) -> bool {
     match side {
         Side::First => true,

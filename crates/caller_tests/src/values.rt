@@ -1,10 +1,10 @@
-//! Values, kinds of gates, and what gates give.
+//! Values, kinds of gates, and the values of gates.
 use GateKind::{And, Buf, Nand, Nor, Not, Or, Xnor, Xor};
 use Value::{One, Unknown, Zero};
 use logic3::{GateKind, Value, gate};
 use std::process::Abort;
 
-// There are these values, and no others.
+// There are exactly these values.
 fn bit(value: Value) -> Option<u8> {
     match value {
         Value::Zero => Some(0),
@@ -13,7 +13,7 @@ fn bit(value: Value) -> Option<u8> {
     }
 }
 
-// There are these kinds of gates, and no others.
+// There are exactly these kinds of gates.
 fn takes_one_pin(kind: GateKind) -> bool {
     match kind {
         GateKind::And | GateKind::Nand | GateKind::Or | GateKind::Nor => false,
@@ -28,7 +28,7 @@ fn variants(rt: HostRuntime) {
     assert!(rt; takes_one_pin(Not) && takes_one_pin(Buf) && !takes_one_pin(Xnor));
 }
 
-// Two pins, and what AND, OR and XOR of them are.
+// Two pins, and their AND, OR and XOR.
 static TABLE: [([Value; 2], Value, Value, Value); 6] = [
     ([Zero, Zero], Zero, Zero, Zero),
     ([Zero, One], Zero, One, One),

@@ -53,7 +53,7 @@ fn readers(rt: HostRuntime) -> Result<(), Fail> {
     Ok(())
 }
 
-// What is below tick 3 is split off, and then what is below tick 4.
+// The changes below tick 3 are split off, and then those below tick 4.
 fn splits(rt: &impl Abort, wave: &mut Waveform) -> Result<(), AllocError> {
     let split: Vec<Change> = wave.split_below(3)?;
     assert!(rt; split.as_slice() == [LOW].as_slice());

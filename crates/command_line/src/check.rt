@@ -1,4 +1,4 @@
-//! The subcommand `check`: what it takes, and the order that it is.
+//! The subcommand `check`: its options, and its order.
 use crate::help::subcommand_named;
 use crate::options::{ALONE, LENGTH, SOURCE, number_given, source_given};
 use clap::{ArgMatches, Command};
@@ -6,12 +6,12 @@ use orders::{Order, PickOptions};
 use std::alloc::{AllocError, Global};
 
 const ABOUT: &str =
-    "Simulates a circuit by run's engine and by plain's, and writes for how many nets they give the\n\
-     same waveform";
+    "Simulates a circuit with the engines of run and of plain, and writes for how many nets both give\n\
+     the same waveform";
 
 const USAGE: &str = "nullsim check --bench <FILE> --horizon <N> [OPTIONS]";
 
-/// The subcommand with its options.
+/// Returns the subcommand with its options.
 pub(super) fn subcommand<'a>(alloc: Global) -> Result<Command<'a>, AllocError> {
     subcommand_named(
         alloc,
@@ -22,7 +22,7 @@ pub(super) fn subcommand<'a>(alloc: Global) -> Result<Command<'a>, AllocError> {
     )
 }
 
-/// The order of its options.
+/// Returns the order that its options give.
 pub(super) fn order_given<'a>(options: &ArgMatches<'a>) -> Order<'a> {
     Order::Check {
         source: source_given(options, &ALONE, PickOptions::Nothing),

@@ -1,4 +1,4 @@
-//! The subcommand `cone`: what it takes, and the order that it is.
+//! The subcommand `cone`: its options, and its order.
 use crate::described::{Absent, Described, Takes};
 use crate::help::subcommand_named;
 use crate::options::{BENCH, names_given};
@@ -6,23 +6,23 @@ use clap::{ArgMatches, Command};
 use orders::Order;
 use std::alloc::{AllocError, Global};
 
-const ABOUT: &str = "Writes the part of a circuit that the values of some nets can come from";
+const ABOUT: &str = "Writes the part of a circuit on which the values of some nets depend";
 
 const USAGE: &str = "nullsim cone --bench <FILE> <NAME>...";
 
-const NAMES: &str = "The nets, which become the outputs of what is written";
+const NAMES: &str = "The nets, which become the outputs of the written circuit";
 
 static OPTIONS: [Described; 2] = [
     Described("bench", Takes::File, Absent::Refused, BENCH),
     Described("names", Takes::Nets, Absent::Refused, NAMES),
 ];
 
-/// The subcommand with its options.
+/// Returns the subcommand with its options.
 pub(super) fn subcommand<'a>(alloc: Global) -> Result<Command<'a>, AllocError> {
     subcommand_named(alloc, "cone", ABOUT, USAGE, &[OPTIONS.as_slice()])
 }
 
-/// The order of its options.
+/// Returns the order that its options give.
 pub(super) fn order_given<'a>(
     alloc: Global,
     options: &ArgMatches<'a>,

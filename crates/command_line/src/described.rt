@@ -1,8 +1,8 @@
-//! Options as tables describe them, and as `clap` takes them.
+//! Options as tables, and their translation for `clap`.
 use clap::{Arg, ArgAction, Command};
 use std::alloc::{AllocError, Global};
 
-/// An option: what it is called, what is given with it, what holds without it, and its help.
+/// An option: its name, its value, what holds without it, and its help.
 #[derive(Clone, Copy)]
 pub(super) struct Described(
     pub(super) &'static str,
@@ -11,39 +11,39 @@ pub(super) struct Described(
     pub(super) &'static str,
 );
 
-/// What is given with an option.
+/// The value of an option.
 #[derive(Clone, Copy)]
 pub(super) enum Takes {
     File,
     Number,
-    /// One of some words, which the help calls by a name.
+    /// One of these words, with the name that the help has for them.
     Word(&'static str, &'static [&'static str]),
     /// The name of a net.
     Net,
-    /// The name of a fault, which stands by itself.
+    /// The name of a fault, as a positional argument.
     Fault,
-    /// The names of nets, which stand by themselves.
+    /// The names of nets, as positional arguments.
     Nets,
-    /// The names of nets, with commas between; it may be given again.
+    /// The names of nets, separated by commas; may be repeated.
     NetList,
-    /// Such names, in place of the option of this name, which can't be given beside them.
+    /// The same, in place of the option with this name, with which it conflicts.
     NetListFor(&'static str),
-    /// What drives an input, in such a form; it may be given again.
+    /// What drives an input, in this form; may be repeated.
     Drives(&'static str),
     Nothing,
 }
 
-/// What holds where an option is not given.
+/// What holds if an option isn't given.
 #[derive(Clone, Copy)]
 pub(super) enum Absent {
-    /// The words are wrong.
+    /// The arguments are wrong.
     Refused,
     Nothing,
-    /// This is taken as given.
+    /// The option has this value.
     Default(&'static str),
 }
 
-/// The command with the options of the tables, in their order.
+/// Returns the command with the options of the tables, in their order.
 pub(super) fn with_tables<'a>(
     alloc: Global,
     command: Command<'a>,

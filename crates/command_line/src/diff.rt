@@ -1,4 +1,4 @@
-//! The subcommand `diff`: what it takes, and the order that it is.
+//! The subcommand `diff`: its options, and its order.
 use crate::described::{Absent, Described, Takes};
 use crate::help::subcommand_named;
 use crate::options::{
@@ -11,18 +11,17 @@ use run_pairs::DiffTicks;
 use std::alloc::{AllocError, Global};
 
 const ABOUT: &str =
-    "Compares what nets show in two runs, and writes a line for each: y same, y differs 7 0 1 with\n\
-     the first tick at which they differ, or y only in first. The exit status is 5 where one isn't\n\
-     the same";
+    "Compares nets in two runs and writes a line for each: y same, y only in first, or y differs 7 0 1\n\
+     with the first tick at which it differs. The exit status is 5 unless all are the same";
 
 const USAGE: &str = "nullsim diff --first <FILE> --second <FILE> --horizon <N> [OPTIONS]";
 
-const NET: &str = "The nets, by their names in both circuits, such as y,q; without it the\n\
-     outputs of both";
+const NET: &str = "The nets to compare, by their names in both circuits, such as y,q;\n\
+     without this option the outputs of both";
 
-const FROM: &str = "The first tick that counts: 0 up to the horizon";
+const FROM: &str = "The first tick to compare: 0 up to the horizon";
 
-const EVERY: &str = "Only multiples of so many ticks count: at least 1";
+const EVERY: &str = "Compare only at multiples of this number of ticks: at least 1";
 
 static OPTIONS: [Described; 3] = [
     Described("net", Takes::NetList, Absent::Nothing, NET),
@@ -30,7 +29,7 @@ static OPTIONS: [Described; 3] = [
     Described("every", Takes::Number, Absent::Default("1"), EVERY),
 ];
 
-/// The subcommand with its options.
+/// Returns the subcommand with its options.
 pub(super) fn subcommand<'a>(alloc: Global) -> Result<Command<'a>, AllocError> {
     subcommand_named(
         alloc,
@@ -46,7 +45,7 @@ pub(super) fn subcommand<'a>(alloc: Global) -> Result<Command<'a>, AllocError> {
     )
 }
 
-/// The order of its options.
+/// Returns the order that its options give.
 pub(super) fn order_given<'a>(
     alloc: Global,
     options: &ArgMatches<'a>,

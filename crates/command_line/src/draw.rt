@@ -1,4 +1,4 @@
-//! The subcommand `draw`: what it takes, and the order that it is.
+//! The subcommand `draw`: its options, and its order.
 use crate::described::{Absent, Described, Takes};
 use crate::help::subcommand_named;
 use crate::options::{ALONE, LENGTH, SHOWN, SOURCE, number_given, selection_given, source_given};
@@ -13,14 +13,14 @@ const ABOUT: &str =
 
 const USAGE: &str = "nullsim draw --bench <FILE> --horizon <N> [OPTIONS]";
 
-const FROM: &str = "The first tick that is drawn: 0 up to the horizon";
+const FROM: &str = "The first tick to draw: 0 up to the horizon";
 
-const TO: &str = "The last tick that is drawn: at most the horizon, which it is without it";
+const TO: &str = "The last tick to draw: at most the horizon, which is the default";
 
-const STEP: &str = "How many ticks stand in a column: at least 1; there are 1000 columns at\n\
-     most";
+const STEP: &str = "The number of ticks in a column: at least 1; there can be at most 1000\n\
+     columns";
 
-const SVG: &str = "Draw a picture, an SVG text, which browsers show";
+const SVG: &str = "Draw the diagram as an SVG picture, which browsers show";
 
 static OPTIONS: [Described; 4] = [
     Described("from", Takes::Number, Absent::Default("0"), FROM),
@@ -29,7 +29,7 @@ static OPTIONS: [Described; 4] = [
     Described("svg", Takes::Nothing, Absent::Nothing, SVG),
 ];
 
-/// The subcommand with its options.
+/// Returns the subcommand with its options.
 pub(super) fn subcommand<'a>(alloc: Global) -> Result<Command<'a>, AllocError> {
     subcommand_named(
         alloc,
@@ -45,7 +45,7 @@ pub(super) fn subcommand<'a>(alloc: Global) -> Result<Command<'a>, AllocError> {
     )
 }
 
-/// The order of its options.
+/// Returns the order that its options give.
 pub(super) fn order_given<'a>(
     alloc: Global,
     options: &ArgMatches<'a>,

@@ -1,4 +1,4 @@
-//! The options that say what drives inputs, and what they say.
+//! The options for what drives inputs, and their values.
 use crate::described::{Absent, Described, Takes};
 use crate::help::mistake;
 use clap::error::ErrorKind;
@@ -7,18 +7,18 @@ use drawn_stimuli::{Drive, Driven};
 use logic3::Value;
 use std::alloc::{AllocError, Global};
 
-const CLOCK: &str =
-    "An input that is 0 at tick 0, and then changes every HALF ticks, which are at\n\
+const CLOCK: &str = "An input that is 0 at tick 0 and then changes every HALF ticks, at\n\
      least 1, such as clk=5; may be given for several inputs";
 
-const HOLD: &str = "An input that shows one value throughout: 0, 1 or x; may be given for several";
+const HOLD: &str = "An input that has one value throughout: 0, 1 or x, such as en=1;\n\
+     may be given for several inputs";
 
-const PULSE: &str =
-    "An input that is 1 from tick FROM up to but not at tick TO, which is later, and\n\
-     0 elsewhere, such as reset=0..12; may be given for several";
+const PULSE: &str = "An input that is 1 from tick FROM up to but not including a later\n\
+     tick TO, and 0 otherwise, such as reset=0..12; may be given for\n\
+     several inputs";
 
 const NO_DRIVE: &str =
-    "an input's drive has none of the forms '--clock <NAME=HALF>', '--hold <NAME=VALUE>' and\n\
+    "what drives an input must have the form '--clock <NAME=HALF>', '--hold <NAME=VALUE>' or\n\
      '--pulse <NAME=FROM..TO>', such as --clock clk=5 --hold en=1 --pulse reset=0..12";
 
 pub(super) static DRIVES: [Described; 3] = [
@@ -32,7 +32,7 @@ pub(super) static DRIVES: [Described; 3] = [
     ),
 ];
 
-/// What drives inputs by name: clocks first, then held values, then pulses.
+/// Returns what drives inputs by name: clocks first, then held values, then pulses.
 pub(super) fn drives_given<'a>(
     alloc: Global,
     options: &ArgMatches<'a>,
@@ -43,7 +43,7 @@ pub(super) fn drives_given<'a>(
     }
 }
 
-/// The drives of all options, unless one has no drive's form.
+/// Returns the drives of all options, or `None` if one doesn't have the form of a drive.
 fn all_given<'a>(
     alloc: Global,
     options: &ArgMatches<'a>,

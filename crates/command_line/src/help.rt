@@ -1,4 +1,4 @@
-//! The program's words: its subcommands, and the help.
+//! The command line: its subcommands and the help.
 use crate::described::{Described, with_tables};
 use crate::{check, cone, diff, draw, explain, info, plain, run, stimuli, trace, twin, why};
 use clap::error::ErrorKind;
@@ -6,25 +6,24 @@ use clap::{Arg, ArgAction, Command, Error};
 use std::alloc::{AllocError, Global};
 
 const ABOUT: &str =
-    "nullsim simulates a synchronous logic circuit at gate level, and writes what its nets show as\n\
-     a value change dump (VCD, IEEE 1364-2005), which waveform viewers read.\n\
+    "nullsim simulates a synchronous logic circuit at gate level and writes the values of its nets as\n\
+     a value change dump (VCD, IEEE 1364-2005) for waveform viewers.\n\
      \n\
-     Without words it reads a deck, a whole run in one text, on standard input.";
+     Without arguments it reads a deck (a whole run in one text) from standard input.";
 
 const USAGE: &str = "nullsim <COMMAND> [OPTIONS]\n       nullsim < DECK\n       nullsim --version";
 
 const ENDS: &str =
-    "Exit status: 0 done, 1 an input was refused, 2 a mistake in the command line, 3 reading or\n\
-     writing failed, 4 out of memory, 5 what diff compared isn't all the same. For 1, 3 and 4\n\
-     standard error has one line WHERE:LINE: NAME, such as adder.bench:3: Undefined. LINE is 0 where\n\
-     no single line is at fault, as in adder.bench:0: Read for a file that can't be read.\n\
-     nullsim explain NAME tells what such a name means; docs/FORMATS.md lists the names.\n\
+    "Exit status: 0 done, 1 an input was refused, 2 wrong arguments, 3 reading or writing failed,\n\
+     4 out of memory, 5 diff found a difference. With 1, 3 and 4, standard error has one line\n\
+     WHERE:LINE: NAME, such as adder.bench:3: Undefined. LINE is 0 if no single line is at fault, as\n\
+     in adder.bench:0: Read for a file that can't be read. nullsim explain NAME explains the fault;\n\
+     with --verbose, the line at fault and the explanation follow on standard error. docs/FORMATS.md\n\
+     and docs/COMMANDS.md list the names.\n\
      \n\
-     Example: nullsim run --bench adder.bench --stimuli adder.stimuli --horizon 500 > adder.vcd\n\
-     With --verbose, the line at fault and what it means follow that line on standard error.";
+     Example: nullsim run --bench adder.bench --stimuli adder.stimuli --horizon 500 > adder.vcd";
 
-const VERBOSE: &str =
-    "Also tell what a fault means, behind its line, or what to know of a run that is done";
+const VERBOSE: &str = "Explain a fault in full; after a run, add notes on it";
 
 pub(super) fn program<'a>(alloc: Global) -> Result<Command<'a>, AllocError> {
     let mut subcommands = Vec::new(alloc);
@@ -39,7 +38,7 @@ pub(super) fn program<'a>(alloc: Global) -> Result<Command<'a>, AllocError> {
         .subcommands(subcommands)
 }
 
-/// The option that every command takes, before its name and behind it.
+/// Returns the option that every command takes, before and after its name.
 fn verbose<'a>(alloc: Global) -> Arg<'a> {
     Arg::new(alloc, "verbose")
         .short('v')
@@ -68,7 +67,7 @@ fn add_subcommands<'a>(
     add(subcommands, explain::subcommand(alloc))
 }
 
-/// Adds a subcommand, if there was memory for it.
+/// Adds a subcommand, unless an allocation failed.
 fn add<'a>(
     subcommands: &mut Vec<Command<'a>>,
     subcommand: Result<Command<'a>, AllocError>,
@@ -77,12 +76,12 @@ fn add<'a>(
     Ok(())
 }
 
-/// The error of words that are wrong as the text says.
+/// Returns the usage error with this text.
 pub(super) fn mistake(alloc: Global, kind: ErrorKind, text: &str) -> Result<Error, AllocError> {
     program(alloc)?.error(kind, text)
 }
 
-/// A subcommand with the options of some tables.
+/// Returns a subcommand with the options of some tables.
 pub(super) fn subcommand_named<'a>(
     alloc: Global,
     name: &'static str,

@@ -1,26 +1,26 @@
-//! Tips for words that are wrong as other tools would take them.
+//! Tips for wrong arguments that other tools would accept.
 use std::alloc::{AllocError, Global};
 
-/// What to write in place of wrong words.
+/// What to write in place of wrong arguments.
 #[derive(Clone, Copy, Debug)]
 enum Tip<'w> {
     /// A command is in capitals.
     LowerCase,
-    /// A file stands where a command should.
+    /// A file is in the place of a command.
     Deck(&'w str),
-    /// A file for the answer is named.
+    /// A file for the output is named.
     Redirect,
-    /// The name of an option stands behind one dash.
+    /// The name of an option follows a single dash.
     TwoDashes(&'w str),
-    /// Nets are named where a word says which are shown.
+    /// Nets are named in place of `all` or `outputs`.
     Nets(&'w str),
-    /// A number has more than digits.
+    /// A number has other characters than digits.
     Digits,
-    /// A number of an option is past 64 bits: the numbers that the option takes.
+    /// A number of an option needs more than 64 bits; the range of the option.
     Range(&'w str, &'static str),
 }
 
-/// The options that take a number, and the numbers that they take.
+/// The options that take a number, and their ranges.
 static RANGES: [(&str, &str); 10] = [
     ("horizon", "0 to 10000000"),
     ("delay", "1 to 1000000"),
@@ -34,7 +34,10 @@ static RANGES: [(&str, &str); 10] = [
     ("every", "1 to 18446744073709551615"),
 ];
 
-/// The text that says what is wrong with the words, and behind it a tip, where there is one.
+/// Returns the text of a usage error, followed by a tip for the arguments, if any.
+///
+/// # Errors
+/// An allocation failed.
 pub fn with_tip(alloc: Global, text: String, words: &[String]) -> Result<String, AllocError> {
     let mut text = text;
     if let Some(tip) = tip_for(words) {
@@ -49,17 +52,17 @@ fn add_tip(text: &mut String, tip: Tip<'_>) -> Result<(), AllocError> {
     match tip {
         Tip::LowerCase => text.push_str("commands are in lower case, as in nullsim run"),
         Tip::Deck(file) => write!(text, "a deck is read from standard input: nullsim < {file}"),
-        Tip::Redirect => text.push_str("what goes to standard output is put into a file by > FILE"),
+        Tip::Redirect => text.push_str("to write the output to a file, redirect it: > FILE"),
         Tip::TwoDashes(name) => write!(text, "options have two dashes: --{name}"),
-        Tip::Nets(names) => write!(text, "nets are shown by their names with --nets {names}"),
+        Tip::Nets(names) => write!(text, "to show nets by name, use --nets {names}"),
         Tip::Digits => text.push_str(
-            "a number is a whole one, in digits alone, such as 1000000; ticks have no unit",
+            "a number is written in digits only, such as 1000000; ticks have no unit",
         ),
         Tip::Range(name, range) => write!(text, "--{name} takes {range}"),
     }
 }
 
-/// The tip of the first word that has one.
+/// Returns the tip for the first argument that has one.
 fn tip_for<'w>(words: &'w [String]) -> Option<Tip<'w>> {
     let first = words.first()?.as_str();
     if let Some(tip) = tip_for_command(first) {
@@ -74,7 +77,7 @@ fn tip_for<'w>(words: &'w [String]) -> Option<Tip<'w>> {
     None
 }
 
-/// The tip for what stands where a command should.
+/// Returns the tip for what is in the place of a command.
 fn tip_for_command<'w>(word: &'w str) -> Option<Tip<'w>> {
     if word.starts_with('-') {
         return None;
@@ -88,7 +91,7 @@ fn tip_for_command<'w>(word: &'w str) -> Option<Tip<'w>> {
     None
 }
 
-/// The tip for an option, and for the word behind it.
+/// Returns the tip for an option and the argument after it.
 fn tip_for_option<'w>(word: &'w str, next: Option<&'w str>) -> Option<Tip<'w>> {
     let (option, value) = match word.split_once('=') {
         Some((option, value)) => (option, Some(value)),
@@ -130,7 +133,7 @@ fn tip_for_name<'w>(name: &'w str, value: Option<&'w str>) -> Option<Tip<'w>> {
     }
 }
 
-/// The tip for which nets are to be shown.
+/// Returns the tip for a value of `--show`.
 fn tip_for_shown<'w>(value: &'w str) -> Option<Tip<'w>> {
     if value.is_empty() || value.starts_with('-') || matches!(value, "all" | "outputs") {
         return None;
@@ -138,7 +141,7 @@ fn tip_for_shown<'w>(value: &'w str) -> Option<Tip<'w>> {
     Some(Tip::Nets(value))
 }
 
-/// The numbers that an option takes, of a run or of one of two.
+/// Returns the range of an option, for one run or for either of two.
 fn range_of(name: &str) -> Option<&'static str> {
     let name = match name.split_once('-') {
         Some(("first" | "second", rest)) => rest,

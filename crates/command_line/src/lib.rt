@@ -1,4 +1,4 @@
-//! The words of a command line as an order. What words mean is in no contract, and tested.
+//! Parsing of the program's arguments into an order. No contract says what arguments mean; tests do.
 #![tactic(auto)]
 
 mod check;

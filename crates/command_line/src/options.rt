@@ -1,4 +1,4 @@
-//! The options that several subcommands take, and what is given by them.
+//! The options that several subcommands take, and their values.
 use crate::described::{Absent, Described, Takes};
 use clap::ArgMatches;
 use orders::{PickOptions, SourceOptions};
@@ -6,7 +6,7 @@ use prepared_runs::{DumpView, Selection};
 use std::alloc::{AllocError, Global};
 use vcd_dump::TimeUnit;
 
-/// What the options of a run are called.
+/// The names of the options of a run.
 #[derive(Clone, Copy, Debug)]
 pub(super) struct OptionNames {
     pub(super) bench: &'static str,
@@ -44,42 +44,40 @@ pub(super) static SECOND: OptionNames = OptionNames {
     period: "second-period",
 };
 
-// What the help says of each option.
+// The help of each option.
 
-pub(super) const BENCH: &str =
-    "The circuit in the ISCAS-89 .bench notation: lines such as INPUT(a),\n\
+pub(super) const BENCH: &str = "The circuit, in ISCAS-89 .bench notation: lines such as INPUT(a),\n\
      OUTPUT(y), y = NAND(a, q), q = DFF(y)";
 
-const DELAYS: &str = "The timing of single gates and flip-flops: lines NAME TICKS, such as\n\
-     y 3; or the line timing version 2, and behind it lines such as\n\
-     delay y 3, wire y 1 2, clock q 4 1 and init q 0; without it there\n\
-     is none";
+const DELAYS: &str = "The timing of particular gates and flip-flops: lines NAME TICKS, such\n\
+     as y 3; or the line timing version 2, followed by lines such as\n\
+     delay y 3, wire y 1 2, clock q 4 1 and init q 0";
 
-const STIMULI: &str = "What drives the inputs: lines TICK NAME VALUE, such as 40 a 1, the\n\
-     value being 0, 1 or x; an input is x before its first line";
+const STIMULI: &str = "What drives the inputs: lines TICK NAME VALUE, such as 40 a 1, where\n\
+     VALUE is 0, 1 or x; an input is x before its first line";
 
 const DELAY: &str = "The delay of all other gates and flip-flops: 1 to 1000000 ticks";
 
-const PERIOD: &str = "The period of all flip-flops without a clock line, which sample\n\
-     their data at its multiples: 1 to 10000000 ticks";
+const PERIOD: &str = "The period of all flip-flops without a clock line; they sample their\n\
+     data at its multiples: 1 to 10000000 ticks";
 
 pub(super) const SCHEDULE: &str =
-    "Events to begin with: lines advance NAME and deliver NAME PLACE; what\n\
-     the nets show doesn't depend on them";
+    "The events to apply first: lines advance NAME and deliver NAME PLACE;\n\
+     the values of the nets don't depend on them";
 
 const HORIZON: &str = "The last tick of the run: 0 to 10000000";
 
-const SHOW: &str = "The nets that are shown: all or outputs";
+const SHOW: &str = "The nets to show: all or outputs";
 
-const NETS: &str = "The nets that are shown, by their names, in this order, such as y,q; not\n\
-     beside --show";
+const NETS: &str = "The nets to show, by name and in this order, such as y,q; can't be used\n\
+     with --show";
 
-const UNIT: &str = "What a tick of the dump stands for: s, ms, us, ns, ps or fs";
+const UNIT: &str = "The length of a tick in the dump: s, ms, us, ns, ps or fs";
 
-const PROGRESS: &str = "Also write how many percent of the ticks are done on standard error,\n\
-     over and over on one line";
+const PROGRESS: &str = "Also show the percentage of completed ticks on standard error, on one\n\
+     line that is updated";
 
-/// The options of a run apart from its horizon and its picks.
+/// The options of a run except its horizon and its picks.
 pub(super) static SOURCE: [Described; 5] = [
     Described("bench", Takes::File, Absent::Refused, BENCH),
     Described("delays", Takes::File, Absent::Nothing, DELAYS),
@@ -113,7 +111,7 @@ pub(super) static SECOND_SIDE: [Described; 6] = [
     Described("second-schedule", Takes::File, Absent::Nothing, SCHEDULE),
 ];
 
-/// How long a run is.
+/// The length of a run.
 pub(super) static LENGTH: [Described; 1] = [Described(
     "horizon",
     Takes::Number,
@@ -121,7 +119,7 @@ pub(super) static LENGTH: [Described; 1] = [Described(
     HORIZON,
 )];
 
-/// What is shown of a run.
+/// The nets that a run shows.
 pub(super) static SHOWN: [Described; 2] = [
     Described(
         "show",
@@ -132,7 +130,7 @@ pub(super) static SHOWN: [Described; 2] = [
     Described("nets", Takes::NetListFor("show"), Absent::Nothing, NETS),
 ];
 
-/// What a dump has besides.
+/// The other option of a dump.
 pub(super) static UNITS: [Described; 1] = [Described(
     "unit",
     Takes::Word("UNIT", &["s", "ms", "us", "ns", "ps", "fs"]),
@@ -140,7 +138,7 @@ pub(super) static UNITS: [Described; 1] = [Described(
     UNIT,
 )];
 
-/// Whether a run tells how far it is.
+/// Whether a run reports its progress.
 pub(super) static TOLD: [Described; 1] = [Described(
     "progress",
     Takes::Nothing,
@@ -163,7 +161,8 @@ pub(super) fn source_given<'a>(
     }
 }
 
-/// The nets that are shown: those of some names, where they are given; a piece without a byte is no name.
+/// Returns the nets to show: those with the names that are given, if any. An empty piece between commas isn't a
+/// name.
 pub(super) fn selection_given<'a>(
     alloc: Global,
     options: &ArgMatches<'a>,
@@ -204,12 +203,12 @@ pub(super) fn view_given<'a>(
     })
 }
 
-/// The number of an option that is required or has a default.
+/// Returns the number of an option that is required or has a default.
 pub(super) fn number_given(options: &ArgMatches<'_>, id: &str) -> u64 {
     options.get_one(id).unwrap_or(0)
 }
 
-/// What picks the events of one of two runs.
+/// Returns what picks the events of one of two runs.
 pub(super) fn side_picks<'a>(options: &ArgMatches<'a>, id: &str) -> PickOptions<'a> {
     match options.get_str(id) {
         Some(name) => PickOptions::File(name),
@@ -217,7 +216,7 @@ pub(super) fn side_picks<'a>(options: &ArgMatches<'a>, id: &str) -> PickOptions<
     }
 }
 
-/// The names of nets that an option gives.
+/// Returns the names of nets that an option gives.
 pub(super) fn names_given<'a>(
     alloc: Global,
     options: &ArgMatches<'a>,

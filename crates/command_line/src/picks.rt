@@ -1,4 +1,4 @@
-//! The options that pick the events to begin with, and what they pick.
+//! The options that pick the events to apply first, and their values.
 use crate::described::{Absent, Described, Takes};
 use crate::help::mistake;
 use crate::options::{SCHEDULE, number_given};
@@ -7,12 +7,11 @@ use clap::{ArgMatches, Error};
 use orders::PickOptions;
 use std::alloc::Global;
 
-const SEED: &str = "What the drawn events start from: 0 to 18446744073709551615; it picks an\n\
-     order of work and no stimuli";
+const SEED: &str = "The seed of the drawn events: 0 to 18446744073709551615; it affects the\n\
+     order of work, not the stimuli";
 
-const PICKS: &str = "How many events to draw in place of a schedule: 0 to 10000000; they are\n\
-     an order of work and no stimuli: what the nets show doesn't depend on\n\
-     them";
+const PICKS: &str = "The number of events to draw in place of a schedule: 0 to 10000000; the\n\
+     values of the nets don't depend on them";
 
 const BOTH: &str = "the argument '--schedule <FILE>' cannot be used with '--picks <N>' above 0";
 
@@ -22,8 +21,10 @@ pub(super) static PICKED: [Described; 3] = [
     Described("picks", Takes::Number, Absent::Default("0"), PICKS),
 ];
 
-/// What the options pick. A schedule beside events to be drawn is a mistake; a seed without such events
-/// is kept, so that it can be noted.
+/// Returns what the options pick. A seed without events to draw is kept, so that a note can mention it.
+///
+/// # Errors
+/// A usage error if there is a schedule as well as events to draw.
 pub(super) fn picks_given<'a>(
     alloc: Global,
     options: &ArgMatches<'a>,

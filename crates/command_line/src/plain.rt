@@ -1,15 +1,15 @@
-//! The subcommand `plain`: what it takes, and the order that it is.
+//! The subcommand `plain`: its options, and its order.
 use crate::help::subcommand_named;
 use crate::options::{ALONE, LENGTH, SHOWN, SOURCE, TOLD, UNITS, source_given, view_given};
 use clap::{ArgMatches, Command};
 use orders::{Order, PickOptions};
 use std::alloc::{AllocError, Global};
 
-const ABOUT: &str = "Simulates a circuit tick by tick and writes the dump on standard output";
+const ABOUT: &str = "Simulates a circuit tick by tick and writes the dump to standard output";
 
 const USAGE: &str = "nullsim plain --bench <FILE> --horizon <N> [OPTIONS]";
 
-/// The subcommand with its options.
+/// Returns the subcommand with its options.
 pub(super) fn subcommand<'a>(alloc: Global) -> Result<Command<'a>, AllocError> {
     subcommand_named(
         alloc,
@@ -26,7 +26,7 @@ pub(super) fn subcommand<'a>(alloc: Global) -> Result<Command<'a>, AllocError> {
     )
 }
 
-/// The order of its options.
+/// Returns the order that its options give.
 pub(super) fn order_given<'a>(
     alloc: Global,
     options: &ArgMatches<'a>,

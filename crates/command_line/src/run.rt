@@ -1,4 +1,4 @@
-//! The subcommand `run`: what it takes, and the order that it is.
+//! The subcommand `run`: its options, and its order.
 use crate::described::{Absent, Described, Takes};
 use crate::help::subcommand_named;
 use crate::options::{ALONE, LENGTH, SHOWN, SOURCE, TOLD, UNITS, source_given, view_given};
@@ -8,17 +8,17 @@ use orders::Order;
 use std::alloc::{AllocError, Global};
 
 const ABOUT: &str =
-    "Simulates a circuit by processes that exchange messages, and writes the dump on standard output";
+    "Simulates a circuit by processes that exchange messages, and writes the dump to standard output";
 
 const USAGE: &str = "nullsim run --bench <FILE> --horizon <N> [OPTIONS]";
 
-const COUNTS: &str = "Also write the line events E changes C nulls N rounds R on standard\n\
+const COUNTS: &str = "Also write the line events E changes C nulls N rounds R to standard\n\
      error";
 
 /// The option that no other subcommand takes.
 static OPTIONS: [Described; 1] = [Described("counts", Takes::Nothing, Absent::Nothing, COUNTS)];
 
-/// The subcommand with its options.
+/// Returns the subcommand with its options.
 pub(super) fn subcommand<'a>(alloc: Global) -> Result<Command<'a>, AllocError> {
     subcommand_named(
         alloc,
@@ -37,7 +37,7 @@ pub(super) fn subcommand<'a>(alloc: Global) -> Result<Command<'a>, AllocError> {
     )
 }
 
-/// The order of its options.
+/// Returns the order that its options give.
 pub(super) fn order_given<'a>(alloc: Global, options: &ArgMatches<'a>) -> Result<Order<'a>, Error> {
     Ok(Order::Run {
         source: source_given(options, &ALONE, picks_given(alloc, options)?),

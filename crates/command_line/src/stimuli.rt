@@ -1,4 +1,4 @@
-//! The subcommand `stimuli`: what it takes, and the order that it is.
+//! The subcommand `stimuli`: its options, and its order.
 use crate::described::{Absent, Described, Takes};
 use crate::drives::{DRIVES, drives_given};
 use crate::help::subcommand_named;
@@ -9,14 +9,14 @@ use orders::Order;
 use std::alloc::{AllocError, Global};
 
 const ABOUT: &str =
-    "Writes what drives the inputs of a circuit: clocks, held values and pulses by name, and drawn\n\
-     values for all other inputs";
+    "Writes stimuli for the inputs of a circuit: clocks, constant values and pulses by name, and drawn\n\
+     (pseudo-random) values for all other inputs";
 
 const USAGE: &str = "nullsim stimuli --bench <FILE> --horizon <N> [OPTIONS]";
 
-const EVERY: &str = "How many ticks lie between drawn values: at least 1";
+const EVERY: &str = "The number of ticks between drawn values: at least 1";
 
-const SEED: &str = "What the drawn values start from: 0 to 18446744073709551615";
+const SEED: &str = "The seed of the drawn values: 0 to 18446744073709551615";
 
 static CIRCUIT: [Described; 1] = [Described("bench", Takes::File, Absent::Refused, BENCH)];
 
@@ -25,7 +25,7 @@ static DRAWS: [Described; 2] = [
     Described("seed", Takes::Number, Absent::Default("0"), SEED),
 ];
 
-/// The subcommand with its options.
+/// Returns the subcommand with its options.
 pub(super) fn subcommand<'a>(alloc: Global) -> Result<Command<'a>, AllocError> {
     subcommand_named(
         alloc,
@@ -41,7 +41,7 @@ pub(super) fn subcommand<'a>(alloc: Global) -> Result<Command<'a>, AllocError> {
     )
 }
 
-/// The order of its options.
+/// Returns the order that its options give.
 pub(super) fn order_given<'a>(alloc: Global, options: &ArgMatches<'a>) -> Result<Order<'a>, Error> {
     Ok(Order::Stimuli {
         bench: options.get_str("bench").unwrap_or(""),

@@ -1,4 +1,4 @@
-//! The subcommand `trace`: what it takes, and the order that it is.
+//! The subcommand `trace`: its options, and its order.
 use crate::help::subcommand_named;
 use crate::options::{ALONE, LENGTH, SOURCE, number_given, source_given};
 use crate::picks::{PICKED, picks_given};
@@ -7,12 +7,12 @@ use orders::Order;
 use std::alloc::{AllocError, Global};
 
 const ABOUT: &str =
-    "Simulates a circuit by processes that exchange messages, and writes a line for each event:\n\
-     lines such as advance a 0 -> 6: 0@0 1@3 null 6 and deliver y 0: 1@3";
+    "Simulates a circuit by processes that exchange messages, and writes a line for each event, such\n\
+     as advance a 0 -> 6: 0@0 1@3 null 6 or deliver y 0: 1@3";
 
 const USAGE: &str = "nullsim trace --bench <FILE> --horizon <N> [OPTIONS]";
 
-/// The subcommand with its options.
+/// Returns the subcommand with its options.
 pub(super) fn subcommand<'a>(alloc: Global) -> Result<Command<'a>, AllocError> {
     subcommand_named(
         alloc,
@@ -23,7 +23,7 @@ pub(super) fn subcommand<'a>(alloc: Global) -> Result<Command<'a>, AllocError> {
     )
 }
 
-/// The order of its options.
+/// Returns the order that its options give.
 pub(super) fn order_given<'a>(alloc: Global, options: &ArgMatches<'a>) -> Result<Order<'a>, Error> {
     Ok(Order::Trace {
         source: source_given(options, &ALONE, picks_given(alloc, options)?),

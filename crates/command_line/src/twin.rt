@@ -1,4 +1,4 @@
-//! The subcommand `twin`: what it takes, and the order that it is.
+//! The subcommand `twin`: its options, and its order.
 use crate::described::{Absent, Described, Takes};
 use crate::help::subcommand_named;
 use crate::options::{
@@ -9,17 +9,17 @@ use orders::Order;
 use std::alloc::{AllocError, Global};
 
 const ABOUT: &str =
-    "Writes whether two runs agree on all that a net's value can come from, and what the net shows\n\
-     in each: lines such as agree yes, first 12 1, second 12 1";
+    "Writes whether two runs agree on everything that a net's value depends on, and the net's changes\n\
+     in each run: lines such as agree yes, first 12 1, second 12 1";
 
 const USAGE: &str =
     "nullsim twin --first <FILE> --second <FILE> --net <NAME> --horizon <N> [OPTIONS]";
 
-const NET: &str = "The net to be compared, by its name in both circuits";
+const NET: &str = "The net to compare, by its name in both circuits";
 
 static OPTIONS: [Described; 1] = [Described("net", Takes::Net, Absent::Refused, NET)];
 
-/// The subcommand with its options.
+/// Returns the subcommand with its options.
 pub(super) fn subcommand<'a>(alloc: Global) -> Result<Command<'a>, AllocError> {
     subcommand_named(
         alloc,
@@ -35,7 +35,7 @@ pub(super) fn subcommand<'a>(alloc: Global) -> Result<Command<'a>, AllocError> {
     )
 }
 
-/// The order of its options.
+/// Returns the order that its options give.
 pub(super) fn order_given<'a>(options: &ArgMatches<'a>) -> Order<'a> {
     Order::Twin {
         first: source_given(options, &FIRST, side_picks(options, FIRST.schedule)),

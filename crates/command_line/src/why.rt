@@ -1,4 +1,4 @@
-//! The subcommand `why`: what it takes, and the order that it is.
+//! The subcommand `why`: its options, and its order.
 use crate::described::{Absent, Described, Takes};
 use crate::help::subcommand_named;
 use crate::options::{ALONE, SOURCE, number_given, source_given};
@@ -7,12 +7,12 @@ use orders::{Order, PickOptions};
 use std::alloc::{AllocError, Global};
 
 const ABOUT: &str =
-    "Writes why a net has its value at a tick: a line for each net on the way back over the pins\n\
-     that decide, down to a cause that needs no other";
+    "Explains why a net has its value at a tick: a line for each net on the way back along the pins\n\
+     that decide, down to a cause that has no other";
 
 const USAGE: &str = "nullsim why --bench <FILE> --net <NAME> --at <TICK> [OPTIONS]";
 
-const NET: &str = "The net, by its name";
+const NET: &str = "The net, by name";
 
 const AT: &str = "The tick: 0 to 10000000";
 
@@ -21,7 +21,7 @@ static OPTIONS: [Described; 2] = [
     Described("at", Takes::Number, Absent::Refused, AT),
 ];
 
-/// The subcommand with its options.
+/// Returns the subcommand with its options.
 pub(super) fn subcommand<'a>(alloc: Global) -> Result<Command<'a>, AllocError> {
     subcommand_named(
         alloc,
@@ -32,7 +32,7 @@ pub(super) fn subcommand<'a>(alloc: Global) -> Result<Command<'a>, AllocError> {
     )
 }
 
-/// The order of its options.
+/// Returns the order that its options give.
 pub(super) fn order_given<'a>(options: &ArgMatches<'a>) -> Order<'a> {
     Order::Why {
         source: source_given(options, &ALONE, PickOptions::Nothing),

@@ -1,4 +1,4 @@
-//! Words as an order, or why they are none.
+//! Arguments as an order, or why they aren't one.
 use crate::help::{mistake, program};
 use crate::{check, cone, diff, draw, explain, info, plain, run, stimuli, trace, twin, why};
 use clap::error::ErrorKind;
@@ -6,16 +6,16 @@ use clap::{ArgMatches, Error};
 use orders::Order;
 use std::alloc::Global;
 
-/// What words ask for.
+/// What arguments ask for.
 #[derive(Debug, Drop)]
 pub enum Asked<'a> {
-    /// An order over files, whether its fault is to be explained, and whether it tells how far it is.
+    /// An order over files, whether its fault is explained, and whether it reports its progress.
     Order {
         order: Order<'a>,
         verbose: bool,
         progress: bool,
     },
-    /// What the faults of a name mean, which there are.
+    /// The explanation of the faults with a name that at least one fault has.
     Explanation {
         name: &'a str,
     },
@@ -23,22 +23,22 @@ pub enum Asked<'a> {
     FaultNames,
 }
 
-/// Why words ask for nothing that is known.
+/// Why arguments don't give an order.
 #[derive(Debug, Drop)]
 pub enum NoOrder {
-    /// The text of the help, for words that ask for it or begin like one that does, as `-hx`.
+    /// The text of the help, for arguments that ask for it or begin like one that does, such as `-hx`.
     Help(String),
-    /// The words are wrong: this text says how.
+    /// The arguments are wrong, as this text says.
     Usage(String),
-    /// A growth was refused.
+    /// An allocation failed.
     Memory,
 }
 
-/// What the words ask for, which don't have the program's own name.
+/// Returns what the arguments, without the program's own name, ask for.
 ///
 /// # Errors
-/// The text of the help, for words that `clap` answers by it, or a text that says what is wrong with
-/// the words.
+/// `Help` for arguments that `clap` answers with the help, `Usage` with a text that says what is wrong with the
+/// arguments, or `Memory` if an allocation fails.
 pub fn parse_words<'a>(alloc: Global, words: &'a [String]) -> Result<Asked<'a>, NoOrder> {
     match read_asked(alloc, words) {
         Ok(asked) => Ok(asked),
@@ -69,7 +69,7 @@ fn read_asked<'a>(alloc: Global, words: &'a [String]) -> Result<Asked<'a>, Error
     })
 }
 
-/// Whether a run tells how far it is: where that is asked for.
+/// Returns whether the arguments ask a run to report its progress.
 fn tells_progress(matches: &ArgMatches<'_>) -> bool {
     match matches.subcommand() {
         Some(("run", options)) => options.get_flag("progress"),
@@ -78,7 +78,7 @@ fn tells_progress(matches: &ArgMatches<'_>) -> bool {
     }
 }
 
-/// The order of the options of a subcommand.
+/// Returns the order that the options of a subcommand give.
 fn order_matched<'a>(alloc: Global, matches: &ArgMatches<'a>) -> Result<Order<'a>, Error> {
     match matches.subcommand() {
         Some(("run", options)) => run::order_given(alloc, options),

@@ -39,7 +39,7 @@ source_of_deck s = record {
 abbrev pub view_of_deck : Sections → View
 view_of_deck s = record { horizon = s.horizon; show = All; unit = Ns }
 
--- a text that is no deck has no run
+-- a text that isn't a deck has no run
 abbrev pub deck_of_text : DeckTextFault → DeckFault
 deck_of_text no_deck.TooLong = TooLong
 deck_of_text (no_deck.BadDeck line) = BadDeck line
@@ -54,17 +54,17 @@ simulated_deck bytes = do
 abbrev pub dump_of_deck : List ℕ → Result (List ℕ) DeckFault
 dump_of_deck bytes = dump_in (simulated_deck bytes)
 
--- a failed write broke the dump off, and a want of memory the run; any other fault is the answer, and nothing went out
+-- a failed write broke off the dump, or a failed allocation the run; any other fault is the answer, and nothing was written
 abbrev pub DeckEndsBy : Result (List ℕ) DeckFault → Option (List ℕ) → Option (List ℕ) → DeckFault → Type 0
 DeckEndsBy answer old new (Sim (Dump fault)) = IsFailedWrite fault × IsOkAnd answer (AppendsPrefix old new)
 DeckEndsBy answer old new (Sim Memory) = WritesPart answer old new
 DeckEndsBy answer old new fault = (answer ≡ Err fault) × Keeps old new
 
--- it may find memory wanting only in a deck whose horizon is in its range and whose netlist's text isn't too long
+-- an allocation can fail only for a deck whose horizon is in its range and whose netlist's text isn't too long
 abbrev pub DeckMayWantMemory : List ℕ → Type 0
 DeckMayWantMemory bytes = IsOkAnd (sections_of bytes) (λ sections. MayWantMemory (source_of_deck sections) sections.horizon)
 
--- how the fault comes out of the program
+-- how the fault becomes one of the program
 abbrev pub fault_of_deck : DeckFault → ProgramFault
 fault_of_deck TooLong = Deck no_deck.TooLong
 fault_of_deck (BadDeck line) = Deck (no_deck.BadDeck line)

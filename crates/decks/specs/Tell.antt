@@ -1,4 +1,4 @@
--- How the program without words ends.
+-- How the program without arguments ends.
 use Rattle.std.specs.Prelude.{◌≡◌, ◌⊎◌, ℕ, List, Option, Result, IfSome, IsOkAnd, codes}
 use denote.Ref.{Bor}
 use Rattle.std.specs.Io.KnownBytes.{Appends, Keeps}
@@ -16,18 +16,18 @@ abbrev pub IsUnreadDeck : ReadFault → ProgramFault → Type 0
 IsUnreadDeck fault told = (name : Bor (List ℕ)) × (name.now ≡ codes "stdin") × (told ≡ fault_of_read name fault)
 
 module _ (out out_new err err_new : Option (List ℕ)) (status : ℕ) where
-  -- ---- a deck that was read, whose answer this is
+  -- ---- a deck that was read and has this answer
 
-  -- its dump went out, and nothing was told
+  -- its dump was written, and nothing was reported
   abbrev pub DeckDone : Result (List ℕ) DeckFault → Type 0
   DeckDone answer = (status ≡ 0) × IsOkAnd answer (Appends out out_new) × Keeps err err_new
 
-  -- it is refused, or its run broke off
+  -- it is refused, or its run was broken off
   abbrev pub DeckBroken : Result (List ℕ) DeckFault → Type 0
   DeckBroken answer =
       (fault : DeckFault) × DeckEndsBy answer out out_new fault × Reports section_names (fault_of_deck fault) err err_new status
 
-  -- its dump went out, and the flush failed
+  -- its dump was written, and the flush failed
   abbrev pub DeckUnflushed : Result (List ℕ) DeckFault → Type 0
   DeckUnflushed answer = IsOkAnd answer (Appends out out_new) × Reports section_names Flush err err_new status
 
@@ -36,11 +36,11 @@ module _ (out out_new err err_new : Option (List ℕ)) (status : ℕ) where
 
   -- ---- standard input
 
-  -- it could not be read: nothing went out
+  -- it couldn't be read: nothing was written
   abbrev pub DeckUnread : Type 0
   DeckUnread =
       (fault : ReadFault) × ((told : ProgramFault) × IsUnreadDeck fault told × Keeps out out_new × Reports section_names told err err_new status)
 
-  -- or what was told is of the deck that the reader has: of all its bytes, where they are known
+  -- or what was reported is for the deck that the reader has: for all its bytes, if they are known
   abbrev pub TellEnds : Option (List ℕ) → Type 0
   TellEnds bytes = DeckUnread ⊎ ((deck : List ℕ) × IfSome bytes (λ all. deck ≡ all) × DeckTold (dump_of_deck deck))

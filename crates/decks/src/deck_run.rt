@@ -16,7 +16,7 @@ use std::io::Write;
 use thiserror::Error;
 use vcd_dump::TimeUnit;
 
-/// Why the run of a deck ended early. Lines count from 1.
+/// Why the run of a deck ended early. Lines are counted from 1.
 #[derive(Clone, Copy, Debug, PartialEq, Eq, Error)]
 pub enum DeckFault {
     /// The text has more than 16,777,216 bytes.
@@ -61,13 +61,14 @@ impl From<DeckFault> for ProgramFault<'_> {
     }
 }
 
-/// Writes the dump of a deck's run: all nets, in nanoseconds. The default delay is 1, the period 10.
-/// The deck's schedule picks the events that come before the run completes; answers the report.
+/// Writes the dump of a deck's run, with all nets and a tick of a nanosecond, and returns the run's report. The
+/// default delay is 1 tick and the period 10 ticks. The deck's schedule picks the events to apply before the
+/// run completes.
 ///
 /// # Errors
-/// A refusal of the deck or of a section comes before the first byte is written. After a failed
-/// write or a want of memory a first part of the dump went out, which may be nothing. The deck's rules
-/// and its horizon are looked at before any memory is taken.
+/// If the deck or a section is refused, nothing is written. After a failed write or allocation, a prefix of the
+/// dump has been written, possibly nothing. The deck's rules and its horizon are checked before any memory is
+/// allocated.
 pub fn deck<W: Write>(alloc: Global, text: &[u8], out: &mut W) -> Result<Report, DeckFault>
     ensures ok { IfOk result (λ report. IsOkAnd (simulated_deck text.now) (λ answer.
         Appends (W.contents out.old) (W.contents out.new) answer.0 × (report ≡ answer.1))) }
@@ -80,10 +81,10 @@ pub fn deck<W: Write>(alloc: Global, text: &[u8], out: &mut W) -> Result<Report,
     Ok(simulate(alloc, &source, &view, out)?)
 }
 
-/// Writes the same dump, by a run in sweeps.
+/// Writes the same dump by a run in sweeps.
 ///
 /// # Errors
-/// As [`deck`].
+/// As for [`deck`].
 pub(crate) fn deck_in_sweeps<W: Write>(
     alloc: Global,
     text: &[u8],
@@ -99,7 +100,7 @@ pub(crate) fn deck_in_sweeps<W: Write>(
     Ok(())
 }
 
-/// What the sections of a deck run, and what its dump shows.
+/// Returns the source that the sections of a deck describe, and what its dump shows.
 fn run_of(sections: Sections<'_>) -> (Source<'_>, View)
     ensures source { seen_source result.0 ≡ source_of_deck (seen_sections sections.entry) }
     ensures view { result.1 ≡ view_of_deck (seen_sections sections.entry) }

@@ -1,4 +1,4 @@
-//! Decks: a whole run in one text, and the program that answers one.
+//! Decks, each a whole run in one text, and the program that answers a deck.
 #![tactic(auto)]
 
 mod deck_run;

@@ -1,4 +1,4 @@
-//! The program without words.
+//! The program without arguments.
 ghost use Rattle.decks.specs.DeckRun.{dump_of_deck};
 ghost use Rattle.decks.specs.Tell.{DeckTold, IsUnreadDeck, TellEnds};
 
@@ -8,10 +8,10 @@ use program_io::{ProgramFault, ReadFault, SECTIONS, flush, read_text, report};
 use std::alloc::Global;
 use std::io::{Read, Write};
 
-/// Reads a deck, and answers it as [`answer_deck`] does.
+/// Reads a deck and answers it as [`answer_deck`] does; returns the exit status.
 ///
-/// Where the deck can't be read the status is 3, or 4 where memory was wanting, and the fault is
-/// named for `stdin`; nothing is written then.
+/// If the deck can't be read, nothing is written, the fault names `stdin`, and the status is 3; it is 4 if an
+/// allocation failed.
 pub fn tell<R: Read, W: Write, E: Write>(
     alloc: Global,
     input: &mut R,
@@ -27,18 +27,18 @@ pub fn tell<R: Read, W: Write, E: Write>(
     }
 }
 
-/// The fault of a deck that could not be read.
+/// Returns the fault of a deck that couldn't be read.
 fn unread_deck(fault: ReadFault) -> ProgramFault<'static>
     ensures { IsUnreadDeck fault result }
 {
     ProgramFault::of_read(fault, "stdin")
 }
 
-/// Writes the dump of a deck's run and flushes once; answers the exit status.
+/// Writes the dump of a deck's run and flushes once; returns the exit status.
 ///
-/// 0 says that this is done, 1 that the deck is refused, 3 that a write failed, and 4 that memory was
-/// wanting. For each but 0 one line `WHERE:LINE: NAME` goes to `err`; a fault of `err` is ignored,
-/// and no memory is taken for the line.
+/// The status is 0 if this is done, 1 if the deck is refused, 3 if a write failed, and 4 if an allocation
+/// failed. Except for 0, one line `WHERE:LINE: NAME` is written to `err`, without allocating memory; a fault of
+/// `err` is ignored.
 pub fn answer_deck<W: Write, E: Write>(alloc: Global, text: &[u8], out: &mut W, err: &mut E) -> u8
     ensures { DeckTold (W.contents out.old) (W.contents out.new) (E.contents err.old) (E.contents err.new)
         result (dump_of_deck text.now) }

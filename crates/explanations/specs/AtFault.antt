@@ -97,9 +97,9 @@ line_above subject number topic text = number_or_none (last_or None (filter (is_
 
 -- the words for it
 abbrev pub too : Subject → List ℕ
-too Bench = codes " defines it too: "
-too Stimuli = codes " is of this input too: "
-too other = codes " says it too: "
+too Bench = codes " already defines it: "
+too Stimuli = codes " is for the same input: "
+too other = codes " already sets it: "
 
 abbrev pub earlier_line : Subject → ℕ → Topic → List ℕ → List ℕ
 earlier_line subject number topic text =
@@ -179,7 +179,7 @@ abbrev pub at_fault_in : Subject → List ℕ → ℕ → List ℕ → List ℕ 
 at_fault_in subject name number text code =
     if is_among of_repeats name then earlier_line subject number (topic_of subject code) text
     else if bytes_eq name (codes "Undefined") then word_told (codes "no line defines ") (undefined_in code text)
-    else word_told (codes "the word is: ") (word_at_fault subject name code)
+    else word_told (codes "given: ") (word_at_fault subject name code)
 
 -- for the line with this number, if the text is known and has it
 abbrev pub at_fault : Subject → List ℕ → ℕ → Option (List ℕ) → List ℕ

@@ -39,12 +39,12 @@ hints_in subject name table =
 
 -- the system's message about a failed read or write, if any
 abbrev pub reason_line : Option (List ℕ) → List ℕ
-reason_line reason = word_told (codes "the system says: ") reason
+reason_line reason = word_told (codes "system error: ") reason
 
 -- a number that is out of its range, or conflicts with another
 abbrev pub number_line : Option ℕ → List ℕ
 number_line None = []
-number_line (Some number) = codes "the number is: " ++ decimal number ++ codes "\n"
+number_line (Some number) = codes "given: " ++ decimal number ++ codes "\n"
 
 -- a fault that occurred: its subject, its name and its line, and, if known, the text at fault, the word and the number at fault
 -- that no text contains, and the system's message
@@ -62,7 +62,7 @@ abbrev pub told_at_hand : List Table → FaultView → List ℕ
 told_at_hand tables fault =
     excerpt fault.line (option_and_then (line_at fault.line) fault.text)
     ++ at_fault fault.subject fault.name fault.line fault.text
-    ++ word_told (codes "the word is: ") fault.word
+    ++ word_told (codes "given: ") fault.word
     ++ number_line fault.number
     ++ reason_line fault.reason
     ++ flat_map (hints_in fault.subject fault.name) tables

@@ -24,4 +24,4 @@ line_told said number None = []
 line_told said number (Some line) = codes "line " ++ decimal number ++ said ++ shown_line line ++ codes "\n"
 
 abbrev pub excerpt : ℕ → Option (List ℕ) → List ℕ
-excerpt number line = line_told (codes " is: ") number line
+excerpt number line = line_told (codes ": ") number line

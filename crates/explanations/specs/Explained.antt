@@ -10,42 +10,42 @@ use Rattle.explanations.specs.declared.subject.Subject.TheVariants.{Bench, Delay
 
 -- the title of a subject
 abbrev pub title_of : Subject → List ℕ
-title_of Bench = codes "a .bench text"
-title_of Delays = codes "a delay text"
-title_of Stimuli = codes "a stimulus text"
-title_of Schedule = codes "a schedule text"
-title_of Deck = codes "a deck"
-title_of Settings = codes "the settings"
-title_of Columns = codes "the columns of draw"
-title_of Drives = codes "the drives of stimuli"
-title_of Ticks = codes "the ticks of diff"
-title_of Names = codes "nets asked for by name"
+title_of Bench = codes ".bench text"
+title_of Delays = codes "delay text"
+title_of Stimuli = codes "stimulus text"
+title_of Schedule = codes "schedule text"
+title_of Deck = codes "deck"
+title_of Settings = codes "settings"
+title_of Columns = codes "columns of draw"
+title_of Drives = codes "drives of stimuli"
+title_of Ticks = codes "ticks of diff"
+title_of Names = codes "net names in arguments"
 title_of Program = codes "reading and writing"
 
 -- the circuit that its examples are for
 abbrev pub example_circuit : Subject → List ℕ
-example_circuit Delays = codes " for INPUT(a), y = NAND(a, q), q = DFF(y)"
-example_circuit Stimuli = codes " for INPUT(a), y = NAND(a, q), q = DFF(y)"
-example_circuit Schedule = codes " for INPUT(a), y = NAND(a, q), q = DFF(y)"
+example_circuit Delays = codes " with INPUT(a), y = NAND(a, q), q = DFF(y)"
+example_circuit Stimuli = codes " with INPUT(a), y = NAND(a, q), q = DFF(y)"
+example_circuit Schedule = codes " with INPUT(a), y = NAND(a, q), q = DFF(y)"
 example_circuit other = []
 
 -- an example, if any: the faulty text with its line, and the corrected text
 abbrev pub example_line : List ℕ → ℕ → List ℕ
-example_line circuit number = codes "for example" ++ circuit ++ codes ", refused at line " ++ decimal number ++ codes ":\n"
+example_line circuit number = codes "example" ++ circuit ++ codes ", refused at line " ++ decimal number ++ codes ":\n"
 
 abbrev pub both_texts : Example → List ℕ
-both_texts example = example.faulty.now ++ codes "mended:\n" ++ example.mended.now
+both_texts example = example.faulty.now ++ codes "corrected:\n" ++ example.mended.now
 
 abbrev pub example_text : List ℕ → Option Example → List ℕ
 example_text circuit None = []
 example_text circuit (Some example) = example_line circuit example.line ++ both_texts example
 
--- what it means, and what is needed
+-- the lines of its meaning and of what is needed
 abbrev pub meaning_line : List ℕ → Explanation → List ℕ
-meaning_line title one = one.name.now ++ codes " of " ++ title ++ codes ": " ++ one.meaning.now ++ codes "\n"
+meaning_line title one = one.name.now ++ codes " (" ++ title ++ codes "): " ++ one.meaning.now ++ codes "\n"
 
 abbrev pub wanted_line : Explanation → List ℕ
-wanted_line one = codes "want " ++ one.wanted.now ++ codes "\n"
+wanted_line one = codes "needed: " ++ one.wanted.now ++ codes "\n"
 
 -- the whole explanation of a fault of a subject
 abbrev pub explanation_of : Subject → Explanation → List ℕ

@@ -52,7 +52,7 @@ fn push_at_fault_in(
     } else if name == "Undefined" {
         push_word(told, b"no line defines ", undefined_in(alloc, code, text)?)
     } else {
-        push_word(told, b"the word is: ", word_at_fault(subject, name, code))
+        push_word(told, b"given: ", word_at_fault(subject, name, code))
     }
 }
 
@@ -77,9 +77,9 @@ fn too(subject: Subject) -> &'static str
     ensures { result.now ≡ too subject }
 {
     match subject {
-        Subject::Bench => " defines it too: ",
-        Subject::Stimuli => " is of this input too: ",
-        _ => " says it too: ",
+        Subject::Bench => " already defines it: ",
+        Subject::Stimuli => " is for the same input: ",
+        _ => " already sets it: ",
     }
 }
 

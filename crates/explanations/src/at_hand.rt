@@ -52,9 +52,9 @@ pub fn fault_text(alloc: Global, tables: &[Table], fault: AtHand<'_>) -> Result<
         fault.line,
         fault.text,
     )?;
-    push_word(&mut told, b"the word is: ", fault.word)?;
+    push_word(&mut told, b"given: ", fault.word)?;
     push_number(alloc, &mut told, fault.number)?;
-    push_word(&mut told, b"the system says: ", fault.reason)?;
+    push_word(&mut told, b"system error: ", fault.reason)?;
     let hints = hints_text(alloc, tables, fault.subject, fault.name)?;
     told.extend_from_slice(hints.as_str().as_bytes())?;
     Ok(told)
@@ -67,7 +67,7 @@ fn push_number(alloc: Global, told: &mut Vec<u8>, number: Option<u64>) -> Result
     let Some(number) = number else {
         return Ok(());
     };
-    let line = format!(in alloc; "the number is: {number}\n")?;
+    let line = format!(in alloc; "given: {number}\n")?;
     told.extend_from_slice(line.as_str().as_bytes())
 }
 

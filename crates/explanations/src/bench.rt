@@ -4,15 +4,15 @@ use crate::explanation::{Example, Explanation};
 pub(crate) static BENCH: [Explanation; 10] = [
     Explanation {
         name: "TooLong",
-        meaning: "the text has more than 16,777,216 bytes, or the one that cone would write.",
-        wanted: "a shorter text, of fewer nets or with fewer comments",
+        meaning: "the text, or the one that cone would write, has more than 16,777,216 bytes.",
+        wanted: "a shorter text, with fewer nets or fewer comments",
         example: None,
     },
     Explanation {
         name: "BadByte",
-        meaning: "outside comments there is a byte that is neither white space (space, tab, carriage return)\n\
-                  nor printable ASCII, such as a letter with an accent or a byte order mark.",
-        wanted: "names of printable ASCII, and all else behind a #",
+        meaning: "a byte outside comments is neither white space (space, tab, carriage return) nor printable\n\
+                  ASCII, such as one of an accented letter or of a byte order mark.",
+        wanted: "names in printable ASCII, and anything else in a comment, after a #",
         example: Some(Example {
             line: 2,
             faulty: "INPUT(a)\ny = NOT(\u{e9})\n",
@@ -38,8 +38,8 @@ pub(crate) static BENCH: [Explanation; 10] = [
     },
     Explanation {
         name: "UnknownGate",
-        meaning: "the word before the parenthesis is none of the gate words.",
-        wanted: "one of AND, NAND, OR, NOR, XOR, XNOR, NOT, INV, BUF, BUFF and DFF, in any case",
+        meaning: "the word before the parenthesis isn't a gate word.",
+        wanted: "AND, NAND, OR, NOR, XOR, XNOR, NOT, INV, BUF, BUFF or DFF, in upper or lower case",
         example: Some(Example {
             line: 3,
             faulty: "INPUT(a)\nINPUT(b)\ny = NADN(a, b)\n",
@@ -48,7 +48,7 @@ pub(crate) static BENCH: [Explanation; 10] = [
     },
     Explanation {
         name: "BadArity",
-        meaning: "the gate doesn't take so many pins.",
+        meaning: "the gate doesn't take this number of pins.",
         wanted: "one pin for NOT, BUF and DFF, such as y = NOT(a), and 1 to 1024 for the other gates",
         example: Some(Example {
             line: 3,
@@ -58,8 +58,8 @@ pub(crate) static BENCH: [Explanation; 10] = [
     },
     Explanation {
         name: "DefinedTwice",
-        meaning: "the line defines a net that an earlier line defines. INPUT(a) defines a, and y = NOT(a)\n\
-                  defines y.",
+        meaning: "the line defines a net that an earlier line already defines. INPUT(a) defines a, and\n\
+                  y = NOT(a) defines y.",
         wanted: "another name for one of the two nets, or only one of the two lines",
         example: Some(Example {
             line: 3,
@@ -70,8 +70,8 @@ pub(crate) static BENCH: [Explanation; 10] = [
     Explanation {
         name: "Undefined",
         meaning: "the line uses, as a pin or as an output, a net that no line defines. Names are compared\n\
-                  byte for byte, so A is not a.",
-        wanted: "a line that defines the net, such as INPUT(b), or the name of one that is defined",
+                  byte for byte: A and a are different names.",
+        wanted: "a line that defines the net, such as INPUT(b), or the name of a net that is defined",
         example: Some(Example {
             line: 2,
             faulty: "INPUT(a)\ny = AND(a, b)\n",
@@ -80,7 +80,7 @@ pub(crate) static BENCH: [Explanation; 10] = [
     },
     Explanation {
         name: "NoNets",
-        meaning: "no line defines a net: the text is empty, or has comments alone.",
+        meaning: "no line defines a net: the text is empty or has only comments.",
         wanted: "at least one line that defines a net, such as INPUT(a)",
         example: Some(Example {
             line: 0,
@@ -90,7 +90,7 @@ pub(crate) static BENCH: [Explanation; 10] = [
     },
     Explanation {
         name: "TooMany",
-        meaning: "there are more than 100,000 nets, or more than 1,000,000 pins in all.",
+        meaning: "there are more than 100,000 nets, or more than 1,000,000 pins in total.",
         wanted: "a smaller circuit, such as the part that cone writes",
         example: None,
     },

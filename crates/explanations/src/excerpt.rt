@@ -26,7 +26,7 @@ fn nth_line(text: &[u8], place: usize) -> Option<&[u8]>
     text.split(|byte| *byte == b'\n').nth(place)
 }
 
-/// Adds `line N is: `, the line and a line feed, if there is such a line.
+/// Adds `line N: `, the line and a line feed, if there is such a line.
 pub(crate) fn push_excerpt(
     alloc: Global,
     told: &mut Vec<u8>,
@@ -35,7 +35,7 @@ pub(crate) fn push_excerpt(
 ) -> Result<(), AllocError>
     ensures { OnOk result (told.new.items ≡ told.old.items ++ excerpt number (option_map (λ line. line.now) line.entry)) }
 {
-    push_line(alloc, told, " is: ", number, line)
+    push_line(alloc, told, ": ", number, line)
 }
 
 /// Adds `line N`, the message about it, the line and a line feed, if there is such a line.

@@ -26,7 +26,7 @@ pub(crate) static SETTINGS: [Explanation; 3] = [
     Explanation {
         name: "BadHorizon",
         meaning: "the last tick of the run is above 10,000,000.",
-        wanted: "--horizon 0 to 10000000; of why it is --at",
+        wanted: "--horizon 0 to 10000000, or for why --at",
         example: Some(Example {
             line: 0,
             faulty: "nullsim run --bench circuit.bench --horizon 10000001\n",
@@ -48,7 +48,7 @@ pub(crate) static COLUMNS: [Explanation; 4] = [
     },
     Explanation {
         name: "Backwards",
-        meaning: "the last tick that is drawn is before the first.",
+        meaning: "the last tick to draw is before the first.",
         wanted: "--from no later than --to",
         example: Some(Example {
             line: 0,
@@ -58,7 +58,7 @@ pub(crate) static COLUMNS: [Explanation; 4] = [
     },
     Explanation {
         name: "PastHorizon",
-        meaning: "the last tick that is drawn is past the end of the run.",
+        meaning: "the last tick to draw is after the end of the run.",
         wanted: "--to no later than --horizon",
         example: Some(Example {
             line: 0,
@@ -69,7 +69,7 @@ pub(crate) static COLUMNS: [Explanation; 4] = [
     Explanation {
         name: "TooManyColumns",
         meaning: "there would be more than 1,000 columns.",
-        wanted: "fewer ticks by --from and --to, or more of them in a column by --step",
+        wanted: "fewer ticks (--from and --to), or more ticks in a column (--step)",
         example: Some(Example {
             line: 0,
             faulty: "nullsim draw --bench circuit.bench --horizon 5000\n",
@@ -81,7 +81,7 @@ pub(crate) static COLUMNS: [Explanation; 4] = [
 pub(crate) static DRIVES: [Explanation; 6] = [
     Explanation {
         name: "BadEvery",
-        meaning: "0 ticks would lie between drawn values.",
+        meaning: "there would be 0 ticks between drawn values.",
         wanted: "--every of at least 1",
         example: Some(Example {
             line: 0,
@@ -101,7 +101,7 @@ pub(crate) static DRIVES: [Explanation; 6] = [
     },
     Explanation {
         name: "Twice",
-        meaning: "an earlier option is of the same input.",
+        meaning: "an earlier option is for the same input.",
         wanted: "only one of the two options",
         example: Some(Example {
             line: 0,
@@ -121,8 +121,8 @@ pub(crate) static DRIVES: [Explanation; 6] = [
     },
     Explanation {
         name: "BadPulse",
-        meaning: "a pulse would end where it begins, or before.",
-        wanted: "--pulse NAME=FROM..TO with TO past FROM, such as --pulse a=0..12",
+        meaning: "a pulse would end at the tick at which it begins, or before.",
+        wanted: "--pulse NAME=FROM..TO with TO after FROM, such as --pulse a=0..12",
         example: Some(Example {
             line: 0,
             faulty: "nullsim stimuli --bench circuit.bench --horizon 60 --pulse a=12..12\n",
@@ -132,7 +132,7 @@ pub(crate) static DRIVES: [Explanation; 6] = [
     Explanation {
         name: "TooLong",
         meaning: "the text would have more than 16,777,216 bytes.",
-        wanted: "an earlier horizon, or more ticks between drawn values by --every",
+        wanted: "an earlier horizon, or more ticks between drawn values (--every)",
         example: None,
     },
 ];
@@ -140,7 +140,7 @@ pub(crate) static DRIVES: [Explanation; 6] = [
 pub(crate) static TICKS: [Explanation; 2] = [
     Explanation {
         name: "BadEvery",
-        meaning: "only multiples of 0 ticks would be compared.",
+        meaning: "only ticks that are multiples of 0 would be compared.",
         wanted: "--every of at least 1",
         example: Some(Example {
             line: 0,
@@ -150,7 +150,7 @@ pub(crate) static TICKS: [Explanation; 2] = [
     },
     Explanation {
         name: "PastHorizon",
-        meaning: "the first tick that is compared is past the end of the runs.",
+        meaning: "the first tick to compare is after the end of the runs.",
         wanted: "--from no later than --horizon",
         example: Some(Example {
             line: 0,
@@ -162,7 +162,7 @@ pub(crate) static TICKS: [Explanation; 2] = [
 
 pub(crate) static NAMES: [Explanation; 1] = [Explanation {
     name: "UnknownNet",
-    meaning: "no net of the circuit has a name that the words give.",
+    meaning: "no net of the circuit has a name that the arguments give.",
     wanted: "the name of a net that the .bench text defines, byte for byte",
     example: Some(Example {
         line: 0,

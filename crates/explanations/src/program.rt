@@ -4,8 +4,8 @@ use crate::explanation::{Example, Explanation};
 pub(crate) static PROGRAM: [Explanation; 4] = [
     Explanation {
         name: "Read",
-        meaning: "a file isn't there, may not be read, or broke off; at stdin, standard input did.",
-        wanted: "the path of a file that can be read, as seen from the folder where nullsim runs",
+        meaning: "file not found, not readable, or a read failed; at stdin, a read of standard input failed.",
+        wanted: "the path of a readable file; relative paths start at the folder where nullsim runs",
         example: Some(Example {
             line: 0,
             faulty: "nullsim info --bench circit.bench\n",
@@ -14,21 +14,21 @@ pub(crate) static PROGRAM: [Explanation; 4] = [
     },
     Explanation {
         name: "Write",
-        meaning: "standard output couldn't be written or flushed: the disk is full, or who read it has ended.",
-        wanted: "room on the disk, or a reader that reads to the end",
+        meaning: "standard output couldn't be written or flushed: the disk is full, or its reader has ended.",
+        wanted: "free space on the disk, or a reader that reads to the end",
         example: None,
     },
     Explanation {
         name: "WroteNothing",
-        meaning: "standard output took no byte of what was written.",
-        wanted: "an output that takes what is written to it",
+        meaning: "standard output accepted no byte of what was written.",
+        wanted: "an output that accepts what is written to it",
         example: None,
     },
     Explanation {
         name: "Memory",
-        meaning: "the memory was too small for a text, for the circuit or for its run; a first part of a dump\n\
-                  may be out.",
-        wanted: "more memory, a smaller circuit, an earlier horizon, or fewer nets by --show outputs",
+        meaning: "out of memory for a text, for the circuit or for its run; a prefix of a dump may have\n\
+                  been written.",
+        wanted: "more memory, a smaller circuit, an earlier horizon, or fewer nets shown (--show outputs)",
         example: None,
     },
 ];

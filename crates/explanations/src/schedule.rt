@@ -5,13 +5,13 @@ pub(crate) static SCHEDULE: [Explanation; 5] = [
     Explanation {
         name: "TooLong",
         meaning: "the text has more than 16,777,216 bytes.",
-        wanted: "a shorter text, or --seed and --picks in its place",
+        wanted: "a shorter text, or --seed and --picks instead",
         example: None,
     },
     Explanation {
         name: "BadLine",
         meaning: "the line has neither form, or has a byte that is neither white space nor printable. The\n\
-                  first word is in lower case.",
+                  first word must be in lower case.",
         wanted: "advance NAME or deliver NAME PLACE, such as deliver y 0",
         example: Some(Example {
             line: 1,

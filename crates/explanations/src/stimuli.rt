@@ -10,7 +10,7 @@ pub(crate) static STIMULI: [Explanation; 7] = [
     },
     Explanation {
         name: "BadLine",
-        meaning: "the line is not a number, a name and a word, or has a byte that is neither white space nor\n\
+        meaning: "the line isn't a number, a name and a word, or has a byte that is neither white space nor\n\
                   printable.",
         wanted: "TICK NAME VALUE, such as 40 a 1",
         example: Some(Example {
@@ -31,7 +31,7 @@ pub(crate) static STIMULI: [Explanation; 7] = [
     },
     Explanation {
         name: "NotAnInput",
-        meaning: "the net is a gate or a flip-flop, whose pins say what it shows.",
+        meaning: "the net is a gate or a flip-flop, whose value follows from its pins.",
         wanted: "the name of an input, which the .bench text defines by INPUT(NAME)",
         example: Some(Example {
             line: 1,
@@ -51,8 +51,8 @@ pub(crate) static STIMULI: [Explanation; 7] = [
     },
     Explanation {
         name: "BadValue",
-        meaning: "the word is none of the values.",
-        wanted: "one of 0, 1, x and X, such as 40 a 1",
+        meaning: "the word isn't one of the values.",
+        wanted: "0, 1, x or X, such as 40 a 1",
         example: Some(Example {
             line: 1,
             faulty: "40 a high\n",
@@ -61,9 +61,9 @@ pub(crate) static STIMULI: [Explanation; 7] = [
     },
     Explanation {
         name: "NotRising",
-        meaning: "the tick isn't above the one of this input's last line. Lines of other\n\
+        meaning: "the tick isn't after that of this input's previous line. Lines for other\n\
                   inputs don't count.",
-        wanted: "the lines of each input in the order of their ticks, and one line for a tick",
+        wanted: "the lines for each input in the order of their ticks, at most one for a tick",
         example: Some(Example {
             line: 2,
             faulty: "5 a 1\n5 a 0\n",

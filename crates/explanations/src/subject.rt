@@ -50,16 +50,16 @@ impl Subject {
         ensures { result.now ≡ title_of self }
     {
         match self {
-            Subject::Bench => "a .bench text",
-            Subject::Delays => "a delay text",
-            Subject::Stimuli => "a stimulus text",
-            Subject::Schedule => "a schedule text",
-            Subject::Deck => "a deck",
-            Subject::Settings => "the settings",
-            Subject::Columns => "the columns of draw",
-            Subject::Drives => "the drives of stimuli",
-            Subject::Ticks => "the ticks of diff",
-            Subject::Names => "nets asked for by name",
+            Subject::Bench => ".bench text",
+            Subject::Delays => "delay text",
+            Subject::Stimuli => "stimulus text",
+            Subject::Schedule => "schedule text",
+            Subject::Deck => "deck",
+            Subject::Settings => "settings",
+            Subject::Columns => "columns of draw",
+            Subject::Drives => "drives of stimuli",
+            Subject::Ticks => "ticks of diff",
+            Subject::Names => "net names in arguments",
             Subject::Program => "reading and writing",
         }
     }
@@ -70,7 +70,7 @@ impl Subject {
     {
         match self {
             Subject::Delays | Subject::Stimuli | Subject::Schedule =>
-                " for INPUT(a), y = NAND(a, q), q = DFF(y)",
+                " with INPUT(a), y = NAND(a, q), q = DFF(y)",
             _ => "",
         }
     }

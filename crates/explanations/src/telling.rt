@@ -90,7 +90,7 @@ pub(crate) fn push_meaning(
     ensures { OnOk result (string_bytes text.new ≡ string_bytes text.old ++ meaning_line title.now one.now) }
 {
     let (name, meaning) = (one.name, one.meaning);
-    write!(text, "{name} of {title}: {meaning}\n")
+    write!(text, "{name} ({title}): {meaning}\n")
 }
 
 /// Adds the line that says what is needed.
@@ -98,7 +98,7 @@ pub(crate) fn push_wanted(text: &mut String, one: &Explanation) -> Result<(), Al
     ensures { OnOk result (string_bytes text.new ≡ string_bytes text.old ++ wanted_line one.now) }
 {
     let wanted = one.wanted;
-    write!(text, "want {wanted}\n")
+    write!(text, "needed: {wanted}\n")
 }
 
 fn push_example(
@@ -118,14 +118,14 @@ fn push_example(
 fn push_example_line(text: &mut String, circuit: &str, number: u64) -> Result<(), AllocError>
     ensures { OnOk result (string_bytes text.new ≡ string_bytes text.old ++ example_line circuit.now number) }
 {
-    write!(text, "for example{circuit}, refused at line {number}:\n")
+    write!(text, "example{circuit}, refused at line {number}:\n")
 }
 
 fn push_both(text: &mut String, example: &Example) -> Result<(), AllocError>
     ensures { OnOk result (string_bytes text.new ≡ string_bytes text.old ++ both_texts example.now) }
 {
     let (faulty, mended) = (example.faulty, example.mended);
-    write!(text, "{faulty}mended:\n{mended}")
+    write!(text, "{faulty}corrected:\n{mended}")
 }
 
 /// Returns the names of all faults: a line for each table, with the subject's title and the names.

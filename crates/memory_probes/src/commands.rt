@@ -1,4 +1,5 @@
-//! Words, orders and the program with words: a first part of the answer is out, and want of memory is told.
+//! Arguments, orders and the program with arguments: a prefix of the answer has been written, and a failed
+//! allocation is reported.
 use crate::faults::told;
 use crate::whole_runs::{
     CONE, INFO, NO_DIFFERENCE, OSCILLATOR, SAME, TOLD, TWINS, answered, ended,
@@ -11,7 +12,7 @@ use std::alloc::{AllocError, Global};
 use std::io::{self, Error, ErrorKind, Write};
 use worked_examples::dumps::OSCILLATOR_DUMP;
 
-/// The texts of the oscillator, each read anew whenever it is asked for.
+/// The texts of the oscillator, each read anew at each request.
 #[derive(Drop)]
 struct Shelf {
     alloc: Global,
@@ -30,7 +31,7 @@ impl Texts for Shelf {
     }
 }
 
-/// A command line and its answer.
+/// Arguments and their answer.
 type Line = (&'static str, &'static [u8]);
 
 static LINES: [Line; 7] = [
@@ -60,7 +61,7 @@ static LINES: [Line; 7] = [
     ),
 ];
 
-/// A writer that takes nothing, for a reason.
+/// A writer that fails with a message of the system.
 #[derive(Drop)]
 struct Full {}
 
@@ -74,13 +75,13 @@ impl Write for Full {
     }
 }
 
-/// What goes to standard error where such a writer is to take an answer, with `--verbose`.
+/// Standard error with `--verbose` if an answer is to be written to such a writer.
 const UNWRITTEN: &[u8] = b"stdout:0: Write\n\
-    the system says: no storage space\n\
-    Write of reading and writing: standard output couldn't be written or flushed: the disk is full, or who read it has ended.\n\
-    want room on the disk, or a reader that reads to the end\n";
+    system error: no storage space\n\
+    Write (reading and writing): standard output couldn't be written or flushed: the disk is full, or its reader has ended.\n\
+    needed: free space on the disk, or a reader that reads to the end\n";
 
-/// Probes each command line, and one whose answer can't be written.
+/// Probes each command, and one whose answer can't be written.
 pub(crate) fn probe<W: Write>(alloc: Global, teller: &mut Teller<W>) -> Option<()> {
     for (line, text) in &LINES {
         let words = told(teller, "words", words_of(alloc, line))?;
@@ -151,7 +152,7 @@ fn commands<W: Write>(
     answered(teller, "command", status, &out, &err)
 }
 
-/// Tells that a writer is full, and what the system said, unless memory for that was refused.
+/// Reports that a writer is full, and the system's message, unless an allocation for it failed.
 fn unwritten<W: Write>(alloc: Global, teller: &mut Teller<W>) -> Option<()> {
     let words = told(teller, "words", words_of(alloc, "info --bench e.bench -v"))?;
     let mut err = Follower::of(UNWRITTEN);

@@ -1,4 +1,4 @@
-//! What is told of faults.
+//! The explanations of faults.
 use crate::faults::told;
 use engine_probes::Teller;
 use explanations::{AtHand, Subject, explanation_text, fault_text, names_text, tables};
@@ -15,7 +15,8 @@ static FAULT: AtHand<'static> = AtHand {
     reason: Some(b"no such file"),
 };
 
-/// Probes what is told of the faults of a name, of all names, and of a fault at hand.
+/// Probes the explanation of the faults with a name, the list of all names, and the explanation of a particular
+/// fault.
 pub(crate) fn probe<W: Write>(alloc: Global, teller: &mut Teller<W>) -> Option<()> {
     let tables = tables();
     told(

@@ -1,4 +1,4 @@
-//! Which fault of each layer says that a growth was refused.
+//! The fault of each layer that says that an allocation failed.
 ghost use Rattle.std.specs.Prelude.{◌≡◌, IfSome, Ok};
 
 use bench_text::BenchFault;
@@ -13,11 +13,11 @@ use std::io::Write;
 
 /// A fault of a call. It is a trait of this crate, since the faults are types of other crates.
 pub(crate) trait Fault {
-    /// Whether a growth was refused.
+    /// Returns whether an allocation failed.
     fn is_memory(&self) -> bool;
 }
 
-/// Prints the line of a call of which only the answer is checked. Returns its value, if it isn't a fault.
+/// Prints the line of a call of which only the answer is checked. Returns its value, unless it is a fault.
 pub(crate) fn told<T: Drop, E: Fault + Drop, W: Write>(
     teller: &mut Teller<W>,
     call: &str,

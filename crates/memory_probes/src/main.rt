@@ -1,5 +1,5 @@
-//! Calls what takes memory, of every crate, and tells in a line what each call answered and what stands
-//! after it. Whoever runs it refuses it one request for memory.
+//! Calls every function that allocates memory, in every crate, and prints a line with the answer of each call
+//! and the state after it. The caller refuses one of its requests for memory.
 #![tactic(auto)]
 
 mod commands;

@@ -1,4 +1,4 @@
-//! Whole runs: a first part of the text is out.
+//! Whole runs: a prefix of the text has been written.
 use crate::faults::{Fault, told};
 use circuit_texts::{cone_text, info};
 use decks::{answer_deck, deck, tell};
@@ -17,7 +17,7 @@ use std::io::Write;
 use vcd_dump::TimeUnit;
 use worked_examples::dumps::{OSCILLATOR_DUMP, PRESET_RING_DUMP};
 
-/// An input and a gate that oscillates where the input is 1, and some events to begin with.
+/// An input and a gate that oscillates while the input is 1, and some events to apply first.
 pub(crate) const OSCILLATOR: Source<'static> = Source {
     bench: b"INPUT(e)\ny = NAND(e, y)\n",
     delays: b"y 2",
@@ -27,7 +27,7 @@ pub(crate) const OSCILLATOR: Source<'static> = Source {
     picks: Picks::Text(b"advance e\nadvance y\ndeliver y 0\ndeliver y 1\nadvance y\n"),
 };
 
-/// A flip-flop that samples its own opposite, and events that a seed picks to begin with.
+/// A flip-flop that samples its own opposite, and events to apply first, which a seed picks.
 const RING: Source<'static> = Source {
     bench: b"q = DFF(n)\nn = NOT(q)\n",
     delays: b"timing version 2\ninit q 0\n",
@@ -37,17 +37,17 @@ const RING: Source<'static> = Source {
     picks: Picks::Seeded { seed: 7, picks: 9 },
 };
 
-/// What goes out of the input of the oscillator alone.
+/// The dump of the oscillator's input alone.
 const INPUT_DUMP: &[u8] =
     b"$version nullsim 1 $end\n$timescale 1 ns $end\n$scope module top $end\n$var wire 1 ! e $end\n$upscope $end\n$enddefinitions $end\n#0\n$dumpvars\n0!\n$end\n#5\n1!\n#12\n";
 
-/// The oscillator without events to begin with.
+/// The oscillator without events to apply first.
 const UNPICKED: Source<'static> = Source {
     picks: Picks::Nothing,
     ..OSCILLATOR
 };
 
-/// A run, its horizon, and what goes out of it.
+/// A run, its horizon, and its dump.
 type Run = (Source<'static>, u64, &'static [u8]);
 
 /// Runs that show all nets.
@@ -63,31 +63,31 @@ static INPUT_RUNS: [Run; 2] = [(OSCILLATOR, 12, INPUT_DUMP), (UNPICKED, 12, INPU
 const DECK: &[u8] =
     b"%nullsim 12\n%bench\nINPUT(e)\ny = NAND(e, y)\n%delays\ny 2\n%stimuli\n0 e 0\n5 e 1\n%schedule\nadvance e\n";
 
-/// What the program tells of want of memory.
+/// What the program prints if an allocation fails.
 pub(crate) const TOLD: &[u8] = b"memory:0: Memory\n";
 
-/// The percents of the 13 ticks of the oscillator, one by one.
+/// The percentages of the 13 ticks of the oscillator, one by one.
 const PERCENTS: &[u8] = b"\r0%\r7%\r15%\r23%\r30%\r38%\r46%\r53%\r61%\r69%\r76%\r84%\r92%\r100%\n";
 
-/// What goes out of the nets that the gate of the oscillator hangs on.
+/// The text of the fan-in cone of the oscillator's gate.
 pub(crate) const CONE: &[u8] = b"INPUT(e)\ny = NAND(e, y)\nOUTPUT(y)\n";
 
-/// What goes out of the oscillator beside itself.
+/// The answer to `twin` for the oscillator and itself.
 pub(crate) const TWINS: &[u8] =
     b"agree yes\nfirst 2 1\nfirst 7 0\nfirst 9 1\nfirst 11 0\nsecond 2 1\nsecond 7 0\nsecond 9 1\nsecond 11 0\n";
 
-/// What goes out of a comparison of both engines on the oscillator.
+/// The answer to `check` for the oscillator.
 pub(crate) const SAME: &[u8] = b"nets 2\npins 2\nsame 2\n";
 
-/// What goes out of what the oscillator is.
+/// The answer to `info` for the oscillator.
 pub(crate) const INFO: &[u8] = b"nets 2\npins 2\ninputs 1\noutputs 0\nflip-flops 0\ngates 1\n\
       AND 0\nNAND 1\nOR 0\nNOR 0\nXOR 0\nXNOR 0\nNOT 0\nBUF 0\n\
       fan-in 2 y\nfan-out 1 e\nloop y\nunobserved e\nunobserved y\n";
 
-/// What goes out of the oscillator, compared with itself.
+/// The answer to `diff` for the oscillator and itself.
 pub(crate) const NO_DIFFERENCE: &[u8] = b"y same\ne same\n";
 
-/// The ticks of the oscillator, all of which count.
+/// The ticks of the oscillator, all of which are compared.
 const COUNTING: DiffTicks = DiffTicks {
     horizon: 12,
     from: 0,
@@ -127,7 +127,8 @@ fn input_twice(alloc: Global) -> Result<Selection<'static>, AllocError> {
     Ok(Selection::Named(Vec::from_slice(alloc, &[name, name])?))
 }
 
-/// Tells of a call that writes a text. It is out where the call was carried out, and else a first part.
+/// Reports a call that writes a text. All of the text has been written if the call succeeded, otherwise a
+/// prefix.
 pub(crate) fn ended<T: Drop, E: Fault + Drop, W: Write>(
     teller: &mut Teller<W>,
     call: &str,
@@ -179,7 +180,7 @@ fn named_dumps<W: Write>(
     ended(teller, "runs::plain_with_progress", answer, &out)
 }
 
-/// The oscillator by the plain engine. Where a growth is refused the line of percents ends early.
+/// The oscillator by the plain engine. If an allocation fails, the line of percentages ends early.
 fn progress<W: Write>(alloc: Global, teller: &mut Teller<W>) -> Option<()> {
     let view = DumpView {
         horizon: 12,
@@ -269,8 +270,8 @@ fn decks<W: Write>(alloc: Global, teller: &mut Teller<W>) -> Option<()> {
     answered(teller, "decks::tell", status, &out, &err)
 }
 
-/// Tells of a call that answers by a status: 0 where its text is out and nothing was told, and 4 where
-/// a first part is out, and want of memory was told.
+/// Reports a call that returns a status: 0 if its text has been written and nothing was reported, and 4 if a
+/// prefix has been written and a failed allocation was reported.
 pub(crate) fn answered<W: Write>(
     teller: &mut Teller<W>,
     call: &str,

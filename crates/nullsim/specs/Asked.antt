@@ -1,4 +1,4 @@
--- How the program ends with what words ask for.
+-- How the program ends for what arguments ask for.
 use Rattle.std.specs.Prelude.{◌≡◌, ◌⊎◌, ℕ, Bool, true, false, List, Option, String, IsTrue}
 use Rattle.std.specs.declared.alloc.Global.{Global}
 use Rattle.explanations.specs.declared.table.Table.{Table}
@@ -12,12 +12,12 @@ use Rattle.nullsim.specs.Command.{Explains, HelpsIfAsked, Streams, TextMade, Ver
 use Rattle.nullsim.specs.Progress.{OrderTold, OrderToldVerbosely}
 use Rattle.nullsim.specs.Version.{asks_for_version}
 
--- an order is carried out, and its fault explained by some tables where that is asked for, and it tells how far it is where that is
+-- an order is carried out; if requested, its fault is explained by some tables, and its progress is reported
 abbrev pub OrderEnds : Bool → Bool → Option (List ℕ) → KnownTexts → Order → Streams → Streams → ℕ → Type 0
 OrderEnds false progress said known order old new status = OrderTold progress known order old new status
 OrderEnds true progress said known order old new status = (tables : List Table) × OrderToldVerbosely progress tables said known order old new status
 
--- or what the faults of a name mean, or what faults are called, is told by some tables, and no file is read
+-- or the explanation of the faults with a name, or the names of all faults, is printed by some tables, and no file is read
 abbrev pub AskedEnds : Option (List ℕ) → KnownTexts → Asked → Streams → Streams → ℕ → Type 0
 AskedEnds said known (asked.Order order verbose progress) old new status = OrderEnds verbose progress said known order old new status
 AskedEnds said known (asked.Explanation name) old new status =
@@ -25,7 +25,7 @@ AskedEnds said known (asked.Explanation name) old new status =
 AskedEnds said known asked.FaultNames old new status =
     (tables : List Table) × (new.readings ≡ old.readings) × TextMade (all_names tables) old.out new.out old.err new.err status
 
--- words ask for the version, for something else, or for nothing that is known; the texts know that the system said this of a failed read
+-- the arguments ask for the version, for something else, or are wrong; the texts know the system's message on a failed read
 abbrev pub CommandEnds : List (String Global) → Option (List ℕ) → KnownTexts → Streams → Streams → ℕ → Type 0
 CommandEnds words said known old new status =
     (IsTrue (asks_for_version words) × VersionGiven old new status)

@@ -1,4 +1,4 @@
--- Which of the words of a command a fault is of: a number that is out of its range, or the name of a net.
+-- Which argument a fault is for: a number that is out of its range, or the name of a net.
 use Rattle.std.specs.Prelude.{ℕ, ◌&&◌, Bool, List, [], ◌∷◌, slice_get, option_and_then, option_map, Option, None, Some, Result, Ok, Err}
 use Rattle.std.specs.List.{find}
 use Rattle.std.specs.Option.{is_none}
@@ -32,7 +32,7 @@ use Rattle.orders.specs.declared.order.SourceOptions.{SourceOptions}
 use Rattle.orders.specs.declared.order_texts.OrderTexts.{OrderTexts}
 use Rattle.orders.specs.Options.{texts_on}
 
--- ---- what an order was given
+-- ---- what an order gives
 
 -- the options of its run on a side
 abbrev pub options_on : Order → Side → Option SourceOptions
@@ -77,12 +77,12 @@ abbrev pub draws_in : Order → Option Draws
 draws_in (Stimuli bench drives draws horizon) = Some draws
 draws_in other = None
 
--- the name of the input that its drive of a place drives
+-- the name of the input that is driven by its drive at a place
 abbrev pub input_driven : Order → ℕ → Option (List ℕ)
 input_driven (Stimuli bench drives draws horizon) place = option_map (λ (driven : Driven). driven.name.now) (slice_get drives.items place)
 input_driven other place = None
 
--- the nets that it asks for by name
+-- the nets that it names
 abbrev pub names_shown : Selection → List (List ℕ)
 names_shown (Named names) = seen_names names.items
 names_shown other = []
@@ -104,7 +104,7 @@ number_of_setting order side setting.BadDelay = option_map (λ (options : Source
 number_of_setting order side setting.BadPeriod = option_map (λ (options : SourceOptions). options.period) (options_on order side)
 number_of_setting order side setting.BadHorizon = last_tick order
 
--- of columns that are too many there is no such number
+-- too many columns have no such number
 abbrev pub number_of_columns : ColumnsFault → DiagramView → Option ℕ
 number_of_columns columns.NoStep view = Some view.step
 number_of_columns columns.Backwards view = Some view.to
@@ -132,7 +132,7 @@ number_at_fault order other = None
 
 -- ---- the name at fault
 
--- of drives: the place of the one at fault
+-- the place of the drive at fault
 abbrev pub place_of_drive : DriveFault → Option ℕ
 place_of_drive (drive.NotAnInput place) = Some place
 place_of_drive (drive.Twice place) = Some place
@@ -156,7 +156,7 @@ in_neither one other name = is_none (net_named one name) && is_none (net_named o
 abbrev pub first_in_neither : List (List ℕ) → Option NetlistView → Option NetlistView → Option (List ℕ)
 first_in_neither names one other = option_and_then (λ one. option_and_then (λ other. find (in_neither one other) names) other) one
 
--- the first name that an order asks for and no net of its netlist has, for `diff` of neither of the two
+-- the first name that an order gives and no net of its netlist has; for `diff`, no net of either netlist
 abbrev pub unknown_asked : Order → Side → OrderTexts → Option (List ℕ)
 unknown_asked (Diff first second names ticks) side texts =
     first_in_neither (seen_names names.items) (netlist_in texts.first.bench.items) (netlist_in texts.second.bench.items)

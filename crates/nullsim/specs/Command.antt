@@ -1,4 +1,4 @@
--- How the program with words ends.
+-- How the program with arguments ends.
 use Rattle.std.specs.Prelude.{◌≡◌, ◌⊎◌, ℕ, Bool, List, [], ◌∷◌, ◌++◌, Option, Result, String, codes, bytes_eq, string_bytes, IsTrue}
 use Rattle.std.specs.List.{list_any}
 use Rattle.std.specs.Io.KnownBytes.{Appends, Keeps}
@@ -35,73 +35,73 @@ abbrev pub line_of_numbers : List ℕ → List ℕ → List ℕ → List ℕ →
 line_of_numbers events changes nulls rounds =
     line (codes "events " ++ events ++ codes " changes " ++ changes ++ codes " nulls " ++ nulls ++ codes " rounds " ++ rounds)
 
--- what is told beside an answer: the line of the counts that were asked for
+-- what is printed with an answer: the line of counts, if requested
 abbrev pub outcome_text : Outcome → List ℕ
 outcome_text Done = []
 outcome_text (Counted counts) = counts_line counts
 outcome_text Differing = []
 
--- 5 where what was compared differs
+-- 5 if what was compared differs
 abbrev pub status_of_outcome : Outcome → ℕ
 status_of_outcome Done = 0
 status_of_outcome (Counted counts) = 0
 status_of_outcome Differing = 5
 
--- a file could not be read: nothing went out, and that was told
+-- a file couldn't be read: nothing was written, and that was reported
 abbrev pub OrderUnread : Order → Streams → Streams → ℕ → Type 0
 OrderUnread order old new status =
     (fault : ProgramFault) × StopsBy (files_of order) old.readings new.readings fault × (new.out ≡ old.out)
     × Reports (names_of order (side_of fault)) fault old.err new.err status
 
--- such an answer went out; what is told beside it was told, or a first part of that
+-- such an answer was written, and what is printed with it, or a prefix of that
 abbrev pub AnswerDone : (Result Answer ProgramFault → Type 0) → Streams → Streams → ℕ → Type 0
 AnswerDone IsSuch old new status =
     ForAnswer IsSuch (λ answer. Appends old.out new.out answer.text
     × AppendsPrefix old.err new.err (outcome_text answer.outcome) × (status ≡ status_of_outcome answer.outcome))
 
--- the order whose answer is such ended by a fault behind the reading of its files, which was told
+-- the order with such an answer ended, after its files were read, with a fault that was reported
 abbrev pub AnswerBroken : (Result Answer ProgramFault → Type 0) → Order → Streams → Streams → ℕ → Type 0
 AnswerBroken IsSuch order old new status =
     (fault : ProgramFault) × IsNoRead fault × AnswerEndsBy IsSuch old.out new.out fault
     × Reports (names_of order (side_of fault)) fault old.err new.err status
 
--- ---- words that are no order
+-- ---- arguments that are no order
 
--- help is asked for by one of these words
+-- one of these arguments asks for help
 abbrev pub is_help_word : List ℕ → Bool
 is_help_word word = list_any (bytes_eq word) (codes "help" ∷ codes "--help" ∷ codes "-h" ∷ [])
 
 abbrev pub asks_for_help : List (String Global) → Bool
 asks_for_help words = list_any (λ word. is_help_word (string_bytes word)) words
 
--- help is given only where it is asked for
+-- help is printed only if it is requested
 abbrev pub HelpsIfAsked : List (String Global) → NoOrder → Type 0
 HelpsIfAsked words (Help text) = IsTrue (asks_for_help words)
 HelpsIfAsked words other = Unit {0}
 
--- a text that was asked for goes out: the help, the version, or what faults mean
+-- a requested text is written: the help, the version, or explanations of faults
 abbrev pub TextGiven : List ℕ → Option (List ℕ) → Option (List ℕ) → Option (List ℕ) → Option (List ℕ) → ℕ → Type 0
 TextGiven text out out_new err err_new status =
     ((status ≡ 0) × Appends out out_new text × Keeps err err_new)
     ⊎ ((fault : ProgramFault) × WriteEndsBy out out_new text fault × Reports section_names fault err err_new status)
 
--- a text that is made goes out so, or memory was wanting for it
+-- a text that is made is written in this way, or an allocation for it failed
 abbrev pub TextMade : List ℕ → Option (List ℕ) → Option (List ℕ) → Option (List ℕ) → Option (List ℕ) → ℕ → Type 0
 TextMade text out out_new err err_new status =
     TextGiven text out out_new err err_new status ⊎ (Keeps out out_new × Reports section_names program.Memory err err_new status)
 
--- what is wrong with the words is told, or a first part of it
+-- what is wrong with the arguments is printed, or a prefix of it
 abbrev pub WrongWords : List ℕ → Option (List ℕ) → Option (List ℕ) → Option (List ℕ) → Option (List ℕ) → ℕ → Type 0
 WrongWords text out out_new err err_new status = (status ≡ 2) × Keeps out out_new × AppendsPrefix err err_new text
 
--- the help, or what is wrong, goes out
+-- the help, or what is wrong, is written
 abbrev pub Explains : Option (List ℕ) → Option (List ℕ) → Option (List ℕ) → Option (List ℕ) → NoOrder → ℕ → Type 0
 Explains out out_new err err_new (Help text) status = TextGiven (string_bytes text) out out_new err err_new status
 Explains out out_new err err_new (Usage text) status = WrongWords (string_bytes text) out out_new err err_new status
 Explains out out_new err err_new Memory status = Keeps out out_new × Reports section_names program.Memory err err_new status
 
--- ---- words
+-- ---- the version
 
--- the version goes out, and no text is asked for
+-- the version is written, and no text is requested
 abbrev pub VersionGiven : Streams → Streams → ℕ → Type 0
 VersionGiven old new status = (new.readings ≡ old.readings) × TextGiven version_line old.out new.out old.err new.err status

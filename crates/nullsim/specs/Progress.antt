@@ -1,4 +1,4 @@
--- What an order tells of how far it is, before all else that it tells.
+-- The progress that an order reports, before everything else that it reports.
 use Rattle.std.specs.Prelude.{◌≡◌, ◌⊎◌, ℕ, Bool, true, false, List, Option, Result}
 use Rattle.explanations.specs.declared.table.Table.{Table}
 use Rattle.vcd_dump.specs.Bytes.{AppendsPrefix}
@@ -15,40 +15,40 @@ use Rattle.nullsim.specs.Command.{AnswerBroken, AnswerDone, OrderUnread, Streams
 use Rattle.nullsim.specs.Noted.{AnswerNoted}
 use Rattle.nullsim.specs.Verbose.{AnswerBrokenVerbosely, OrderUnreadVerbosely}
 
--- the percents of such numbers of ticks went out, or a first part of them; nothing where they aren't asked for
+-- the percentages of such numbers of ticks were written, or a prefix of them; nothing if they aren't requested
 abbrev pub TellsProgress : Bool → Order → (List ℕ → Type 0) → Option (List ℕ) → Option (List ℕ) → Type 0
 TellsProgress false order Such old new = new ≡ old
 TellsProgress true order Such old new = (ticks : List ℕ) × Such ticks × AppendsPrefix old new (progress_text (horizon_told order) ticks)
 
 module _ (progress : Bool) (order : Order) (old : Streams) where
-  -- that, and then such an end
+  -- the progress, and then such an end
   abbrev pub Behind : (List ℕ → Type 0) → (Streams → Type 0) → Type 0
   Behind Such Ends = (told : Option (List ℕ)) × TellsProgress progress order Such old.err told × Ends (record old { err = told })
 
-  -- an order is done or broken, behind what is told of each
+  -- an order is done or broken off, after the progress of each
   abbrev pub Ended : (Streams → Type 0) → (Streams → Type 0) → Type 0
   Ended Done Broken = Behind (DoneTicks order) Done ⊎ Behind (BrokenTicks order) Broken
 
 -- ---- an order
 
--- such an answer, or the fault behind the reading of all files, is told
+-- such an answer, or the fault after all files were read, is reported
 abbrev pub Answered : (Result Answer ProgramFault → Type 0) → Bool → Order → Streams → Streams → ℕ → Type 0
 Answered IsSuch progress order old new status =
     Ended progress order old (λ told. AnswerDone IsSuch told new status) (λ told. AnswerBroken IsSuch order told new status)
 
--- its files were read, and its answer, or its fault, is told; or one could not be read, and nothing else is told
+-- its files were read, and its answer or its fault is reported; or one couldn't be read, and only that is reported
 abbrev pub OrderTold : Bool → KnownTexts → Order → Streams → Streams → ℕ → Type 0
 OrderTold progress known order old new status =
     OrderUnread order old new status
     ⊎ (ReadsAll (files_of order) old.readings new.readings × Answered (IsAnswer known order) progress order old new status)
 
--- ---- and its fault explained, or what is noted of its run told
+-- ---- and its fault explained, or the notes of its run printed
 
 abbrev pub AnsweredVerbosely : List Table → OrderTexts → Bool → Order → Streams → Streams → ℕ → Type 0
 AnsweredVerbosely tables texts progress order old new status =
     Ended progress order old (λ told. AnswerNoted texts order told new status) (λ told. AnswerBrokenVerbosely tables order told new status texts)
 
--- by the texts that were read, or by what the texts know that the system said of a failed read
+-- by the texts that were read, or by the system's message on a failed read, as the texts know it
 abbrev pub OrderToldVerbosely : Bool → List Table → Option (List ℕ) → KnownTexts → Order → Streams → Streams → ℕ → Type 0
 OrderToldVerbosely progress tables said known order old new status =
     OrderUnreadVerbosely tables order old new status said

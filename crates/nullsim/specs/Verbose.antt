@@ -1,4 +1,4 @@
--- What is told of a fault behind its line.
+-- What is printed for a fault after its line.
 use Rattle.std.specs.Prelude.{◌≡◌, ℕ, List, option_and_then, Option, None, Some, IfSome}
 use Rattle.explanations.specs.declared.subject.Subject.{Subject}
 use Rattle.explanations.specs.declared.subject.Subject.TheVariants as of
@@ -23,7 +23,7 @@ use Rattle.orders.specs.Readings.{StopsBy, files_of}
 use Rattle.nullsim.specs.AtFault.{name_at_fault, number_at_fault}
 use Rattle.nullsim.specs.Command.{Streams}
 
--- what a fault of a run is of
+-- the subject of a fault of a run
 abbrev pub subject_of_run : SimFault → Subject
 subject_of_run (sim.Setting fault) = of.Settings
 subject_of_run (sim.Bench fault) = of.Bench
@@ -47,12 +47,12 @@ subject_of Flush = of.Program
 
 -- ---- what is known of a fault
 
--- what is known at the end: the texts of the order, once they are read, and what the system said of a read or a write that failed
+-- what is known at the end: the texts of the order, once they are read, and the system's message on a read or a write that failed
 pub record Remembered : Type 0 where
   pub texts : Option OrderTexts
   pub said : Option (List ℕ)
 
--- what the system said of this fault, if it said something
+-- the system's message on this fault, if any
 abbrev pub reason_of : Option (List ℕ) → ProgramFault → Option (List ℕ)
 reason_of said (Read name) = said
 reason_of said (Output fault) = said
@@ -72,7 +72,7 @@ abbrev pub text_at_fault : ProgramFault → OrderTexts → Option (List ℕ)
 text_at_fault (Run side fault) texts = text_in_run (texts_on texts side) fault
 text_at_fault other texts = None
 
--- what is told of the fault of an order, by what is remembered
+-- what is printed for the fault of an order, by what is known
 abbrev pub explanation : List Table → Remembered → Order → ProgramFault → List ℕ
 explanation tables remembered order fault = told_at_hand tables (record {
   subject = subject_of fault;
@@ -84,24 +84,24 @@ explanation tables remembered order fault = told_at_hand tables (record {
   reason = reason_of remembered.said fault;
 })
 
--- ---- how an order ends by a fault
+-- ---- how an order ends with a fault
 
 module _ (tables : List Table) (texts : Option OrderTexts) (order : Order) (fault : ProgramFault) (old new : Option (List ℕ)) (status : ℕ) where
-  -- the line of a fault, and behind it what is told of it where the system said this, or a first part of each
+  -- the line of a fault, followed by what is printed for it with this message of the system, or a prefix of each
   abbrev pub ReportsVerbosely : Option (List ℕ) → Type 0
   ReportsVerbosely said =
       (mid : Option (List ℕ)) × Reports (names_of order (side_of fault)) fault old mid status
       × AppendsPrefix mid new (explanation tables (record { texts = texts; said = said }) order fault)
 
 module _ (tables : List Table) (order : Order) (old new : Streams) (status : ℕ) where
-  -- a file could not be read: nothing went out, and that was told and explained, by what the texts know that the system said
+  -- a file couldn't be read: nothing was written, and that was reported and explained, with the system's message as the texts know it
   abbrev pub OrderUnreadVerbosely : Option (List ℕ) → Type 0
   OrderUnreadVerbosely known =
       (fault : ProgramFault) × StopsBy (files_of order) old.readings new.readings fault × (new.out ≡ old.out)
       × ((said : Option (List ℕ)) × IfSome said (λ words. IfSome known (λ all. words ≡ all))
       × ReportsVerbosely tables None order fault old.err new.err status said)
 
-  -- it ended by a fault behind the reading of its files, which was told and explained by these texts, and by what the system said of a write
+  -- it ended, after its files were read, with a fault that was reported and explained by these texts and by the system's message on a write
   abbrev pub AnswerBrokenVerbosely : OrderTexts → Type 0
   AnswerBrokenVerbosely texts =
       (fault : ProgramFault) × IsNoRead fault × AnswerEndsBy (IsAnswerTo order texts) old.out new.out fault

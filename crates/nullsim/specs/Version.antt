@@ -1,4 +1,4 @@
--- The version, and the words that ask for it.
+-- The version, and the arguments that ask for it.
 use Rattle.std.specs.Prelude.{ℕ, ◌==◌, ◌&&◌, Bool, List, [], ◌∷◌, length, String, codes, bytes_eq, string_bytes}
 use Rattle.std.specs.List.{list_any}
 use Rattle.std.specs.declared.alloc.Global.{Global}
@@ -8,17 +8,17 @@ use Rattle.vcd_dump.specs.Dump.{line}
 abbrev pub version : List ℕ
 version = codes "nullsim 1"
 
--- what goes out where it is asked for
+-- what is written if it is requested
 abbrev pub version_line : List ℕ
 version_line = line version
 
--- it is asked for by one of these words
+-- one of these arguments asks for it
 abbrev pub is_version_word : List ℕ → Bool
 is_version_word word = list_any (bytes_eq word) (codes "--version" ∷ codes "-V" ∷ [])
 
 abbrev pub has_version_word : List (String Global) → Bool
 has_version_word words = list_any (λ word. is_version_word (string_bytes word)) words
 
--- which stands alone
+-- and is the only one
 abbrev pub asks_for_version : List (String Global) → Bool
 asks_for_version words = (length words == 1) && has_version_word words

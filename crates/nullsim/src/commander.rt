@@ -1,4 +1,4 @@
-//! The program with words.
+//! The program with arguments.
 ghost use Rattle.std.specs.Prelude.{◌≡◌, ◌≢◌, None, IfErr, OnErr, OnOk, IsTrue};
 ghost use Rattle.std.specs.Io.KnownBytes.{Appends, Keeps};
 ghost use Rattle.vcd_dump.specs.Bytes.{AppendsPrefix};
@@ -26,15 +26,15 @@ use std::alloc::Global;
 use std::io::Write;
 use vcd_dump::{DumpFault, write_all_bytes};
 
-/// Carries out what the words ask for, which don't have the program's own name, as
-/// [`answer_order`] does; answers the exit status.
+/// Carries out what the arguments, without the program's own name, ask for, and returns the exit status. An
+/// order is carried out as by [`answer_order`].
 ///
-/// Where the words ask for it, what a fault means follows its line, as [`answer_verbosely`] has it, or
-/// what faults mean goes to `out`, and no text is asked for.
+/// With `--verbose`, an explanation follows the line of a fault, as [`answer_verbosely`] writes it. For
+/// `explain`, the explanations are written to `out`, and no text is requested.
 ///
-/// Where the words are just `--version` or `-V` the version goes to `out`, and where a word asks for help
-/// that does; the status is 0 then. Where the words are wrong the
-/// status is 2, and some lines that say so go to `err`; then no text is asked for.
+/// If the only argument is `--version` or `-V`, the version is written to `out`; if an argument asks for help,
+/// the help is. The status is 0 then. If the arguments are wrong, the status is 2, a message is written to
+/// `err`, and no text is requested.
 pub fn command<T: Texts, W: Write, E: Write>(
     alloc: Global,
     words: &[String],
@@ -68,7 +68,7 @@ pub fn command<T: Texts, W: Write, E: Write>(
     }
 }
 
-/// Carries out an order, verbosely or not, and answers the exit status.
+/// Carries out an order, verbosely or not, and returns the exit status.
 fn answer_as_asked<T: Texts, W: Write, E: Write>(
     alloc: Global,
     order: &Order<'_>,
@@ -90,14 +90,13 @@ fn answer_as_asked<T: Texts, W: Write, E: Write>(
     }
 }
 
-/// Carries out an order, and answers the exit status.
+/// Carries out an order, and returns the exit status.
 ///
-/// 0 says that this is done, 1 that an input is refused, 3 that a read or a write failed, 4 that
-/// memory was wanting, and 5 that it is done and what was compared differs. For 1, 3 and 4 one line
-/// `WHERE:LINE: NAME` goes to `err`, and for 0 the line of the counts where they are asked for. Where that
-/// is asked for, a run whose dump is written tells how far it is on `err` before that: the percent of the
-/// ticks that are known, each time it is greater, over what stood there, and a line feed at last. A fault
-/// of `err` is ignored.
+/// The status is 0 if this is done, 1 if an input is refused, 3 if a read or a write failed, 4 if an allocation
+/// failed, and 5 if this is done and what was compared differs. For 1, 3 and 4, one line `WHERE:LINE: NAME` is
+/// written to `err`; for 0, the line of counts if it is requested. With `progress`, a run whose dump is written
+/// first reports its progress on `err`: the percentage of the ticks that are known, each time it is greater, in
+/// place of the last one, and a line feed at the end. A fault of `err` is ignored.
 pub fn answer_order<T: Texts, W: Write, E: Write>(
     alloc: Global,
     order: &Order<'_>,
@@ -117,7 +116,7 @@ pub fn answer_order<T: Texts, W: Write, E: Write>(
     }
 }
 
-/// The same, behind the reading of the order's files.
+/// Does the same after the order's files were read.
 fn answer_read<W: Write, E: Write>(
     alloc: Global,
     order: &Order<'_>,
@@ -137,8 +136,8 @@ fn answer_read<W: Write, E: Write>(
     }
 }
 
-/// Writes what is told beside an answer, or a first part of it where the writer fails, and answers the
-/// exit status. Takes no memory.
+/// Writes what is printed with an answer, or a prefix of it if the writer fails, and returns the exit status.
+/// Allocates no memory.
 pub(crate) fn tell_outcome<E: Write>(err: &mut E, outcome: Outcome) -> u8
     ensures status { result ≡ status_of_outcome outcome }
     ensures told { AppendsPrefix (E.contents err.old) (E.contents err.new) (outcome_text outcome) }
@@ -153,10 +152,10 @@ pub(crate) fn tell_outcome<E: Write>(err: &mut E, outcome: Outcome) -> u8
     }
 }
 
-/// Writes the line `events E changes C nulls N rounds R`. Takes no memory.
+/// Writes the line `events E changes C nulls N rounds R`. Allocates no memory.
 ///
 /// # Errors
-/// `Write` or `WroteNothing`; a first part of the line went out then.
+/// `Write` or `WroteNothing`; a prefix of the line has then been written.
 pub fn write_counts_line<E: Write>(err: &mut E, counts: Counts) -> Result<(), DumpFault>
     ensures ok { OnOk result (Appends (E.contents err.old) (E.contents err.new) (counts_line counts)) }
     ensures err { OnErr result (AppendsPrefix (E.contents err.old) (E.contents err.new) (counts_line counts)) }
@@ -173,7 +172,7 @@ pub fn write_counts_line<E: Write>(err: &mut E, counts: Counts) -> Result<(), Du
     )
 }
 
-/// Writes the line of counts, whose numbers are these texts.
+/// Writes the line of counts with these numbers as text.
 fn write_numbers<'a, E: Write>(
     err: &mut E,
     events: &'a str,
@@ -201,7 +200,7 @@ fn write_numbers<'a, E: Write>(
     write_pieces(err, &pieces)
 }
 
-/// Writes what the faults of a name mean, and flushes once; answers the exit status.
+/// Writes the explanations of the faults with this name, and flushes once; returns the exit status.
 fn tell_fault<W: Write, E: Write>(
     alloc: Global,
     tables: &[Table],
@@ -219,7 +218,7 @@ fn tell_fault<W: Write, E: Write>(
     }
 }
 
-/// Writes the names of all faults, and flushes once; answers the exit status.
+/// Writes the names of all faults, and flushes once; returns the exit status.
 fn tell_names<W: Write, E: Write>(alloc: Global, tables: &[Table], out: &mut W, err: &mut E) -> u8
     ensures told { TextMade (all_names tables.now) (W.contents out.old) (W.contents out.new)
         (E.contents err.old) (E.contents err.new) result }
@@ -231,7 +230,7 @@ fn tell_names<W: Write, E: Write>(alloc: Global, tables: &[Table], out: &mut W, 
     }
 }
 
-/// Writes the help, or what is wrong with the words; answers the exit status.
+/// Writes the help, or what is wrong with the arguments; returns the exit status.
 fn explain<W: Write, E: Write>(no_order: NoOrder, out: &mut W, err: &mut E) -> u8
     ensures { Explains (W.contents out.old) (W.contents out.new)
         (E.contents err.old) (E.contents err.new) no_order result }
@@ -246,7 +245,7 @@ fn explain<W: Write, E: Write>(no_order: NoOrder, out: &mut W, err: &mut E) -> u
     }
 }
 
-/// Writes a text that was asked for, and flushes once; answers the exit status.
+/// Writes a requested text, and flushes once; returns the exit status.
 pub(crate) fn give_text<W: Write, E: Write>(text: &str, out: &mut W, err: &mut E) -> u8
     ensures given { TextGiven text.now (W.contents out.old) (W.contents out.new)
         (E.contents err.old) (E.contents err.new) result }

@@ -1,4 +1,4 @@
-//! The simulator as its callers see it: runs, decks, and the program without and with words.
+//! The interface of the simulator for callers: runs, decks, and the program without and with arguments.
 #![tactic(auto)]
 
 mod commander;

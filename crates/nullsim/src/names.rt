@@ -1,4 +1,4 @@
-//! The name at fault among the words of a command.
+//! The name at fault among the arguments.
 ghost use Rattle.std.specs.Prelude.{◌≡◌, option_and_then, option_map, IfOk};
 ghost use Rattle.std.specs.List.{find};
 ghost use Rattle.netlist.specs.Names.{seen_names};
@@ -14,8 +14,12 @@ use run_pairs::Side;
 use std::alloc::{AllocError, Global};
 use std::slice::from_ref;
 
-/// The name that a fault is of, where a word of the command gave it: the first one that no net has, for
-/// `diff` of neither circuit, where the circuit's text is one; or that of the input whose drive is faulty.
+/// Returns the name at fault, if an argument gave it: the first name that no net of the circuit has (for
+/// `diff`, of either circuit), if the circuit's text is accepted; or the name of the input whose drive is
+/// refused.
+///
+/// # Errors
+/// An allocation failed.
 pub(crate) fn name_at_fault<'o>(
     alloc: Global,
     order: &'o Order<'_>,
@@ -48,7 +52,8 @@ fn name_in_run<'o>(
     }
 }
 
-/// The first name that an order asks for and no net of its netlist has, for `diff` of neither of the two.
+/// Returns the first name that an order gives and no net of its netlist has; for `diff`, no net of either
+/// netlist.
 fn unknown_asked<'o>(
     alloc: Global,
     order: &'o Order<'_>,
@@ -71,7 +76,7 @@ fn unknown_asked<'o>(
     }
 }
 
-/// The netlist of a text, where it is one.
+/// Returns the netlist of a text, if it is one.
 fn netlist_in(alloc: Global, text: &[u8]) -> Result<Option<Netlist>, AllocError>
     ensures { IfOk result (λ netlist. netlist ≡ netlist_in text.now) }
 {
@@ -82,7 +87,7 @@ fn netlist_in(alloc: Global, text: &[u8]) -> Result<Option<Netlist>, AllocError>
     }
 }
 
-/// The first of these names that no net of either netlist has, where there are both.
+/// Returns the first of these names that no net of either netlist has, if there are both netlists.
 fn first_in_neither<'a>(
     names: &[&'a [u8]],
     one: &Option<Netlist>,
@@ -102,7 +107,7 @@ fn first_unknown<'a>(names: &[&'a [u8]], one: &Netlist, other: &Netlist) -> Opti
     names.iter().copied().find(|name| one.find(name).is_none() && other.find(name).is_none())
 }
 
-/// The nets that an order asks for by name.
+/// Returns the nets that an order names.
 fn names_asked<'o, 'a>(order: &'o Order<'a>) -> &'o [&'a [u8]]
     ensures { seen_names result.now ≡ names_asked order.now }
 {
@@ -127,7 +132,7 @@ fn names_shown<'o, 'a>(show: &'o Selection<'a>) -> &'o [&'a [u8]]
     }
 }
 
-/// The place of the drive at fault.
+/// Returns the place of the drive at fault.
 fn place_of_drive(fault: DriveFault) -> Option<usize>
     ensures { result ≡ place_of_drive fault }
 {
@@ -140,7 +145,7 @@ fn place_of_drive(fault: DriveFault) -> Option<usize>
     }
 }
 
-/// The name of the input that the drive of a place drives, if there is one.
+/// Returns the name of the input that is driven by the drive at a place, if there is such a drive.
 fn input_at<'o>(order: &'o Order<'_>, place: Option<usize>) -> Option<&'o [u8]>
     ensures { option_map (λ name. name.now) result ≡ option_and_then (input_driven order.now) place }
 {

@@ -1,4 +1,4 @@
-//! What is noted of the run of an order that is done.
+//! The notes on the run of an order that is done.
 ghost use Rattle.std.specs.Prelude.{◌≡◌, IfSome};
 ghost use Rattle.vcd_dump.specs.Bytes.{AppendsPrefix};
 ghost use Rattle.prepared_runs.specs.Source.{seen_source};
@@ -15,8 +15,8 @@ use run_pairs::Side;
 use std::alloc::Global;
 use std::io::Write;
 
-/// Writes what is told beside an answer, and behind it what is noted of the order's run, or a first part
-/// of each where the writer fails; answers the exit status. Nothing is noted where a growth is refused.
+/// Writes what is printed with an answer, followed by the notes on the order's run, or a prefix of each if the
+/// writer fails; returns the exit status. If an allocation fails, there are no notes.
 pub(crate) fn tell_noted<E: Write>(
     alloc: Global,
     order: &Order<'_>,
@@ -33,7 +33,7 @@ pub(crate) fn tell_noted<E: Write>(
     status
 }
 
-/// Writes what is noted of an order's run.
+/// Writes the notes on an order's run.
 fn write_notes<E: Write>(alloc: Global, order: &Order<'_>, texts: &OrderTexts, err: &mut E)
     ensures { AppendsPrefix (E.contents err.old) (E.contents err.new) (order_notes texts.now order.now) }
 {
@@ -43,7 +43,7 @@ fn write_notes<E: Write>(alloc: Global, order: &Order<'_>, texts: &OrderTexts, e
     }
 }
 
-/// What is noted of an order's run, if there is one, its texts are accepted and there is memory for it.
+/// Returns the notes on an order's run, or `None` if there is no run, a text is refused or an allocation fails.
 fn notes_of(alloc: Global, order: &Order<'_>, texts: &OrderTexts) -> Option<Vec<u8>>
     ensures { IfSome result (λ notes. notes.items ≡ order_notes texts.now order.now) }
 {
@@ -56,7 +56,7 @@ fn notes_of(alloc: Global, order: &Order<'_>, texts: &OrderTexts) -> Option<Vec<
     Some(notes)
 }
 
-/// The line that tells that a seed is given and no events are drawn, where it is so.
+/// Returns the note on a seed that is given although no events are drawn, or the empty text.
 fn picks_note(picks: PickOptions<'_>) -> &'static str
     ensures { result.now ≡ picks_note picks.entry }
 {
@@ -70,13 +70,13 @@ fn drawn_note(picks: u64) -> &'static str
     ensures { result.now ≡ drawn_note picks }
 {
     if picks == 0 {
-        "note: a seed without picks, which draws no events\n"
+        "note: --seed has no effect without --picks\n"
     } else {
         ""
     }
 }
 
-/// The run of an order that asks for one run to a horizon, by its options and the horizon.
+/// Returns the run of an order for one run to a horizon: its options and the horizon.
 fn run_of<'a>(order: &Order<'a>) -> Option<(SourceOptions<'a>, u64)>
     ensures { result ≡ run_of order.now }
 {
@@ -95,7 +95,7 @@ fn run_of<'a>(order: &Order<'a>) -> Option<(SourceOptions<'a>, u64)>
     }
 }
 
-/// The source of these options and texts. Nothing is picked.
+/// Returns the source of these options and texts. No events are picked.
 fn noted_source<'t>(texts: &'t SourceTexts, options: SourceOptions<'_>) -> Source<'t>
     ensures { seen_source result ≡ noted_source options.entry texts.now }
 {

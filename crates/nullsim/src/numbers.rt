@@ -1,4 +1,4 @@
-//! The number at fault among the words of a command.
+//! The number at fault among the arguments.
 ghost use Rattle.std.specs.Prelude.{◌≡◌, option_map};
 ghost use Rattle.nullsim.specs.AtFault.{diagram_in, draws_in, last_tick, number_at_fault, number_in_run, number_of_columns, number_of_draws, number_of_setting, number_of_ticks, options_on, ticks_in};
 
@@ -12,7 +12,7 @@ use timing_diagram::ColumnsFault;
 use timing_text::OptionFault;
 use wave_diff::ComparedFault;
 
-/// The number that a fault is of, where a word of the command gave it.
+/// Returns the number at fault, if an argument gave it.
 pub(crate) fn number_at_fault(order: &Order<'_>, fault: ProgramFault<'_>) -> Option<u64>
     ensures { result ≡ number_at_fault order.now fault.entry }
 {
@@ -72,7 +72,7 @@ fn number_of_draws(fault: DriveFault, draws: Draws) -> Option<u64>
     }
 }
 
-/// The options of an order's run on a side.
+/// Returns the options of an order's run on a side.
 fn options_on<'o, 'a>(order: &'o Order<'a>, side: Side) -> Option<SourceOptions<'a>>
     ensures { result ≡ options_on order.now side }
 {
@@ -91,7 +91,7 @@ fn options_on<'o, 'a>(order: &'o Order<'a>, side: Side) -> Option<SourceOptions<
     }
 }
 
-/// The last tick that an order was given.
+/// Returns the last tick that an order gives.
 fn last_tick(order: &Order<'_>) -> Option<u64>
     ensures { result ≡ last_tick order.now }
 {
@@ -109,7 +109,7 @@ fn last_tick(order: &Order<'_>) -> Option<u64>
     }
 }
 
-/// The diagram that an order draws.
+/// Returns the diagram that an order draws.
 fn diagram_in<'o, 'a>(order: &'o Order<'a>) -> Option<&'o DiagramView<'a>>
     ensures { option_map (λ view. view.now) result ≡ diagram_in order.now }
 {
@@ -119,7 +119,7 @@ fn diagram_in<'o, 'a>(order: &'o Order<'a>) -> Option<&'o DiagramView<'a>>
     }
 }
 
-/// The ticks that an order compares.
+/// Returns the ticks that an order compares.
 fn ticks_in(order: &Order<'_>) -> Option<DiffTicks>
     ensures { result ≡ ticks_in order.now }
 {
@@ -129,7 +129,7 @@ fn ticks_in(order: &Order<'_>) -> Option<DiffTicks>
     }
 }
 
-/// What an order draws for inputs.
+/// Returns the draws of an order for inputs.
 fn draws_in(order: &Order<'_>) -> Option<Draws>
     ensures { result ≡ draws_in order.now }
 {

@@ -1,4 +1,4 @@
-//! What the system says of a write that failed.
+//! The system's message on a write that failed.
 ghost use Rattle.std.specs.Prelude.{◌≡◌, None};
 ghost use Rattle.std.specs.Io.{WritesAtMost};
 ghost use Rattle.std.specs.Io.KnownBytes.{Keeps, WriteAppends};
@@ -7,8 +7,8 @@ use std::alloc::Global;
 use std::io::{self, Error, Write};
 use std::marker::{Brand, PhantomData};
 
-/// A writer that hands everything on to one that is lent to it, and keeps what the system says of each
-/// failure, such as `No space left on device (os error 28)`; nothing where a growth is refused.
+/// A writer that passes everything on to a borrowed writer and keeps the system's message on each failure, such
+/// as `No space left on device (os error 28)`, unless an allocation for it fails.
 #[derive(Drop)]
 pub(crate) struct WithReason<'w, W> {
     alloc: Global,
@@ -17,7 +17,7 @@ pub(crate) struct WithReason<'w, W> {
 }
 
 impl<'w, W: Write> WithReason<'w, W> {
-    /// The writer that is lent, which hasn't failed so far.
+    /// Returns a writer over the borrowed one, without a failure so far.
     pub(crate) fn new(alloc: Global, beneath: &'w mut W) -> WithReason<'w, W>
         ensures same_writer { result.beneath.ghost_name ≡ beneath.entry.ghost_name }
         ensures bytes { result.beneath.now ≡ beneath.old }
@@ -30,7 +30,7 @@ impl<'w, W: Write> WithReason<'w, W> {
         }
     }
 
-    /// The writer that was lent, and what the system said of the last failure, if it said something.
+    /// Returns the borrowed writer, and the system's message on the last failure, if any.
     pub(crate) fn end(self) -> (&'w mut W, Option<String>)
         ensures same_writer { result.0.ghost_name ≡ self.entry.beneath.ghost_name }
         ensures bytes { result.0.now ≡ self.entry.beneath.now }
@@ -61,7 +61,7 @@ impl<'w, W: Write> WithReason<'w, W> {
         }
     }
 
-    /// Keeps what the system says of a failure, and hands it on.
+    /// Keeps the system's message on a failure, and returns the failure.
     fn heard(&mut self, error: Error) -> Error
         ensures same_writer { self.new.beneath.ghost_name ≡ self.old.beneath.ghost_name }
         ensures bytes { self.new.beneath.now ≡ self.old.beneath.now }
@@ -72,7 +72,8 @@ impl<'w, W: Write> WithReason<'w, W> {
     }
 }
 
-/// Which writer is lent, by a type: so that whoever writes to a [`NamedWriter`] can't put another in its place.
+/// Names a borrowed writer by a type, so that code that writes to a [`NamedWriter`] can't put another writer in
+/// its place.
 pub(crate) trait WriterName {
     ghost use Rattle.std.specs.Prelude.{ℕ};
 
@@ -83,7 +84,7 @@ impl WriterName for Brand {
     ghost name = { 0 };
 }
 
-/// A writer with reasons, of which the writer that is lent has this name.
+/// A writer with reasons whose borrowed writer has this name.
 #[derive(Drop)]
 pub(crate) struct NamedWriter<'w, W, N: WriterName> {
     pub(crate) writer: WithReason<'w, W>,

@@ -1,4 +1,4 @@
-//! An order that tells how far it is, and what the system says where its answer can't be written.
+//! An order that reports its progress, and the system's message if its answer can't be written.
 ghost use Rattle.std.specs.Prelude.{◌≡◌, IfErr, IfOk, OnErr, OnOk};
 ghost use Rattle.nullsim.specs.Progress.{TellsProgress};
 ghost use Rattle.orders.specs.OrderAnswer.{IsAnswerTo};
@@ -13,8 +13,8 @@ use std::alloc::Global;
 use std::io::Write;
 use std::marker::{Brand, PhantomData};
 
-/// Carries out an order over the texts of its files, as [`Order::carry_out`] does. Where that is asked for,
-/// a run whose dump is written tells how far it is on `err`, in percent, and ends that line.
+/// Carries out an order over the texts of its files, as [`Order::carry_out`] does. With `progress`, a run whose
+/// dump is written reports its progress on `err`, in percent, and ends that line.
 pub(crate) fn carry_out<'a, W: Write, E: Write>(
     alloc: Global,
     order: &Order<'a>,
@@ -44,8 +44,8 @@ pub(crate) fn carry_out<'a, W: Write, E: Write>(
     carried
 }
 
-/// Carries out an order as [`carry_out`] does; with that what the system said of a write that failed, if it
-/// said something.
+/// Carries out an order as [`carry_out`] does. Also returns the system's message on a write that failed, if
+/// any.
 pub(crate) fn carry_out_heard<'a, W: Write, E: Write>(
     alloc: Global,
     order: &Order<'a>,
@@ -74,7 +74,7 @@ pub(crate) fn carry_out_heard<'a, W: Write, E: Write>(
     (carried, said)
 }
 
-/// The same over such a writer, which is handed back.
+/// Does the same over such a writer, and returns the writer too.
 fn carry_out_named<'a, 'w, N: WriterName, W: Write, E: Write>(
     alloc: Global,
     order: &Order<'a>,

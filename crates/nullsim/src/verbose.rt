@@ -17,12 +17,13 @@ use std::alloc::{AllocError, Global};
 use std::io::Write;
 use vcd_dump::write_all_bytes;
 
-/// Carries out an order and answers the exit status, as [`answer_order`](crate::answer_order) does.
-/// Where a fault is told, what it means goes to `err` behind its line: the line of the text at fault and
-/// the word at fault, the name or the number at fault that the order has, what the system said of a failed
-/// read, as the texts know it, or of a failed write, the meaning, and what is wanted in its place. Where
-/// none is, what someone should know of the run goes there, as [`notes_text`](run_notes::notes_text) tells
-/// it, where there is memory for it.
+/// Carries out an order and returns the exit status, as [`answer_order`](crate::answer_order) does.
+///
+/// An explanation follows the line of a fault on `err`: the line of the text and the word at fault, the name or
+/// the number at fault in the order, the system's message on a failed read, as the texts know it, or on a
+/// failed write, the meaning, and what is needed instead. Without a fault, the notes on the run are written
+/// there, as [`notes_text`](run_notes::notes_text) returns them. If an allocation for either fails, it is left
+/// out.
 pub fn answer_verbosely<T: Texts, W: Write, E: Write>(
     alloc: Global,
     order: &Order<'_>,
@@ -43,7 +44,7 @@ pub fn answer_verbosely<T: Texts, W: Write, E: Write>(
     }
 }
 
-/// The same, behind the reading of the order's files.
+/// Does the same after the order's files were read.
 fn answer_read<W: Write, E: Write>(
     alloc: Global,
     order: &Order<'_>,
@@ -68,8 +69,8 @@ fn answer_read<W: Write, E: Write>(
     }
 }
 
-/// Writes the line of an order's fault, and behind it what is told of the fault, by the texts that were
-/// read and by what the system said; answers the exit status.
+/// Writes the line of an order's fault, followed by its explanation from the texts that were read and the
+/// system's message; returns the exit status.
 fn report_verbosely<E: Write>(
     alloc: Global,
     tables: &[Table],
@@ -88,8 +89,8 @@ fn report_verbosely<E: Write>(
     status
 }
 
-/// Writes what is told of an order's fault, or a first part of it where the writer fails; nothing where a
-/// growth is refused.
+/// Writes the explanation of an order's fault, or a prefix of it if the writer fails; nothing if an allocation
+/// fails.
 fn explain_fault<E: Write>(
     alloc: Global,
     tables: &[Table],
@@ -109,7 +110,7 @@ fn explain_fault<E: Write>(
     }
 }
 
-/// What is told of an order's fault.
+/// Returns the explanation of an order's fault.
 fn explanation<'a>(
     alloc: Global,
     tables: &[Table],
@@ -134,7 +135,7 @@ fn explanation<'a>(
     fault_text(alloc, tables, at_hand)
 }
 
-/// The text at fault, where the texts were read.
+/// Returns the text at fault, if the texts were read.
 fn text_if_read<'a>(fault: ProgramFault<'_>, texts: Option<&'a OrderTexts>) -> Option<&'a [u8]>
     ensures { option_map (λ text. text.now) result
         ≡ option_and_then (text_at_fault fault.entry) (option_map (λ texts. texts.now) texts.entry) }
@@ -163,7 +164,7 @@ fn text_in_run(fault: SimFault, texts: &SourceTexts) -> Option<&[u8]>
     }
 }
 
-/// The name at fault, where the texts were read.
+/// Returns the name at fault, if the texts were read.
 fn name_if_read<'o>(
     alloc: Global,
     order: &'o Order<'_>,
@@ -179,7 +180,7 @@ fn name_if_read<'o>(
     }
 }
 
-/// What the system said of a fault, if it said something.
+/// Returns the system's message on a fault, if any.
 fn reason_of<'a>(fault: ProgramFault<'_>, said: Option<&'a [u8]>) -> Option<&'a [u8]>
     ensures { option_map (λ reason. reason.now) result ≡ reason_of (option_map (λ said. said.now) said.entry) fault.entry }
 {
@@ -200,7 +201,7 @@ pub(crate) fn write_told<E: Write>(err: &mut E, told: &[u8])
     let _ = write_all_bytes(err, told);
 }
 
-/// What a fault is of.
+/// Returns the subject of a fault.
 fn subject(fault: ProgramFault<'_>) -> Subject
     ensures { result ≡ subject_of fault.entry }
 {

@@ -1,4 +1,4 @@
-//! The version, for words that ask for it.
+//! The version, for arguments that ask for it.
 ghost use Rattle.std.specs.Prelude.{◌≡◌};
 ghost use Rattle.nullsim.specs.Command.{TextGiven};
 ghost use Rattle.nullsim.specs.Version.{asks_for_version, has_version_word, version_line};
@@ -6,10 +6,10 @@ ghost use Rattle.nullsim.specs.Version.{asks_for_version, has_version_word, vers
 use crate::commander::give_text;
 use std::io::Write;
 
-/// The version of dumps, which each tells in its `$version`, as a line.
+/// The line with the version that each dump has in its `$version`.
 const VERSION: &str = "nullsim 1\n";
 
-/// Whether the words are just `--version` or `-V`.
+/// Returns whether the only argument is `--version` or `-V`.
 pub(crate) fn asks_for_version(words: &[String]) -> bool
     ensures { result ≡ asks_for_version words.now }
 {
@@ -24,7 +24,7 @@ fn has_version_word(words: &[String]) -> bool
         .any(|word| matches!(word.as_str(), "--version" | "-V"))
 }
 
-/// Writes the version; answers the exit status.
+/// Writes the version; returns the exit status.
 pub(crate) fn give_version<W: Write, E: Write>(out: &mut W, err: &mut E) -> u8
     ensures { TextGiven version_line (W.contents out.old) (W.contents out.new)
         (E.contents err.old) (E.contents err.new) result }

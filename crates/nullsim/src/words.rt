@@ -1,15 +1,15 @@
-//! What words ask for.
+//! What arguments ask for.
 ghost use Rattle.std.specs.Prelude.{◌≡◌, IfErr};
 ghost use Rattle.nullsim.specs.Command.{HelpsIfAsked, asks_for_help};
 
 use command_line::{Asked, NoOrder, parse_words, with_tip};
 use std::alloc::Global;
 
-/// What the words ask for, which don't have the program's own name.
+/// Returns what the arguments, without the program's own name, ask for.
 ///
 /// # Errors
-/// The text of the help where one of the words `help`, `--help` and `-h` asks for it, a text that
-/// says what is wrong with the words, with a tip where there is one, or `Memory` where a growth was refused.
+/// `Help` with the text of the help, if `help`, `--help` or `-h` asks for it; `Usage` with a text that says
+/// what is wrong with the arguments, and a tip if any; or `Memory` if an allocation fails.
 pub fn asked_by_words<'a>(alloc: Global, words: &'a [String]) -> Result<Asked<'a>, NoOrder>
     ensures { IfErr result (HelpsIfAsked words.now) }
 {
@@ -21,7 +21,7 @@ pub fn asked_by_words<'a>(alloc: Global, words: &'a [String]) -> Result<Asked<'a
     }
 }
 
-/// Wrong words, of which the text says how, and a tip where there is one.
+/// Returns the usage error with this text and a tip, if any.
 fn told(alloc: Global, text: String, words: &[String]) -> NoOrder
     ensures { HelpsIfAsked words.now result }
 {

@@ -1,5 +1,5 @@
-//! The program: without words it reads a deck on standard input and writes its dump, and with words
-//! it carries out a command over files.
+//! The program. Without arguments it reads a deck from standard input and writes its dump; with arguments it
+//! carries out a command over files.
 #![tactic(auto)]
 
 mod reasons;
@@ -15,7 +15,7 @@ use std::rt::Files;
 #[derive(Drop)]
 struct Folder<'a, R> {
     rt: &'a R,
-    /// What the system says of the file that was read last.
+    /// The system's message on the file that was read last, if any.
     said: Option<String>,
 }
 
@@ -42,7 +42,7 @@ impl<R: Files + AllocGlobal> Texts for Folder<'_, R> {
     }
 }
 
-/// The words behind the program's own name.
+/// Returns the arguments after the program's own name.
 fn words_given(rt: &HostRuntime) -> io::Result<Vec<String>> {
     Ok(std::env::args(rt)?.skip(1).collect(rt.alloc())?)
 }
@@ -64,7 +64,7 @@ fn main(rt: HostRuntime) -> ExitCode {
             4
         }
         Err(_) => {
-            let _ = err.write_all(b"error: a word of the command line is no UTF-8 text\n");
+            let _ = err.write_all(b"error: an argument isn't UTF-8 text\n");
             2
         }
     };

@@ -1,16 +1,17 @@
-//! What the system says of a file that can't be read.
+//! The system's message on a file that can't be read.
 ghost use Rattle.std.specs.Prelude.{◌≡◌};
 
 use std::alloc::Global;
 use std::io::{self, Error, Read};
 
-/// What the system says of a failure, such as `No such file or directory (os error 2)`; nothing where a
-/// growth is refused.
+/// Returns the system's message on a failure, such as `No such file or directory (os error 2)`, or `None` if an
+/// allocation fails.
 pub(crate) fn said_of(alloc: Global, error: Error) -> Option<String> {
     format!(in alloc; "{error}").ok()
 }
 
-/// A reader that hands everything on from one beneath it, and keeps what the system says of each failure.
+/// A reader that passes everything on from the reader beneath it and keeps the system's message on each
+/// failure.
 #[derive(Drop)]
 pub(crate) struct WithReason<R: Drop> {
     alloc: Global,
@@ -19,7 +20,7 @@ pub(crate) struct WithReason<R: Drop> {
 }
 
 impl<R: Drop> WithReason<R> {
-    /// The reader beneath, which hasn't failed so far.
+    /// Returns a reader over the one beneath, without a failure so far.
     pub(crate) fn new(alloc: Global, beneath: R) -> WithReason<R> {
         WithReason {
             alloc,
@@ -28,12 +29,12 @@ impl<R: Drop> WithReason<R> {
         }
     }
 
-    /// What the system said of the last failure, if it said something.
+    /// Returns the system's message on the last failure, if any.
     pub(crate) fn into_said(self) -> Option<String> {
         self.said
     }
 
-    /// Keeps what the system says of a failure, and hands it on.
+    /// Keeps the system's message on a failure, and returns the failure.
     fn heard(&mut self, error: Error) -> Error
         ensures beneath { self.new.beneath ≡ self.old.beneath }
         ensures same { result ≡ error }

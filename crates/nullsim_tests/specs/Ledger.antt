@@ -1,11 +1,11 @@
--- Texts that note what is asked of them.
+-- Texts that record the requests to them.
 use Rattle.std.specs.Prelude.{ℕ, map, option_map, Option}
 use Rattle.std.specs.declared.vec.Vec.{Vec}
 use Rattle.std.specs.declared.alloc.Global.{Global}
 use Rattle.program_io.specs.declared.input.ReadFault.{ReadFault}
 use Rattle.orders.specs.Readings.{KnownReadings, Reading}
 
--- a name, and why its text could not be read, if it couldn't
+-- a name, and why its text couldn't be read, if it couldn't
 abbrev pub Note : Type 0
 Note = Vec ℕ Global × Option ReadFault
 

@@ -5,7 +5,7 @@ use std::alloc::Global;
 use std::process::Abort;
 use worked_examples::dumps::INVERTER_DUMP;
 
-// The answer to a deck: its status, what goes to standard output, and the fault line.
+// The answer to a deck: the status, standard output, and the fault line.
 fn tells(rt: &impl Abort, alloc: Global, deck: &[u8], status: u8, dump: &[u8], fault: &[u8]) {
     let (mut input, mut out, mut err) = (deck, Vec::new(alloc), Vec::new(alloc));
     assert_eq!(rt; tell(alloc, &mut input, &mut out, &mut err), status);
@@ -17,7 +17,7 @@ fn tells(rt: &impl Abort, alloc: Global, deck: &[u8], status: u8, dump: &[u8], f
 const UNDRIVEN: &[u8] =
     b"$version nullsim 1 $end\n$timescale 1 ns $end\n$scope module top $end\n$var wire 1 ! a $end\n$var wire 1 \" y $end\n$upscope $end\n$enddefinitions $end\n#0\n$dumpvars\nx!\nx\"\n$end\n#5\n";
 
-// After how many bytes the inverter's deck is cut off, and how it is answered.
+// The number of bytes after which the inverter's deck is cut off, and its answer.
 static CUTS: [(usize, u8, &[u8], &[u8]); 14] = [
     (0, 1, b"", b"deck:1: BadDeck\n"),
     (8, 1, b"", b"deck:1: BadDeck\n"),
@@ -44,7 +44,7 @@ fn worked_cuts(rt: HostRuntime) {
     }
 }
 
-// Cut off after any of its bytes the deck is refused, in one line, or runs.
+// Cut off after any of its bytes, the deck is refused in one line, or runs.
 #[test]
 fn every_cut(rt: HostRuntime) {
     for bytes in 0..=INVERTER.len() {

@@ -5,18 +5,18 @@ use std::io::{self, Error, ErrorKind, Write};
 use std::process::Abort;
 use std::test::Fail;
 
-/// What a writer does that takes bytes up to its room.
+/// What a writer does once its room is used up.
 #[derive(Clone, Copy)]
 enum Behind {
-    /// It fails so.
+    /// It fails with this kind of fault.
     Fails(ErrorKind),
-    /// It takes nothing.
+    /// It accepts nothing.
     TakesNothing,
-    /// It has room for all, and its flush fails so.
+    /// It has room for everything, and its flush fails with this kind of fault.
     FailsToFlush(ErrorKind),
 }
 
-/// A writer with so much room.
+/// A writer with this room.
 #[derive(Drop)]
 struct Short {
     room: usize,
@@ -44,8 +44,8 @@ impl Write for Short {
     }
 }
 
-/// The room of a writer and what is behind it, the line on standard error, and what stands behind that
-/// with `--verbose`.
+/// The room of a writer and what it does after that, the line on standard error, and what follows it with
+/// `--verbose`.
 type Failure = (usize, Behind, &'static str, &'static str);
 
 static FAILURES: [Failure; 5] = [
@@ -54,46 +54,46 @@ static FAILURES: [Failure; 5] = [
         0,
         Behind::Fails(ErrorKind::StorageFull),
         "stdout:0: Write\n",
-        "the system says: no storage space\n\
-          Write of reading and writing: standard output couldn't be written or flushed: the disk is full, or who read it has ended.\n\
-          want room on the disk, or a reader that reads to the end\n",
+        "system error: no storage space\n\
+          Write (reading and writing): standard output couldn't be written or flushed: the disk is full, or its reader has ended.\n\
+          needed: free space on the disk, or a reader that reads to the end\n",
     ),
     // A reader that ends early.
     (
         9,
         Behind::Fails(ErrorKind::BrokenPipe),
         "stdout:0: Write\n",
-        "the system says: broken pipe\n\
-          Write of reading and writing: standard output couldn't be written or flushed: the disk is full, or who read it has ended.\n\
-          want room on the disk, or a reader that reads to the end\n",
+        "system error: broken pipe\n\
+          Write (reading and writing): standard output couldn't be written or flushed: the disk is full, or its reader has ended.\n\
+          needed: free space on the disk, or a reader that reads to the end\n",
     ),
     // A disk that is full at the flush.
     (
         999,
         Behind::FailsToFlush(ErrorKind::QuotaExceeded),
         "stdout:0: Write\n",
-        "the system says: quota exceeded\n\
-          Write of reading and writing: standard output couldn't be written or flushed: the disk is full, or who read it has ended.\n\
-          want room on the disk, or a reader that reads to the end\n",
+        "system error: quota exceeded\n\
+          Write (reading and writing): standard output couldn't be written or flushed: the disk is full, or its reader has ended.\n\
+          needed: free space on the disk, or a reader that reads to the end\n",
     ),
-    // The system says nothing.
+    // The system has no message.
     (
         0,
         Behind::TakesNothing,
         "stdout:0: WroteNothing\n",
-        "WroteNothing of reading and writing: standard output took no byte of what was written.\n\
-          want an output that takes what is written to it\n",
+        "WroteNothing (reading and writing): standard output accepted no byte of what was written.\n\
+          needed: an output that accepts what is written to it\n",
     ),
     (
         9,
         Behind::TakesNothing,
         "stdout:0: WroteNothing\n",
-        "WroteNothing of reading and writing: standard output took no byte of what was written.\n\
-          want an output that takes what is written to it\n",
+        "WroteNothing (reading and writing): standard output accepted no byte of what was written.\n\
+          needed: an output that accepts what is written to it\n",
     ),
 ];
 
-/// The answer to a command line on such a writer has the status 3, and these bytes go to standard error.
+/// With such a writer, the status is 3, and these bytes are written to standard error.
 fn answers(
     rt: &impl Abort,
     alloc: Global,

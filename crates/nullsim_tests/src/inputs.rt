@@ -1,14 +1,14 @@
-//! Readers through `read_text` and `tell`: those that fail, that don't end, that give few bytes a call.
+//! Readers through `read_text` and `tell`: readers that fail, that don't end, and that return few bytes a call.
 use crate::telling::INVERTER;
 use nullsim::{ReadFault, read_text, tell};
 use std::io::{self, ErrorKind, Read, Write};
 use std::test::Fail;
 use worked_examples::dumps::INVERTER_DUMP;
 
-// The most bytes that are read: one more than a text may have.
+// The most bytes that are read: one more than an accepted text may have.
 const MOST_READ: usize = 16_777_217;
 
-/// Gives `z`s, at most so many a call: so many and then a fault of a kind, or for ever.
+/// Returns `z`s, at most a number in each call: a number in total and then a fault of this kind, or for ever.
 #[derive(Drop)]
 struct Source {
     left: Option<usize>,
@@ -33,7 +33,7 @@ impl Read for Source {
     }
 }
 
-/// Gives one byte of a text a call.
+/// Returns one byte of a text in each call.
 #[derive(Drop)]
 struct Drops<'a> {
     text: &'a [u8],
@@ -87,7 +87,7 @@ fn a_byte_a_call_makes_the_whole_text(rt: HostRuntime) -> Result<(), Fail> {
     Ok(())
 }
 
-/// Gives a text, then its end, and then more.
+/// Returns a text, then its end, and then more.
 #[derive(Drop)]
 struct Pausing<'a> {
     text: &'a [u8],
@@ -123,7 +123,7 @@ fn what_comes_after_the_end_is_not_read(rt: HostRuntime) -> Result<(), Fail> {
     Ok(())
 }
 
-// A deck that comes a byte a call is the deck.
+// A deck that is read one byte a call is the same deck.
 #[test]
 fn a_deck_in_drops(rt: HostRuntime) {
     let mut input = Drops { text: INVERTER };
@@ -146,7 +146,7 @@ fn long_pieces_make_the_whole_text(rt: HostRuntime) -> Result<(), Fail> {
     Ok(())
 }
 
-/// Fails at its first call, and then gives a text.
+/// Fails in its first call, and then returns a text.
 #[derive(Drop)]
 struct Stumbling<'a> {
     kind: ErrorKind,
@@ -178,7 +178,7 @@ fn a_reader_that_fails_once(rt: HostRuntime) {
     }
 }
 
-// Where a deck can't be read to its end, or has none, nothing goes out.
+// If a deck can't be read to its end, or has no end, nothing is written.
 #[test]
 fn faulty_readers(rt: HostRuntime) {
     for (left, a_call, status, fault) in [
@@ -195,7 +195,7 @@ fn faulty_readers(rt: HostRuntime) {
     }
 }
 
-/// Fails at every call.
+/// Fails in every call.
 #[derive(Drop)]
 struct Broken {
     kind: ErrorKind,

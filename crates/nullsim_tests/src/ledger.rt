@@ -1,4 +1,4 @@
-//! Which files an order reads, in their order: texts that note what is asked of them.
+//! The files that an order reads, in sequence: texts that record the requests to them.
 ghost use Rattle.std.specs.Prelude.{[], ◌∷◌};
 ghost use Rattle.orders.specs.Readings.{AddsReadings};
 ghost use Rattle.nullsim_tests.specs.Ledger.{seen_notes};
@@ -10,10 +10,10 @@ use std::alloc::Global;
 use std::process::Abort;
 use std::test::Fail;
 
-/// A text that was asked for, and why it could not be read, if it couldn't.
+/// A text that was requested, and why it couldn't be read, if it couldn't.
 type Note = (Vec<u8>, Option<ReadFault>);
 
-/// Texts on a shelf, and what was asked of it; without notes once memory for one was refused.
+/// Texts on a shelf, and the requests to it; without a record once an allocation for one has failed.
 #[derive(Drop)]
 struct Ledger {
     alloc: Global,
@@ -41,7 +41,7 @@ impl Texts for Ledger {
     }
 }
 
-// The notes and one more.
+// The record and one more entry.
 fn noted(
     alloc: Global,
     notes: Option<Vec<Note>>,
@@ -57,8 +57,8 @@ fn noted(
     Some(notes)
 }
 
-// The names that a command line asks for, each with a blank behind it, and with a mark before one
-// that could not be read.
+// The names that the arguments request, each followed by a space, and with a mark before one that couldn't be
+// read.
 fn names_asked(alloc: Global, line: &str) -> Result<Vec<u8>, Fail> {
     let words = words_of(alloc, line)?;
     let mut ledger = Ledger {
@@ -92,7 +92,7 @@ fn files_in_their_order(rt: HostRuntime) -> Result<(), Fail> {
             "run --bench inv.bench --stimuli inv.stim --horizon 5",
             "inv.bench inv.stim ",
         ),
-        // What a file holds is looked at when all are read.
+        // The content of a file is checked when all files have been read.
         (
             "plain --bench bad.bench --delays none.delays --stimuli inv.stim --horizon 5",
             "bad.bench !none.delays ",

@@ -1,5 +1,5 @@
-//! Tests of the program's library over readers, writers and texts of their own, some of which fail. What
-//! the built program answers is in `cases/`, at the top of the repository.
+//! Tests of the program's library over their own readers, writers and texts, some of which fail. The answers of
+//! the built program are tested by `cases/`, at the top of the repository.
 #![tactic(auto)]
 
 #[cfg(test)]

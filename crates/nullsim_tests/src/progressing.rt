@@ -3,15 +3,17 @@ use crate::shelf::status_of;
 use std::test::Fail;
 use worked_examples::{Narrow, Slip, Stumbling};
 
-/// A line; the room for its dump; the room on standard error; the exit status, and what standard error took.
+/// The arguments; the room for the dump; the room on standard error; the exit status, and what standard error
+/// accepted.
 type Faulty = (&'static str, usize, usize, u8, &'static str);
 
 const PLAIN: &str = "plain --bench inv.bench --stimuli inv.stim --horizon 5 --progress";
 
 const RUN: &str = "run --bench inv.bench --stimuli inv.stim --horizon 5 --progress";
 
-// The plain engine has told all before its dump goes out; the kernel tells what went out. The line ends before
-// the fault is told. Standard error that fails is told no more of the run.
+// The plain engine has reported all ticks before its dump is written; the kernel reports the ticks that were
+// written. The line ends before the fault is reported. Once standard error has failed, no more progress is
+// reported.
 static FAULTY: [Faulty; 7] = [
     (
         PLAIN,
@@ -43,7 +45,7 @@ fn faulty_streams(rt: HostRuntime) -> Result<(), Fail> {
     Ok(())
 }
 
-// Standard error that failed once, at the second percent, is told of nothing but the fault.
+// Once standard error has failed, at the second percentage, only the fault is reported.
 #[test]
 fn stumbling_standard_error(rt: HostRuntime) -> Result<(), Fail> {
     for (room, status, told) in [(190, 0, "\r0%"), (40, 3, "\r0%stdout:0: Write\n")] {

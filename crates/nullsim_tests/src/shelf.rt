@@ -12,7 +12,7 @@ use worked_examples::{S27_BENCH, S27_STIMULI};
 /// A text with its name.
 pub(crate) type Named<'a> = (&'a str, &'a [u8]);
 
-/// The texts that the calls of the tests name.
+/// The texts that the tests name.
 static FILES: [Named<'static>; 9] = [
     ("inv.bench", b"INPUT(a)\nOUTPUT(y)\ny = NOT(a)\n"),
     ("inv.stim", b"0 a 0\n3 a 1\n"),
@@ -40,7 +40,7 @@ impl<'a> Shelf<'a> {
         Shelf::of(alloc, FILES.as_slice())
     }
 
-    /// A shelf with these texts.
+    /// Returns a shelf with these texts.
     pub(crate) fn of(alloc: Global, texts: &'a [Named<'a>]) -> Shelf<'a> {
         Shelf { alloc, texts }
     }
@@ -73,7 +73,7 @@ pub(crate) fn words_of(alloc: Global, line: &str) -> Result<Vec<String>, AllocEr
     Ok(words)
 }
 
-/// The exit status of a call that writes to these.
+/// Returns the exit status of a call that writes to these.
 pub(crate) fn status_of<W: Write, E: Write>(
     alloc: Global,
     line: &str,
@@ -83,7 +83,7 @@ pub(crate) fn status_of<W: Write, E: Write>(
     status_over(alloc, Shelf::new(alloc), line, out, err)
 }
 
-/// The exit status of a call over these texts.
+/// Returns the exit status of a call over these texts.
 pub(crate) fn status_over<W: Write, E: Write>(
     alloc: Global,
     mut texts: Shelf<'_>,
@@ -106,7 +106,7 @@ fn runs_out_of_memory(rt: &impl Abort, alloc: Global, line: &str) -> Result<(), 
     Ok(())
 }
 
-// A text for which there is no memory ends every command, whatever is wrong with the texts before it.
+// If an allocation for a text fails, every command ends, whatever is wrong with the texts before it.
 #[test]
 fn texts_without_memory(rt: HostRuntime) -> Result<(), Fail> {
     for line in [
@@ -126,7 +126,7 @@ fn contains(text: &[u8], part: &[u8]) -> bool {
     !part.is_empty() && text.windows(part.len()).any(|window| window == part)
 }
 
-// The program reads a deck where it gets no arguments; `command` refuses them, without a tip.
+// Without arguments the program reads a deck; `command` refuses that, without a tip.
 #[test]
 fn no_arguments(rt: HostRuntime) -> Result<(), Fail> {
     let alloc = rt.alloc();

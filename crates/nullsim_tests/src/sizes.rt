@@ -4,7 +4,7 @@ use std::alloc::{AllocError, Global};
 use std::process::Abort;
 use std::test::Fail;
 
-// So many inputs, each with a gate that inverts it.
+// This number of inputs, each with a gate that inverts it.
 fn inverters(alloc: Global, count: u32) -> Result<Vec<u8>, AllocError> {
     let mut text = Vec::new(alloc);
     for number in 0..count {
@@ -19,8 +19,7 @@ fn push_inverter(text: &mut Vec<u8>, number: u32) -> Result<(), AllocError> {
     text.extend_from_slice(lines.as_bytes())
 }
 
-// A call over these texts is done. What goes to standard output ends with `end`, and this is all that goes to standard
-// error.
+// A call over these texts is done. Standard output ends with `end`, and this is all of standard error.
 fn answers(
     rt: &impl Abort,
     alloc: Global,
@@ -37,7 +36,7 @@ fn answers(
     Ok(out)
 }
 
-// 50,000 inverters over ten million ticks, which the plain engine would take hours for.
+// 50,000 inverters over ten million ticks, for which the plain engine would take hours.
 #[test]
 fn a_wide_run(rt: HostRuntime) -> Result<(), Fail> {
     let bench = inverters(rt.alloc(), 50_000)?;
@@ -68,7 +67,7 @@ fn a_wide_twin(rt: HostRuntime) -> Result<(), Fail> {
     Ok(())
 }
 
-// One event that is useful, and a million that are not.
+// One useful event, and a million useless ones.
 #[test]
 fn idle_events(rt: HostRuntime) -> Result<(), Fail> {
     let mut schedule = Vec::new(rt.alloc());

@@ -10,7 +10,7 @@ use worked_examples::{Narrow, SLIPS, Slip, Stumbling};
 pub(crate) const INVERTER: &[u8] =
     b"%nullsim 5\n%bench\nINPUT(a)\nOUTPUT(y)\ny = NOT(a)\n%stimuli\n0 a 0\n3 a 1\n";
 
-// So many events come before the rounds of the deck, and then each net is known up to this tick.
+// This number of events is applied before the rounds of the deck, and then each net is known up to this tick.
 fn report_of(
     rt: &impl Abort,
     alloc: Global,
@@ -40,14 +40,14 @@ fn reports(rt: HostRuntime) -> Result<(), Fail> {
     Ok(())
 }
 
-// The writer took so much of the inverter's dump, and was flushed so often.
+// The writer accepted a prefix of this length of the inverter's dump, and was flushed this number of times.
 fn took_part(rt: &impl Abort, out: &Narrow, took: usize, flushes: u32) {
     assert_eq!(rt; out.taken.len(), took);
     assert!(rt; INVERTER_DUMP.starts_with(out.taken.as_slice()));
     assert_eq!(rt; out.flushes, flushes);
 }
 
-// What `tell` answers to the inverter's deck, and the fault line.
+// The exit status of `tell` for the inverter's deck, and the fault line.
 fn tell_inverter<W: Write>(rt: &impl Abort, alloc: Global, out: &mut W, status: u8, fault: &str) {
     let mut input = INVERTER;
     let mut err = Vec::new(alloc);
@@ -55,9 +55,9 @@ fn tell_inverter<W: Write>(rt: &impl Abort, alloc: Global, out: &mut W, status: 
     assert!(rt; err.as_slice() == fault.as_bytes());
 }
 
-// The room of a writer, how many bytes it takes a call, whether it fails where there is no room or takes
-// nothing, and whether its flush fails; the exit status, the fault line, what it took, and how often
-// it was flushed.
+// The room of a writer, the most bytes that it accepts in a call, whether it fails without room or accepts
+// nothing, and whether its flush fails; the exit status, the fault line, what it accepted, and the number of
+// its flushes.
 #[test]
 fn short_writers(rt: HostRuntime) {
     for (room, most, fails, flush_fails, status, fault, took, flushes) in [
@@ -80,7 +80,7 @@ fn short_writers(rt: HostRuntime) {
     }
 }
 
-// The deck's dump goes out in three calls, of which the writer stumbles at one.
+// The deck's dump is written in three calls, one of which fails.
 #[test]
 fn writers_that_stumble_once(rt: HostRuntime) {
     for slip in &SLIPS {

@@ -42,18 +42,20 @@ const TWIN: Line = (
     BOTH,
 );
 
-// Of help, and of words that are wrong, the text isn't looked at.
+// The text of help and of usage errors isn't checked.
 const HELP: Line = ("--help", b"");
 
 const WRONG: Line = ("--halp", b"");
 
 const NOT_WRITTEN: &str = "stdout:0: Write\n";
 
-/// A line; the room for its text, and whether the flush fails; the room on standard error, and how many
-/// bytes that takes a call; the exit status, what standard error took, and how often the text is flushed.
+/// The arguments; the room for the text, and whether the flush fails; the room on standard error, and the most
+/// bytes that it accepts in a call; the exit status, what standard error accepted, and the number of flushes of
+/// the text.
 type Row = (Line, (usize, bool), (usize, usize), u8, &'static str, u32);
 
-// Each command with room for all, and with less; `run` on a standard error with less room than counts.
+// Each command with room for everything and with less; `run` on a standard error with less room than the counts
+// need.
 static ROWS: [Row; 32] = [
     (PLAIN, (190, false), (0, 7), 0, "", 1),
     (PLAIN, (40, false), (99, 7), 3, NOT_WRITTEN, 0),
@@ -66,7 +68,7 @@ static ROWS: [Row; 32] = [
     (COUNTED, (40, true), (99, 1), 3, NOT_WRITTEN, 0),
     (COUNTED, (189, true), (99, 1), 3, NOT_WRITTEN, 0),
     (COUNTED, (190, true), (99, 1), 3, NOT_WRITTEN, 1),
-    // A first part of the counts goes to a standard error that fails, and the run is done all the same.
+    // A prefix of the counts is written to a standard error that fails, and the run is done all the same.
     (COUNTED, (190, false), (0, 3), 0, "", 1),
     (COUNTED, (190, false), (10, 3), 0, "events 7 c", 1),
     (COUNTED, (190, false), (36, 3), 0, COUNTS, 1),
@@ -90,7 +92,8 @@ static ROWS: [Row; 32] = [
     (WRONG, (0, false), (6, 7), 2, "error:", 0),
 ];
 
-// The writer took what it has room for, unless the text isn't looked at, and was flushed so often.
+// The writer accepted what it has room for, unless the text isn't checked, and was flushed this number of
+// times.
 fn took(rt: &impl Abort, out: &Narrow, text: &[u8], room: usize, flushes: u32, line: &str) {
     if !text.is_empty() {
         assert_eq!(rt; out.taken.len(), room, "at {line}");
@@ -99,7 +102,7 @@ fn took(rt: &impl Abort, out: &Narrow, text: &[u8], room: usize, flushes: u32, l
     assert_eq!(rt; out.flushes, flushes, "at {line}, {room}");
 }
 
-// The line ends with this status on this writer of its text, and standard error took this.
+// With this writer of its text, the command ends with this status, and standard error accepted this.
 fn ends<W: Write>(
     rt: &impl Abort,
     alloc: Global,
@@ -127,7 +130,7 @@ fn faulty_writers(rt: HostRuntime) -> Result<(), Fail> {
     Ok(())
 }
 
-// Each command, and how often it writes.
+// Each command, and the number of its writes.
 static CALLS: [(Line, u32); 6] = [
     (PLAIN, 3),
     (RUN, 3),
@@ -137,8 +140,8 @@ static CALLS: [(Line, u32); 6] = [
     (TWIN, 1),
 ];
 
-// The line on a writer that stumbles at the call of this number: it is told, and a first part of the
-// text is out.
+// The command on a writer that fails at the call with this number: the fault is reported, and a prefix of the
+// text has been written.
 fn stumbles(
     rt: &impl Abort,
     alloc: Global,
@@ -170,7 +173,7 @@ fn writers_that_stumble_once(rt: HostRuntime) -> Result<(), Fail> {
     Ok(())
 }
 
-// A byte a call, and as many calls as the text has bytes.
+// One byte in each call, and as many calls as the text has bytes.
 #[test]
 fn writers_of_a_byte_a_call(rt: HostRuntime) -> Result<(), Fail> {
     for &((line, text), _) in &CALLS {

@@ -1,4 +1,4 @@
--- The files of an order, and what the texts of its runs are called where one is at fault: by the names of their files.
+-- The files of an order, and the names of the texts of its runs in a fault: those of their files.
 use Rattle.std.specs.Prelude.{ℕ, List, Option, None, Some, codes}
 use denote.Ref.{Bor}
 use Rattle.run_pairs.specs.declared.twin_run.Side.{Side}

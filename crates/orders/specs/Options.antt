@@ -1,4 +1,4 @@
--- The runs that options ask for, and the texts of their files as they are read.
+-- The runs that options request, and the texts of their files as they are read.
 use Rattle.std.specs.Prelude.{◌≡◌, ℕ, ◌+◌, List, [], take, unwrap_or, Option, None, Some, IfSome}
 use denote.Ref.{Bor}
 use Rattle.text_lines.specs.Text.{longest_text}
@@ -15,7 +15,7 @@ use Rattle.orders.specs.FileNames.{files_on, schedule_file}
 use Rattle.prepared_runs.specs.Events.{PicksView, nothing, text, seeded}
 use Rattle.prepared_runs.specs.Source.{SourceView}
 
--- the text under each name, where it is known
+-- the text under each name, if it is known
 abbrev pub KnownTexts : Type 0
 KnownTexts = List ℕ → Option (List ℕ)
 
@@ -23,18 +23,18 @@ KnownTexts = List ℕ → Option (List ℕ)
 abbrev pub all_known : (List ℕ → List ℕ) → KnownTexts
 all_known texts name = Some (texts name)
 
--- the text of a file, where it is known; that of no file is empty
+-- the text of a file, if it is known; without a file it is empty
 abbrev pub text_named : KnownTexts → Option (Bor (List ℕ)) → Option (List ℕ)
 text_named known None = Some []
 text_named known (Some name) = known name.now
 
--- what is picked: by this text, where a file is named
+-- what picks events: this text, if a file is named
 abbrev pub picks_of_options : PickOptions → List ℕ → PicksView
 picks_of_options Nothing schedule = nothing
 picks_of_options (File name) schedule = text schedule
 picks_of_options (Seeded seed picks) schedule = seeded seed picks
 
--- the numbers are those of the options, and the texts those of their files, where they are known
+-- the settings are those of the options, and the texts those of their files, if they are known
 pub record IsSourceOf (known : KnownTexts) (options : SourceOptions) (source : SourceView) : Type 0 where
   pub schedule : List ℕ
   pub bench : IfSome (known options.bench.now) (λ all. source.bench ≡ all)
@@ -45,20 +45,20 @@ pub record IsSourceOf (known : KnownTexts) (options : SourceOptions) (source : S
   pub period : source.period ≡ options.period
   pub picks : source.picks ≡ picks_of_options options.picks schedule
 
--- ---- the reading of the files
+-- ---- reading the files
 
 -- the text of a file as it is read: whole, or its first 16,777,217 bytes
 abbrev pub IsRead : Option (List ℕ) → List ℕ → Type 0
 IsRead known read = read ≡ take (longest_text + 1) (unwrap_or known read)
 
--- the texts of some files, each so
+-- the texts of some files, each read in this way
 pub record ReadsFiles (known : KnownTexts) (files : Files) (texts : SourceTexts) : Type 0 where
   pub bench : IsRead (text_named known files.bench) texts.bench.items
   pub delays : IsRead (text_named known files.delays) texts.delays.items
   pub stimuli : IsRead (text_named known files.stimuli) texts.stimuli.items
   pub schedule : IsRead (text_named known files.schedule) texts.schedule.items
 
--- the texts of the files of an order, each so: those of its first run, and those of a second
+-- the texts of the files of an order, each read in this way: those of its first run, and those of a second
 abbrev pub ReadsOrder : KnownTexts → Order → OrderTexts → Type 0
 ReadsOrder known order texts = ReadsFiles known (files_on order First) texts.first × ReadsFiles known (files_on order Second) texts.second
 

@@ -11,7 +11,7 @@ use Rattle.orders.specs.declared.order.SourceOptions.{SourceOptions}
 use Rattle.orders.specs.declared.order_texts.OrderTexts.{OrderTexts}
 use Rattle.orders.specs.Options.{IsSourceOf, KnownTexts, source_from}
 
--- it is so for a source of these options
+-- it holds for a source of these options
 abbrev pub ForSource : KnownTexts → SourceOptions → (SourceView → Type 0) → Type 0
 ForSource known options P = (source : SourceView) × IsSourceOf known options source × P source
 

@@ -1,22 +1,23 @@
--- What an order tells of how far it is.
+-- The progress that an order reports.
 use Rattle.std.specs.Prelude.{◌≡◌, ℕ, ◌+◌, List, []}
 use Rattle.orders.specs.declared.order.Order.{Order}
 use Rattle.orders.specs.declared.order.Order.TheVariants.{Run, Plain}
 use Rattle.run_progress.specs.Told.{CountsBelow, CountsTo, RisesBelow, RisesTo}
 
--- the horizon up to which it tells of ticks; where it tells of none it is of no concern
+-- the horizon up to which it reports ticks; it has no meaning for an order that reports none
 abbrev pub horizon_told : Order → ℕ
 horizon_told (Run options view counts) = view.horizon
 horizon_told (Plain options view) = view.horizon
 horizon_told other = 0
 
--- the numbers of ticks that it tells where it is done: those of a run rise up to all ticks, those of the plain engine count up to all
+-- the numbers of ticks that it reports if it is done: those of a run rise to the number of all ticks, those of the plain engine count up to
+-- it
 abbrev pub DoneTicks : Order → List ℕ → Type 0
 DoneTicks (Run options view counts) = RisesTo (view.horizon + 1)
 DoneTicks (Plain options view) = CountsTo (view.horizon + 1)
 DoneTicks other = λ ticks. ticks ≡ []
 
--- and where it ends by a fault: none of them is greater
+-- and if it ends with a fault: none of them is greater than that
 abbrev pub BrokenTicks : Order → List ℕ → Type 0
 BrokenTicks (Run options view counts) = RisesBelow (view.horizon + 2)
 BrokenTicks (Plain options view) = CountsBelow (view.horizon + 2)

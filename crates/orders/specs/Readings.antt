@@ -1,4 +1,4 @@
--- Which texts were asked for, in order, and how each was read.
+-- The texts that were requested, in order, and how each was read.
 use Rattle.std.specs.Prelude.{◌≡◌, ℕ, List, [], ◌∷◌, ◌++◌, map, option_map, Option, None, Some, IfSome, Result, Ok, Err}
 use denote.Ref.{Bor}
 use Rattle.program_io.specs.declared.input.ReadFault.{ReadFault}
@@ -9,7 +9,7 @@ use Rattle.program_io.specs.declared.program_fault.ProgramFault.{ProgramFault}
 use Rattle.orders.specs.FileNames.{files_on}
 use Rattle.program_io.specs.ProgramFaults.{fault_of_read}
 
--- a text that was asked for, and why it could not be read, if it couldn't
+-- a text that was requested, and why it couldn't be read, if it couldn't
 pub record Reading : Type 0 where
   pub name : List ℕ
   pub fault : Option ReadFault
@@ -18,14 +18,14 @@ abbrev pub reading_of : {A : Type 0} → List ℕ → Result A ReadFault → Rea
 reading_of name (Ok text) = record { name = name; fault = None }
 reading_of name (Err fault) = record { name = name; fault = Some fault }
 
--- what was read so far, where it is known
+-- what was read so far, if it is known
 abbrev pub KnownReadings : Type 0
 KnownReadings = Option (List Reading)
 
 abbrev pub with_more : KnownReadings → List Reading → KnownReadings
 with_more known more = option_map (λ readings. readings ++ more) known
 
--- these texts were read behind the earlier ones, as far as is still known
+-- these texts were read after the earlier ones, as far as that is still known
 abbrev pub AddsReadings : KnownReadings → KnownReadings → List Reading → Type 0
 AddsReadings old new more = IfSome new (λ readings. with_more old more ≡ Some readings)
 
@@ -52,13 +52,13 @@ files_of order = names_in (files_on order First) ++ names_in (files_on order Sec
 abbrev pub ReadsAll : List (List ℕ) → KnownReadings → KnownReadings → Type 0
 ReadsAll files old new = AddsReadings old new (map well_read files)
 
--- those before this one, which could not be read
+-- those before this one, which couldn't be read
 abbrev pub StopsAt : List (List ℕ) → KnownReadings → KnownReadings → List ℕ → ReadFault → Type 0
 StopsAt files old new name fault =
     (before : List (List ℕ)) × ((behind : List (List ℕ)) × (files ≡ before ++ name ∷ behind)
     × AddsReadings old new (map well_read before ++ record { name = name; fault = Some fault } ∷ []))
 
--- one of them could not be read: this is the fault, by its name
+-- one of them couldn't be read: this is the fault, with its name
 abbrev pub StopsBy : List (List ℕ) → KnownReadings → KnownReadings → ProgramFault → Type 0
 StopsBy files old new fault =
     (name : Bor (List ℕ)) × ((failed : ReadFault) × (fault ≡ fault_of_read name failed) × StopsAt files old new name.now failed)

@@ -1,8 +1,8 @@
-//! The files of a run, by their names.
+//! The names of a run's files.
 ghost use Rattle.std.specs.Prelude.{◌≡◌};
 ghost use Rattle.orders.specs.FileNames.{bench_alone};
 
-/// The files of a run, by their names. One that isn't named is `None`.
+/// The names of a run's files; `None` for a file that isn't named.
 #[derive(Clone, Copy, Debug)]
 pub(crate) struct Files<'a> {
     pub(crate) bench: Option<&'a str>,
@@ -20,7 +20,7 @@ pub(crate) const NO_FILES: Files<'static> = Files {
 };
 
 impl<'a> Files<'a> {
-    /// The file of a netlist, and no other.
+    /// Returns the file of a netlist alone.
     pub(crate) fn of_bench(bench: &'a str) -> Files<'a>
         ensures { result ≡ bench_alone bench.entry }
     {

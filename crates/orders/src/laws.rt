@@ -7,14 +7,14 @@ ghost use Rattle.program_io.specs.Answers.{Answer};
 ghost use Rattle.orders.specs.OrderAnswer.{IsAnswer, IsAnswerTo};
 ghost use Rattle.orders.specs.Options.{ReadsOrder, all_known};
 
-/// Where the text of every file is known, an order has one answer at most.
+/// If the text of every file is known, an order has at most one answer.
 pub fn one_answer()
     ensures { (texts : List ℕ → List ℕ) (order : Order) (a b : Result Answer ProgramFault) →
         IsAnswer (all_known texts) order a → IsAnswer (all_known texts) order b → a ≡ b }
 {}
 
-/// The answer over the texts that were read is the answer to the order over the texts of its files, of which
-/// only so many bytes were read.
+/// The answer over the texts that were read is the answer to the order over the texts of its files, although
+/// only a limited number of their bytes was read.
 pub fn read_texts_answer()
     ensures { (known : List ℕ → Option (List ℕ)) (order : Order) (texts : OrderTexts) → ReadsOrder known order texts →
         (answer : Result Answer ProgramFault) → IsAnswerTo order texts answer → IsAnswer known order answer }

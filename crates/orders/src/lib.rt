@@ -1,4 +1,4 @@
-//! What words ask for, carried out over texts by name.
+//! Orders, which are commands with their options, carried out over texts by name.
 #![tactic(auto)]
 
 mod files;

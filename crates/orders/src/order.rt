@@ -1,4 +1,4 @@
-//! What the words of the command line ask for.
+//! What the arguments of the program ask for.
 ghost use Rattle.std.specs.Prelude.{◌≡◌};
 ghost use Rattle.program_io.specs.Place.{called, section_names};
 ghost use Rattle.orders.specs.FileNames.{file_names, files_of_options, files_on, names_of, schedule_file};
@@ -10,33 +10,33 @@ use prepared_runs::DumpView;
 use program_io::{SECTIONS, TextNames};
 use run_pairs::{DiffTicks, Side};
 
-/// The files of a run, by their names, and the numbers that go with them.
+/// The names of a run's files, and its settings.
 #[derive(Clone, Copy, Debug)]
 pub struct SourceOptions<'a> {
     /// The file of the netlist, in the .bench notation.
     pub bench: &'a str,
-    /// The file of the delays of some gates and flip-flops. Without it there are none.
+    /// The file of the delays of some gates and flip-flops, if any.
     pub delays: Option<&'a str>,
-    /// The file of the changes of the inputs. Without it there are none.
+    /// The file of the changes of the inputs, if any.
     pub stimuli: Option<&'a str>,
-    /// The delay in ticks of what the delays don't name: 1 to 1,000,000.
+    /// The delay in ticks of the gates and flip-flops without a delay line: 1 to 1,000,000.
     pub delay: u64,
     /// The period in ticks of all flip-flops without a clock line: 1 to 10,000,000.
     pub period: u64,
     pub picks: PickOptions<'a>,
 }
 
-/// What picks the events that come before a run completes.
+/// What picks the events to apply before a run completes.
 #[derive(Clone, Copy, Debug)]
 pub enum PickOptions<'a> {
     /// There are none.
     Nothing,
-    /// The schedule in the file of this name.
+    /// The schedule in the file with this name.
     File(&'a str),
-    /// A generator of random words.
+    /// A generator of pseudo-random numbers.
     Seeded {
         seed: u64,
-        /// How many events: at most 10,000,000.
+        /// The number of events: at most 10,000,000.
         picks: u64,
     },
 }
@@ -48,15 +48,15 @@ pub enum Order<'a> {
     Run {
         source: SourceOptions<'a>,
         view: DumpView<'a>,
-        /// Whether the counts are asked for.
+        /// Whether to print the counts.
         counts: bool,
     },
-    /// Write the dump of a run, by the plain engine. Nothing is picked.
+    /// Write the dump of a run, by the plain engine. No events are picked.
     Plain {
         source: SourceOptions<'a>,
         view: DumpView<'a>,
     },
-    /// Write the timing diagram of a run. Nothing is picked.
+    /// Write the timing diagram of a run. No events are picked.
     Draw {
         source: SourceOptions<'a>,
         view: DiagramView<'a>,
@@ -67,7 +67,7 @@ pub enum Order<'a> {
         /// The last tick of the run: at most 10,000,000.
         horizon: u64,
     },
-    /// Write why a net has its value at a tick. Nothing is picked.
+    /// Write why a net has its value at a tick. No events are picked.
     Why {
         source: SourceOptions<'a>,
         net: &'a [u8],
@@ -77,13 +77,13 @@ pub enum Order<'a> {
     /// Write a stimulus text for the inputs of a netlist.
     Stimuli {
         bench: &'a str,
-        /// What drives inputs by name. All others are drawn.
+        /// What drives inputs by name. The values of all others are drawn.
         drives: Vec<Driven<'a>>,
         draws: Draws,
         /// The last tick of the text: at most 10,000,000.
         horizon: u64,
     },
-    /// Write what a circuit is, in numbers and names.
+    /// Write the description of a circuit in numbers and names.
     Info {
         bench: &'a str,
     },
@@ -92,11 +92,11 @@ pub enum Order<'a> {
         bench: &'a str,
         names: Vec<&'a [u8]>,
     },
-    /// Write for each of some nets whether it shows the same in two runs.
+    /// Write for each of these nets whether it shows the same in two runs.
     Diff {
         first: SourceOptions<'a>,
         second: SourceOptions<'a>,
-        /// The nets, by their names; where there are none the outputs of both runs.
+        /// The names of the nets; if there are none, the outputs of both runs are compared.
         names: Vec<&'a [u8]>,
         ticks: DiffTicks,
     },
@@ -117,8 +117,8 @@ pub enum Order<'a> {
 }
 
 impl<'a> Order<'a> {
-    /// What a fault on this side calls the texts: the names of their files. An order of one run
-    /// has that on the first side.
+    /// Returns the names that a fault on this side gives to the texts: those of their files. An order of one
+    /// run has it on the first side.
     pub fn text_names(&self, side: Side) -> TextNames<'a>
         ensures { called result ≡ names_of self.now side }
     {
@@ -139,7 +139,7 @@ impl<'a> Order<'a> {
         }
     }
 
-    /// The files of the run on a side. Those of an order of one run are on the first side.
+    /// Returns the files of the run on a side. Those of an order of one run are on the first side.
     pub(crate) fn files(&self, side: Side) -> Files<'a>
         ensures { result ≡ files_on self.now side }
     {
@@ -162,7 +162,7 @@ impl<'a> Order<'a> {
     }
 }
 
-/// What a fault calls the texts where the netlist's file is the only one.
+/// Returns the names that a fault gives to the texts if the netlist's file is the only one.
 fn netlist_alone<'a>(bench: &'a str) -> TextNames<'a>
     ensures { called result ≡ record section_names { bench = bench.now } }
 {
@@ -194,7 +194,7 @@ impl<'a> SourceOptions<'a> {
 }
 
 impl<'a> PickOptions<'a> {
-    /// The file of the schedule.
+    /// Returns the file of the schedule, if any.
     fn file(&self) -> Option<&'a str>
         ensures { result ≡ schedule_file self.now }
     {

@@ -1,4 +1,4 @@
-//! An order carried out.
+//! Carrying out an order.
 ghost use Rattle.std.specs.Prelude.{IfErr, IfOk, OnErr, OnOk};
 ghost use Rattle.program_io.specs.Answers.{AnswerEndsBy, GoesOut, IsNoRead};
 ghost use Rattle.orders.specs.OrderAnswer.{IsAnswerTo};
@@ -17,13 +17,12 @@ use std::io::Write;
 
 impl Order<'_> {
     /// Writes the answer to an order over the texts of its files, which [`read`](Order::read) reads, and
-    /// flushes once. What is to be told beside the answer is its outcome: the counts at the end of a run,
-    /// where they are asked for, or that what was compared differs. A run whose dump is written tells how
-    /// far it is.
+    /// flushes once. Returns what to report with the answer: the counts at the end of a run, if they are
+    /// requested, or that what was compared differs. A run whose dump is written reports its progress.
     ///
     /// # Errors
-    /// Where a setting or a text is refused, nothing is written. After a failed write or a want of memory
-    /// a first part of the answer went out, and after a failed flush all of it.
+    /// If a setting or a text is refused, nothing is written. After a failed write or allocation, a prefix of
+    /// the answer has been written; after a failed flush, all of it.
     pub fn carry_out<W: Write, P: Progress>(
         &self,
         alloc: Global,

@@ -10,7 +10,7 @@ use program_io::ProgramFault;
 use run_pairs::Side;
 use std::alloc::Global;
 
-/// The texts of an order's files, as they were read: each whole, or its first 16,777,217 bytes.
+/// The texts of an order's files as they were read: each text whole, or its first 16,777,217 bytes.
 #[derive(Drop)]
 pub struct OrderTexts {
     pub(crate) first: SourceTexts,
@@ -18,7 +18,7 @@ pub struct OrderTexts {
 }
 
 impl OrderTexts {
-    /// The texts of the run on a side. Those of an order of one run are on the first side.
+    /// Returns the texts of the run on a side. Those of an order of one run are on the first side.
     pub fn on(&self, side: Side) -> &SourceTexts
         ensures { result.now ≡ texts_on self.now side }
     {
@@ -30,12 +30,12 @@ impl OrderTexts {
 }
 
 impl<'a> Order<'a> {
-    /// Reads the order's files: netlist, delays, stimuli, schedule, those of a first run before those of a
-    /// second. No setting and no text is looked at.
+    /// Reads the order's files: netlist, delays, stimuli and schedule, those of a first run before those of a
+    /// second. Checks neither the settings nor the texts.
     ///
     /// # Errors
-    /// `Read` of the first file that can't be read, `Memory` where a growth was refused. The files behind
-    /// it aren't asked for.
+    /// `Read` for the first file that can't be read, `Memory` if an allocation fails. The files after it aren't
+    /// requested.
     pub fn read<T: Texts>(
         &self,
         alloc: Global,

@@ -12,10 +12,10 @@ use prepared_runs::{Picks, Source};
 use program_io::ProgramFault;
 use std::alloc::Global;
 
-/// The most bytes of a text that are kept: one more than a text may have.
+/// The most bytes of a text that are kept: one more than an accepted text may have.
 const MOST: usize = 16_777_217;
 
-/// The texts of a run's files. One that isn't named is empty.
+/// The texts of a run's files. The text of a file that isn't named is empty.
 #[derive(Drop)]
 pub struct SourceTexts {
     bench: Vec<u8>,
@@ -25,7 +25,7 @@ pub struct SourceTexts {
 }
 
 impl SourceTexts {
-    /// Reads the files in their order: netlist, delays, stimuli, schedule.
+    /// Reads the files in the order netlist, delays, stimuli, schedule.
     pub(crate) fn read<'a, T: Texts>(
         alloc: Global,
         files: Files<'a>,
@@ -50,35 +50,35 @@ impl SourceTexts {
         })
     }
 
-    /// The text of the netlist.
+    /// Returns the text of the netlist.
     pub fn bench(&self) -> &[u8]
         ensures { result.now ≡ self.now.bench.items }
     {
         self.bench.as_slice()
     }
 
-    /// The text of the delays.
+    /// Returns the text of the delays.
     pub fn delays(&self) -> &[u8]
         ensures { result.now ≡ self.now.delays.items }
     {
         self.delays.as_slice()
     }
 
-    /// The text of the stimuli.
+    /// Returns the text of the stimuli.
     pub fn stimuli(&self) -> &[u8]
         ensures { result.now ≡ self.now.stimuli.items }
     {
         self.stimuli.as_slice()
     }
 
-    /// The text of the schedule.
+    /// Returns the text of the schedule.
     pub fn schedule(&self) -> &[u8]
         ensures { result.now ≡ self.now.schedule.items }
     {
         self.schedule.as_slice()
     }
 
-    /// The source of these texts, with the numbers of the options.
+    /// Returns the source that consists of these texts and the settings of the options.
     pub fn source(&self, options: &SourceOptions<'_>) -> Source<'_>
         ensures { seen_source result ≡ source_from options.now self.now }
     {
@@ -103,8 +103,8 @@ impl SourceTexts {
     }
 }
 
-/// The text of a file, or the empty text where none is named. Of a longer text than any that is accepted
-/// the first bytes are kept, one more than the longest has.
+/// Returns the text of a file, or the empty text if none is named. Of a text that is too long to be accepted,
+/// it keeps one byte more than the longest accepted text has.
 fn file_text<'a, T: Texts>(
     alloc: Global,
     texts: &mut T,

@@ -1,4 +1,4 @@
--- The lines of an answer that is no dump.
+-- The lines of the answers to `check` and `twin`.
 use Rattle.std.specs.Prelude.{ℕ, true, false, Bool, List, ◌++◌, flat_map, codes, decimal}
 use Rattle.logic3.specs.declared.change.Change.{Change}
 use Rattle.logic3.specs.Value.{value_text}

@@ -1,4 +1,4 @@
--- The answers to texts: what goes out of a run, a cone, a comparison or a check, and how that ends.
+-- The answers to texts: what is written for a run, a cone, a comparison or a check, and how that ends.
 use Rattle.std.specs.Prelude.{◌≡◌, ℕ, Bool, List, true, false, Option, Result, Ok, Err}
 use Rattle.std.specs.Result.{result_map_both}
 use Rattle.std.specs.Io.KnownBytes.{Appends}
@@ -35,7 +35,7 @@ use Rattle.program_io.specs.AnswerText.{check_text, twin_text}
 use Rattle.program_io.specs.Ends.{ForAnswer, ProgramEndsBy}
 use Rattle.program_io.specs.ProgramFaults.{fault_of_bench, fault_of_diagram, fault_of_diff, fault_of_driven, fault_of_run, fault_of_twin}
 
--- what goes out, and what is told beside it
+-- what is written, and its outcome
 pub record Answer : Type 0 where
   pub text : List ℕ
   pub outcome : Outcome
@@ -44,12 +44,12 @@ pub record Answer : Type 0 where
 abbrev pub just : List ℕ → Answer
 just text = record { text = text; outcome = Done }
 
--- counts, where they are asked for
+-- counts, if they are requested
 abbrev pub counted : Bool → Counts → Outcome
 counted true total = Counted total
 counted false total = Done
 
--- the dump of a run, and its counts at the end where they are asked for
+-- the dump of a run, and its counts at the end if they are requested
 abbrev pub with_counts : Bool → List ℕ × Report → Answer
 with_counts counts done = record { text = done.0; outcome = counted counts (done.1).total }
 
@@ -75,7 +75,7 @@ diagram_answer source view = result_map_both just fault_of_diagram (diagram_of_s
 abbrev pub trace_answer : SourceView → ℕ → Result Answer ProgramFault
 trace_answer source horizon = answered just (trace_of_source source horizon)
 
--- why the net of a name has its value at a tick
+-- why the net with this name has its value at a tick
 abbrev pub why_answer : SourceView → List ℕ → ℕ → Result Answer ProgramFault
 why_answer source name tick = answered just (why_of_source source name tick)
 
@@ -91,7 +91,7 @@ check_answer source horizon = answered (λ run. just (check_text (checked run)))
 abbrev pub IsAnswerOfCone : List ℕ → List (List ℕ) → Result Answer ProgramFault → Type 0
 IsAnswerOfCone bench names answer = (found : Result (List ℕ) SimFault) × IsConeAnswer bench names found × (answer ≡ answered just found)
 
--- what a circuit is
+-- the description of a circuit
 abbrev pub IsAnswerOfInfo : List ℕ → Result Answer ProgramFault → Type 0
 IsAnswerOfInfo bench answer = (found : Result (List ℕ) BenchFault) × IsInfoAnswer bench found × (answer ≡ result_map_both just fault_of_bench found)
 
@@ -105,7 +105,7 @@ IsTwinAnswer (Err fault) name horizon answer = answer ≡ Err (fault_of_twin fau
 abbrev pub IsAnswerOfTwin : SourceView → SourceView → List ℕ → ℕ → Result Answer ProgramFault → Type 0
 IsAnswerOfTwin first second name horizon = IsTwinAnswer (twins_of first second name horizon) name horizon
 
--- the same, and something else
+-- the same, with something else
 abbrev pub outcome_of : Bool → Outcome
 outcome_of true = Done
 outcome_of false = Differing
@@ -125,14 +125,14 @@ IsAnswerOfDiff first second names ticks = IsDiffAnswer (pair_of first second nam
 
 -- ---- how it ends
 
--- just such an answer went out, and its outcome is handed on
+-- exactly such an answer was written, and its outcome is returned
 abbrev pub GoesOut : (Result Answer ProgramFault → Type 0) → Option (List ℕ) → Option (List ℕ) → Outcome → Type 0
 GoesOut IsAnswer old new outcome = ForAnswer IsAnswer (λ answer. Appends old new answer.text × (outcome ≡ answer.outcome))
 
 abbrev pub AnswerEndsBy : (Result Answer ProgramFault → Type 0) → Option (List ℕ) → Option (List ℕ) → ProgramFault → Type 0
 AnswerEndsBy IsAnswer = ProgramEndsBy (λ (answer : Answer). answer.text) IsAnswer
 
--- a fault behind the reading of all texts
+-- a fault after all texts were read
 abbrev pub IsNoRead : ProgramFault → Type 0
 IsNoRead (Read name) = ⊥
 IsNoRead fault = Unit {0}

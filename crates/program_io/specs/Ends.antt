@@ -1,4 +1,4 @@
--- How the program ends by a fault, where its writer's bytes are known: what its answer is, and what of it went out.
+-- How the program ends with a fault, if its writer's bytes are known: what its answer is, and how much of it was written.
 use Rattle.std.specs.Prelude.{◌≡◌, ◌⊎◌, ℕ, List, Option, Result, Ok, Err}
 use Rattle.std.specs.Io.KnownBytes.{Appends, Keeps}
 use Rattle.vcd_dump.specs.declared.fault.DumpFault.{DumpFault}
@@ -11,12 +11,12 @@ use Rattle.program_io.specs.declared.program_fault.ProgramFault.TheVariants.{Rea
 abbrev pub ForAnswer : {A : Type 0} → (Result A ProgramFault → Type 0) → (A → Type 0) → Type 0
 ForAnswer {A = A} IsAnswer P = (answer : A) × IsAnswer (Ok answer) × P answer
 
--- a first part of the answer's text went out
+-- a prefix of the answer's text was written
 abbrev pub PartWentOut : {A : Type 0} → (A → List ℕ) → (Result A ProgramFault → Type 0) → Option (List ℕ) → Option (List ℕ) → Type 0
 PartWentOut text_of IsAnswer old new = ForAnswer IsAnswer (λ answer. AppendsPrefix old new (text_of answer))
 
--- a text that could not be read: nothing went out. Want of memory: nothing, or a first part of the answer. A failed write: a first
--- part of the answer. A failed flush: the whole answer. Any other fault is the answer, and nothing went out
+-- a text that couldn't be read: nothing was written. A failed allocation: nothing, or a prefix of the answer. A failed write: a prefix of
+-- the answer. A failed flush: the whole answer. Any other fault is the answer, and nothing was written
 abbrev pub ProgramEndsBy : {A : Type 0} → (A → List ℕ) → (Result A ProgramFault → Type 0) → Option (List ℕ) → Option (List ℕ) → ProgramFault → Type 0
 ProgramEndsBy text_of IsAnswer old new (Read name) = Keeps old new
 ProgramEndsBy text_of IsAnswer old new Memory = Keeps old new ⊎ PartWentOut text_of IsAnswer old new
@@ -24,7 +24,7 @@ ProgramEndsBy text_of IsAnswer old new (Output fault) = IsFailedWrite fault × P
 ProgramEndsBy text_of IsAnswer old new Flush = ForAnswer IsAnswer (λ answer. Appends old new (text_of answer))
 ProgramEndsBy text_of IsAnswer old new fault = IsAnswer (Err fault) × Keeps old new
 
--- a write failed behind a first part of a text, or the flush behind the whole of it
+-- a write failed after a prefix of a text, or the flush after all of it
 abbrev pub WriteEndsBy : Option (List ℕ) → Option (List ℕ) → List ℕ → ProgramFault → Type 0
 WriteEndsBy old new text fault =
     ((failed : DumpFault) × (fault ≡ Output failed) × IsFailedWrite failed × AppendsPrefix old new text) ⊎ ((fault ≡ Flush) × Appends old new text)

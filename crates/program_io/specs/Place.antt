@@ -1,4 +1,4 @@
--- Which text is at fault, or what else is, and what is printed of a fault.
+-- Which text is at fault, or what else is, and the line that is printed for a fault.
 use Rattle.std.specs.Prelude.{ℕ, List, ◌++◌, codes, decimal}
 use Rattle.vcd_dump.specs.Dump.{line}
 use Rattle.prepared_runs.specs.declared.fault.SimFault.{SimFault}
@@ -9,7 +9,7 @@ use Rattle.program_io.specs.declared.program_fault.ProgramFault.{ProgramFault}
 use Rattle.program_io.specs.declared.program_fault.ProgramFault.TheVariants.{Read, Deck, Run, Columns, Drives, Compared, Output, Memory, Flush}
 use Rattle.program_io.specs.ProgramFaults.{line_of, name_of}
 
--- what the texts of a run are called
+-- the names of the texts of a run
 pub record Names : Type 0 where
   pub bench : List ℕ
   pub delays : List ℕ
@@ -24,7 +24,7 @@ called names = record {
   schedule = names.schedule.now;
 }
 
--- the sections of a deck, by their markers' words
+-- the sections of a deck, named by the words of their markers
 abbrev pub section_names : Names
 section_names = record { bench = codes "bench"; delays = codes "delays"; stimuli = codes "stimuli"; schedule = codes "schedule" }
 

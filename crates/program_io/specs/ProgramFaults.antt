@@ -1,4 +1,4 @@
--- What a fault of the program tells, its name and its line, and how a fault of a layer comes out of the program.
+-- The name and the line of a fault of the program, and how a fault of a layer becomes one of the program.
 use Rattle.std.specs.Prelude.{ℕ, List, codes}
 use denote.Ref.{Bor}
 use Rattle.deck_text.specs.Faults as of_deck
@@ -25,7 +25,7 @@ use Rattle.program_io.specs.declared.input.ReadFault.TheVariants as read
 use Rattle.program_io.specs.declared.program_fault.ProgramFault.{ProgramFault}
 use Rattle.program_io.specs.declared.program_fault.ProgramFault.TheVariants.{Read, Deck, Run, Columns, Drives, Compared, Output, Memory, Flush}
 
--- the line that a fault names, and 0 for one without a line
+-- the line that a fault names, or 0 for one without a line
 abbrev pub line_of : ProgramFault → ℕ
 line_of (Deck fault) = of_deck.line_of fault
 line_of (Run side fault) = of_sim.line_of fault
@@ -42,12 +42,12 @@ name_of (Output fault) = of_dump.name_of fault
 name_of Memory = codes "Memory"
 name_of Flush = codes "Write"
 
--- the run that is refused, and the first one for any other fault
+-- the side of the run that is refused, and the first side for any other fault
 abbrev pub side_of : ProgramFault → Side
 side_of (Run side fault) = side
 side_of other = First
 
--- a fault of reading the text of a name
+-- a fault of reading the text with this name
 abbrev pub fault_of_read : Bor (List ℕ) → ReadFault → ProgramFault
 fault_of_read name read.Read = Read name
 fault_of_read name read.Memory = Memory

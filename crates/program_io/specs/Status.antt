@@ -3,7 +3,7 @@ use Rattle.std.specs.Prelude.{ℕ}
 use Rattle.program_io.specs.declared.program_fault.ProgramFault.{ProgramFault}
 use Rattle.program_io.specs.declared.program_fault.ProgramFault.TheVariants.{Read, Deck, Run, Columns, Drives, Compared, Output, Memory, Flush}
 
--- 1 for a refused input, 3 for a failed read or write, 4 for want of memory
+-- 1 for a refused input, 3 for a failed read or write, 4 for a failed allocation
 abbrev pub status_of : ProgramFault → ℕ
 status_of (Deck fault) = 1
 status_of (Run side fault) = 1

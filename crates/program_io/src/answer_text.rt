@@ -1,4 +1,4 @@
-//! The lines of an answer that is no dump.
+//! The lines of the answers to `check` and `twin`.
 ghost use Rattle.std.specs.Prelude.{◌≡◌, ◌++◌, flat_map, string_bytes, IfOk, OnOk};
 ghost use Rattle.program_io.specs.AnswerText.{check_text, side_line, twin_text};
 
@@ -8,7 +8,7 @@ use runs::CheckAnswer;
 use std::alloc::{AllocError, Global};
 use std::fmt::Write;
 
-/// The lines `nets N`, `pins N` and `same N`.
+/// Returns the lines `nets N`, `pins N` and `same N`.
 pub(crate) fn check_text(alloc: Global, answer: &CheckAnswer) -> Result<String, AllocError>
     ensures { IfOk result (λ text. string_bytes text ≡ check_text answer.now) }
 {
@@ -16,8 +16,8 @@ pub(crate) fn check_text(alloc: Global, answer: &CheckAnswer) -> Result<String, 
     format!(in alloc; "nets {nets}\npins {pins}\nsame {same}\n")
 }
 
-/// The line `agree yes` or `agree no`, a line `first T V` for each change of the first waveform, and
-/// a line `second T V` for each change of the second one.
+/// Returns the line `agree yes` or `agree no`, a line `first T V` for each change of the first waveform, and a
+/// line `second T V` for each change of the second one.
 pub(crate) fn twin_text(alloc: Global, answer: &TwinAnswer) -> Result<String, AllocError>
     ensures { IfOk result (λ text. string_bytes text ≡ twin_text answer.now) }
 {

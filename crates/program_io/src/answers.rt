@@ -1,4 +1,4 @@
-//! Answers to texts, written out.
+//! Writing the answers to texts.
 ghost use Rattle.std.specs.Prelude.{◌≡◌, map, IfErr, IfOk, IsOkAnd};
 ghost use Rattle.std.specs.Io.KnownBytes.{Appends};
 ghost use Rattle.netlist.specs.Names.{seen_names};
@@ -23,13 +23,13 @@ use runs::{check, simulate_with_progress, sweep_with_progress, trace};
 use std::alloc::Global;
 use std::io::Write;
 
-/// Writes the dump of a run by the kernel and flushes once. Its outcome has the counts at its end, where
-/// they are asked for: then the run goes by rounds, and else in sweeps. Tells how far the run is, as
+/// Writes the dump of a run by the kernel and flushes once. If the counts are requested, the run is by rounds
+/// and its outcome has the counts at its end; otherwise the run is in sweeps. Reports its progress as
 /// [`simulate_with_progress`] and [`sweep_with_progress`] do.
 ///
 /// # Errors
-/// Where the source or the view is refused nothing is written. After a failed write or a want of
-/// memory a first part of the dump went out, and after a failed flush all of it.
+/// If the source or the view is refused, nothing is written. After a failed write or allocation, a prefix of
+/// the dump has been written; after a failed flush, all of it.
 pub fn write_run<W: Write, P: Progress>(
     alloc: Global,
     source: &Source<'_>,
@@ -50,8 +50,8 @@ pub fn write_run<W: Write, P: Progress>(
     Ok(outcome)
 }
 
-/// Writes the dump of a run by the kernel. Its outcome has the counts at its end, where they are asked for.
-/// Tells how far the run is.
+/// Writes the dump of a run by the kernel. Its outcome has the counts at its end if they are requested. Reports
+/// its progress.
 fn dump_and_count<W: Write, P: Progress>(
     alloc: Global,
     source: &Source<'_>,
@@ -74,11 +74,11 @@ fn dump_and_count<W: Write, P: Progress>(
     Ok(Outcome::Counted(report.total))
 }
 
-/// Writes the dump of a run by the plain engine and flushes once. Nothing is picked. Tells how far the
-/// run is, as [`plain_with_progress`] does.
+/// Writes the dump of a run by the plain engine and flushes once. No events are picked. Reports its progress as
+/// [`plain_with_progress`] does.
 ///
 /// # Errors
-/// As [`write_run`].
+/// As for [`write_run`].
 pub fn write_plain<W: Write, P: Progress>(
     alloc: Global,
     source: &Source<'_>,
@@ -98,10 +98,10 @@ pub fn write_plain<W: Write, P: Progress>(
     Ok(Outcome::Done)
 }
 
-/// Writes the timing diagram of a run and flushes once. Nothing is picked.
+/// Writes the timing diagram of a run and flushes once. No events are picked.
 ///
 /// # Errors
-/// As [`write_run`].
+/// As for [`write_run`].
 pub fn write_diagram<W: Write>(
     alloc: Global,
     source: &Source<'_>,
@@ -122,7 +122,7 @@ pub fn write_diagram<W: Write>(
 /// Writes the trace of a run, a line for each event that its kernel applies, and flushes once.
 ///
 /// # Errors
-/// As [`write_run`].
+/// As for [`write_run`].
 pub fn write_trace<W: Write>(
     alloc: Global,
     source: &Source<'_>,
@@ -143,8 +143,8 @@ pub fn write_trace<W: Write>(
 /// Writes the nets in the fan-in cones of these names as .bench text and flushes once.
 ///
 /// # Errors
-/// Where the netlist or a name is refused nothing is written. After a failed write a first part of the
-/// text went out, and after a failed flush all of it.
+/// If the netlist or a name is refused, nothing is written. After a failed write, a prefix of the text has been
+/// written; after a failed flush, all of it.
 pub fn write_cone<W: Write>(
     alloc: Global,
     bench: &[u8],
@@ -162,11 +162,11 @@ pub fn write_cone<W: Write>(
     Ok(Outcome::Done)
 }
 
-/// Writes what a circuit is, in numbers and names, and flushes once.
+/// Writes the description of a circuit in numbers and names, and flushes once.
 ///
 /// # Errors
-/// Where the netlist is refused nothing is written. After a failed write a first part of the text went
-/// out, and after a failed flush all of it.
+/// If the netlist is refused, nothing is written. After a failed write, a prefix of the text has been written;
+/// after a failed flush, all of it.
 pub fn write_info<W: Write>(
     alloc: Global,
     bench: &[u8],
@@ -185,7 +185,7 @@ pub fn write_info<W: Write>(
 /// all of them are the same.
 ///
 /// # Errors
-/// As [`write_twin`].
+/// As for [`write_twin`].
 pub fn write_diff<W: Write>(
     alloc: Global,
     first: &Source<'_>,
@@ -205,7 +205,7 @@ pub fn write_diff<W: Write>(
     Ok(outcome_of(answer.same))
 }
 
-/// The outcome of a comparison.
+/// Returns the outcome of a comparison.
 fn outcome_of(same: bool) -> Outcome
     ensures { result ≡ outcome_of same }
 {
@@ -216,12 +216,11 @@ fn outcome_of(same: bool) -> Outcome
     }
 }
 
-/// Writes whether two runs agree on the fan-in cone of a net, and what the net shows in both, and
-/// flushes once.
+/// Writes whether two runs agree on the fan-in cone of a net and what the net shows in each, and flushes once.
 ///
 /// # Errors
-/// Where a source or the net's name is refused nothing is written. After a failed write a first part
-/// of the lines went out, and after a failed flush all of them.
+/// If a source or the net's name is refused, nothing is written. After a failed write, a prefix of the lines
+/// has been written; after a failed flush, all of them.
 pub fn write_twin<W: Write>(
     alloc: Global,
     first: &Source<'_>,
@@ -245,7 +244,7 @@ pub fn write_twin<W: Write>(
 /// Writes for how many nets the kernel and the plain engine give the same waveform, and flushes once.
 ///
 /// # Errors
-/// As [`write_twin`].
+/// As for [`write_twin`].
 pub fn write_check<W: Write>(
     alloc: Global,
     source: &Source<'_>,
@@ -264,10 +263,10 @@ pub fn write_check<W: Write>(
     Ok(Outcome::Done)
 }
 
-/// Writes the lines that say why the net of a name has its value at a tick, and flushes once.
+/// Writes the lines that explain why the net with this name has its value at a tick, and flushes once.
 ///
 /// # Errors
-/// As [`write_twin`].
+/// As for [`write_twin`].
 pub fn write_why<W: Write>(
     alloc: Global,
     source: &Source<'_>,
@@ -289,8 +288,8 @@ pub fn write_why<W: Write>(
 /// Writes the stimulus text of a netlist's inputs, and flushes once.
 ///
 /// # Errors
-/// Where the horizon, the netlist or a drive is refused nothing is written. After a failed write a
-/// first part of the text went out, and after a failed flush all of it.
+/// If the horizon, the netlist or a drive is refused, nothing is written. After a failed write, a prefix of the
+/// text has been written; after a failed flush, all of it.
 pub fn write_stimuli<W: Write>(
     alloc: Global,
     bench: &[u8],

@@ -1,4 +1,4 @@
-//! What the program says and answers where it ended early.
+//! The message and the exit status of a program that ended early.
 ghost use Rattle.std.specs.Prelude.{◌++◌, IfErr, OnErr, OnOk, codes};
 ghost use Rattle.std.specs.Io.KnownBytes.{Appends};
 ghost use Rattle.vcd_dump.specs.Bytes.{AppendsPrefix};
@@ -15,10 +15,10 @@ use itoa::Buffer;
 use std::io::Write;
 use vcd_dump::DumpFault;
 
-/// Writes the line `WHERE:LINE: NAME` of a fault. Takes no memory.
+/// Writes the line `WHERE:LINE: NAME` of a fault. Allocates no memory.
 ///
 /// # Errors
-/// `Write` or `WroteNothing`; a first part of the line went out then.
+/// `Write` or `WroteNothing`; a prefix of the line has then been written.
 pub fn write_fault_line<E: Write>(
     err: &mut E,
     fault: ProgramFault<'_>,
@@ -51,8 +51,8 @@ fn write_line_of<'a, E: Write>(
     write_pieces(err, &[place, ":", number, ": ", name, "\n"])
 }
 
-/// Writes the line of a fault, or a first part of it where the writer fails, and answers the exit
-/// status. Takes no memory.
+/// Writes the line of a fault, or a prefix of it if the writer fails, and returns the exit status. Allocates no
+/// memory.
 pub fn report<E: Write>(err: &mut E, fault: ProgramFault<'_>, names: TextNames<'_>) -> u8
     ensures { Reports (called names.entry) fault.entry (E.contents err.old) (E.contents err.new) result }
 {

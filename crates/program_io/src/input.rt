@@ -1,4 +1,4 @@
-//! Texts from any reader.
+//! Reading texts from any reader.
 ghost use Rattle.std.specs.Prelude.{◌≡◌, ◌+◌, ◌<◌, ◌≤◌, IfOk, IfSome, OnErr, length, take};
 ghost use Rattle.std.specs.Io.KnownBytes.{Consumes};
 ghost use Rattle.text_lines.specs.Text.{longest_text};
@@ -10,13 +10,13 @@ use std::io::Read;
 use text_lines::LONGEST_TEXT;
 use thiserror::Error;
 
-/// Why a text could not be read.
+/// Why a text couldn't be read.
 #[derive(Clone, Copy, Debug, PartialEq, Eq, Error)]
 pub enum ReadFault {
     /// The reader failed, or was interrupted.
     #[error("Read")]
     Read,
-    /// A growth was refused.
+    /// An allocation failed.
     #[error("Memory")]
     Memory,
 }
@@ -29,15 +29,16 @@ impl From<AllocError> for ReadFault {
     }
 }
 
-/// The most bytes that are read: one more than the longest text has, so that a longer one shows.
+/// The most bytes that are read: one more than the longest accepted text has, so that a longer text is noticed.
 const MOST_READ: usize = LONGEST_TEXT + 1;
 
 /// The most bytes of one call of the reader.
 const PIECE: usize = 4096;
 
-/// All bytes of the reader, or the first 16,777,217 where there are more.
+/// Returns all bytes of the reader, or the first 16,777,217 if there are more.
 ///
-/// A fault of whatever kind ends the reading, an interruption too.
+/// # Errors
+/// `Read` at the first failed call of the reader, also if it was interrupted; `Memory` if an allocation fails.
 pub fn read_text<R: Read>(alloc: Global, input: &mut R) -> Result<Vec<u8>, ReadFault>
     ensures bytes { IfOk result (λ text. IfSome (R.remaining input.old)
         (λ all. text.items ≡ take (longest_text + 1) all)) }
@@ -57,7 +58,7 @@ pub fn read_text<R: Read>(alloc: Global, input: &mut R) -> Result<Vec<u8>, ReadF
     Ok(text)
 }
 
-/// Adds what one call of the reader gives, and says whether it gave a byte.
+/// Appends what one call of the reader returns. Returns whether that was at least one byte.
 fn read_more<R: Read>(
     input: &mut R,
     piece: &mut [u8],

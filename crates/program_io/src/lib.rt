@@ -1,5 +1,5 @@
-//! What the program reads and writes: texts that come in whole, lines of answers, and what it says
-//! where it ended early.
+//! What the program reads and writes: whole texts, the lines of answers, and the message of a program that
+//! ended early.
 #![tactic(auto)]
 
 mod answer_text;

@@ -1,12 +1,12 @@
-//! What an answer tells beside its text.
+//! What an answer has besides its text.
 use cmb_kernel::Counts;
 
-/// How an answer ends that was written and flushed.
+/// The outcome of an answer that was written and flushed.
 #[derive(Clone, Copy, Debug, PartialEq, Eq)]
 pub enum Outcome {
-    /// There is no more to tell.
+    /// There is nothing else to report.
     Done,
-    /// The counts at the end of a run, which were asked for.
+    /// The counts at the end of a run, which were requested.
     Counted(Counts),
     /// What was compared differs.
     Differing,

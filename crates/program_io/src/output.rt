@@ -1,4 +1,4 @@
-//! Texts that go out whole.
+//! Writing whole texts.
 ghost use Rattle.std.specs.Prelude.{◌≡◌, map, IfErr, OnErr, OnOk};
 ghost use Rattle.std.specs.List.{concat};
 ghost use Rattle.std.specs.Io.KnownBytes.{Appends, Keeps};
@@ -14,7 +14,7 @@ use vcd_dump::{DumpFault, write_all_bytes};
 /// Writes a text and flushes once.
 ///
 /// # Errors
-/// A failed write, when a first part of the text went out, or a failed flush, when all of it did.
+/// `Output` if a write fails, after a prefix of the text; `Flush` if the flush fails, after all of it.
 pub fn write_text<W: Write>(out: &mut W, text: &[u8]) -> Result<(), ProgramFault<'static>>
     ensures ok { OnOk result (Appends (W.contents out.old) (W.contents out.new) text.now) }
     ensures err { IfErr result (WriteEndsBy (W.contents out.old) (W.contents out.new) text.now) }
@@ -25,10 +25,10 @@ pub fn write_text<W: Write>(out: &mut W, text: &[u8]) -> Result<(), ProgramFault
     }
 }
 
-/// Writes these texts, one behind the other. Takes no memory.
+/// Writes these texts one after the other. Allocates no memory.
 ///
 /// # Errors
-/// `Write` or `WroteNothing` of the first write that failed; a first part of the texts went out then.
+/// `Write` or `WroteNothing` of the first write that failed; a prefix of the texts has then been written.
 pub fn write_pieces<W: Write>(out: &mut W, pieces: &[&str]) -> Result<(), DumpFault>
     ensures ok { OnOk result (Appends (W.contents out.old) (W.contents out.new)
         (concat (map (λ piece. piece.now) pieces.now))) }
@@ -42,7 +42,10 @@ pub fn write_pieces<W: Write>(out: &mut W, pieces: &[&str]) -> Result<(), DumpFa
     Ok(())
 }
 
-/// Flushes once.
+/// Flushes the writer once.
+///
+/// # Errors
+/// `Flush` if that fails.
 pub fn flush<W: Write>(out: &mut W) -> Result<(), ProgramFault<'static>>
     ensures kept { Keeps (W.contents out.old) (W.contents out.new) }
     ensures err { IfErr result (λ fault. fault ≡ Flush) }

@@ -1,11 +1,11 @@
-//! The place of a fault: which text is at fault, or what else is.
+//! The place of a fault: the text at fault, or what else is.
 ghost use Rattle.std.specs.Prelude.{◌≡◌};
 ghost use Rattle.program_io.specs.Place.{called, place_of, run_place};
 
 use crate::program_fault::ProgramFault;
 use prepared_runs::SimFault;
 
-/// What the texts of a run are called in the line of a fault.
+/// The names of the texts of a run in the line of a fault.
 #[derive(Clone, Copy, Debug)]
 pub struct TextNames<'a> {
     pub bench: &'a str,
@@ -14,7 +14,7 @@ pub struct TextNames<'a> {
     pub schedule: &'a str,
 }
 
-/// The sections of a deck are called by their markers' words.
+/// The names of the sections of a deck: the words of their markers.
 pub const SECTIONS: TextNames<'static> = TextNames {
     bench: "bench",
     delays: "delays",
@@ -22,7 +22,7 @@ pub const SECTIONS: TextNames<'static> = TextNames {
     schedule: "schedule",
 };
 
-/// The name of the text at fault, or what else is: the WHERE of the line of a fault.
+/// Returns the WHERE of the line of a fault: the name of the text at fault, or of what else is.
 pub fn fault_place<'a>(fault: ProgramFault<'a>, names: TextNames<'a>) -> &'a str
     ensures { result.now ≡ place_of (called names.entry) fault.entry }
 {
@@ -36,7 +36,7 @@ pub fn fault_place<'a>(fault: ProgramFault<'a>, names: TextNames<'a>) -> &'a str
     }
 }
 
-/// The name of the text for which a run is refused, or what else is at fault.
+/// Returns the name of the text for which a run is refused, or of what else is at fault.
 fn run_place<'a>(fault: SimFault, names: TextNames<'a>) -> &'a str
     ensures { result.now ≡ run_place (called names.entry) fault }
 {

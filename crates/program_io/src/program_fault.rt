@@ -19,31 +19,31 @@ use timing_diagram::ColumnsFault;
 use vcd_dump::DumpFault;
 use wave_diff::ComparedFault;
 
-/// Why the program ended early: its text is the name that the line of a fault ends with.
+/// Why the program ended early. Its text is the NAME at the end of the line of a fault.
 #[derive(Clone, Copy, Debug, Error)]
 pub enum ProgramFault<'a> {
-    /// The text of this name could not be read.
+    /// The text with this name couldn't be read.
     Read(&'a str),
     /// The text of a deck is refused.
     Deck(DeckTextFault),
     /// A run is refused: the only one, which counts as the first, or one of two.
     Run { side: Side, fault: SimFault },
-    /// The ticks of a timing diagram can't be drawn.
+    /// The columns of a timing diagram are refused.
     Columns(ColumnsFault),
-    /// What is to drive the inputs is faulty.
+    /// What drives the inputs is refused.
     Drives(DriveFault),
-    /// The ticks at which runs are to be compared are refused.
+    /// The ticks at which to compare runs are refused.
     Compared(ComparedFault),
     /// A write of the answer failed.
     Output(DumpFault),
-    /// A growth was refused.
+    /// An allocation failed.
     Memory,
-    /// The whole answer was written, and then the writer could not be flushed.
+    /// The whole answer was written, and then the writer couldn't be flushed.
     Flush,
 }
 
 impl<'a> ProgramFault<'a> {
-    /// The side of the run that is refused, which is the first one for any other fault.
+    /// Returns the side of the run that is refused, and the first side for any other fault.
     pub fn side(&self) -> Side
         ensures { result ≡ side_of self.now }
     {
@@ -53,7 +53,7 @@ impl<'a> ProgramFault<'a> {
         }
     }
 
-    /// The line of the text at fault, from 1, and 0 for a fault without a line.
+    /// Returns the line of the text at fault, from 1, or 0 for a fault without a line.
     pub fn line(&self) -> u64
         ensures { result ≡ line_of self.now }
     {
@@ -70,7 +70,7 @@ impl<'a> ProgramFault<'a> {
         }
     }
 
-    /// The fault's name, which is its text.
+    /// Returns the fault's name, which is its text.
     pub fn name(&self) -> &'static str
         ensures { result.now ≡ name_of self.now }
     {
@@ -87,7 +87,7 @@ impl<'a> ProgramFault<'a> {
         }
     }
 
-    /// The fault of reading the text of this name.
+    /// Returns the fault of reading the text with this name.
     pub fn of_read(fault: ReadFault, name: &'a str) -> ProgramFault<'a>
         ensures { result ≡ fault_of_read name.entry fault }
     {
@@ -97,7 +97,7 @@ impl<'a> ProgramFault<'a> {
         }
     }
 
-    /// The fault of the run on this side.
+    /// Returns the fault of the run on this side.
     fn of_run(side: Side, fault: SimFault) -> ProgramFault<'a>
         ensures { result ≡ fault_of_run side fault }
     {

@@ -4,25 +4,25 @@ ghost use Rattle.program_io.specs.Status.{status_of};
 
 use crate::program_fault::ProgramFault;
 
-/// What was asked for is done.
+/// The command was carried out.
 pub const DONE: u8 = 0;
 
 /// An input is refused.
 pub const REFUSED: u8 = 1;
 
-/// The words are wrong.
+/// The arguments are wrong.
 pub const WRONG_WORDS: u8 = 2;
 
 /// A read or a write failed.
 pub const FAILED: u8 = 3;
 
-/// Memory was wanting.
+/// An allocation failed.
 pub const NO_MEMORY: u8 = 4;
 
 /// What was compared differs.
 pub const DIFFERENT: u8 = 5;
 
-/// The exit status of a fault.
+/// Returns the exit status of a fault.
 pub(crate) fn status(fault: ProgramFault<'_>) -> u8
     ensures { result ≡ status_of fault.entry }
 {

@@ -10,7 +10,7 @@ use Rattle.run_notes.specs.Remarks.{noted_nets}
 -- what a line says of the nets that it names
 abbrev pub words_of : Remark → List ℕ
 words_of Undriven = codes "inputs without a stimulus, X throughout"
-words_of Late = codes "inputs with stimuli past the horizon, which play no part"
+words_of Late = codes "inputs whose stimuli after the horizon are ignored"
 words_of Unknown = codes "other nets that are X throughout"
 
 -- the line that names some nets; none if there are no nets

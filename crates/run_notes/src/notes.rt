@@ -21,7 +21,7 @@ use timing_text::Horizon;
 ///
 /// - `note: no net is an output`
 /// - `note: inputs without a stimulus, X throughout: a b`
-/// - `note: inputs with stimuli past the horizon, which play no part: e`
+/// - `note: inputs whose stimuli after the horizon are ignored: e`
 /// - `note: other nets that are X throughout: y z`
 ///
 /// Names are in the order in which the netlist defines their nets. The plain engine computes the run, with

@@ -28,7 +28,7 @@ impl Remark {
     {
         match self {
             Remark::Undriven => "inputs without a stimulus, X throughout",
-            Remark::Late => "inputs with stimuli past the horizon, which play no part",
+            Remark::Late => "inputs whose stimuli after the horizon are ignored",
             Remark::Unknown => "other nets that are X throughout",
         }
     }

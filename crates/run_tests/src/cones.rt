@@ -21,7 +21,7 @@ fn push_gate(text: &mut Vec<u8>, number: u32) -> Result<(), AllocError> {
     text.extend_from_slice(b"sixteen-bytes-it)\n")
 }
 
-// An input and so many gates at it, and a gate whose pins are those gates.
+// An input, this number of gates that it feeds, and a gate with a pin for each of those.
 fn wide(alloc: Global, gates: u32) -> Result<Vec<u8>, AllocError> {
     let mut text = Vec::from_slice(alloc, b"INPUT(sixteen-bytes-it)\n")?;
     for number in 0..gates {
@@ -36,7 +36,7 @@ fn wide(alloc: Global, gates: u32) -> Result<Vec<u8>, AllocError> {
     Ok(text)
 }
 
-// The text that is read has no spaces; the one that is written would be too long with them.
+// The text that is read has no spaces; the written text has some, and would be too long.
 #[test]
 fn too_long_to_write(rt: HostRuntime) -> Result<(), AllocError> {
     let too_long = SimFault::Bench(BenchFault::TooLong);

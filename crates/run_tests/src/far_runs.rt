@@ -1,5 +1,5 @@
-//! Many nets over ten million ticks: `simulate` and `twin` give what the kernel knows, since the engine
-//! that goes tick by tick would have to reckon 200,000,000,000 values here, and a test has a minute.
+//! Many nets over ten million ticks, by `simulate` and `twin`, which use the kernel. The plain engine would
+//! have to compute 200,000,000,000 values here, and a test has a minute.
 use logic3::{Change, Value, Waveform};
 use prepared_runs::{Picks, Show, Source, View};
 use run_pairs::{TwinAnswer, TwinFault, twin};
@@ -9,7 +9,7 @@ use std::process::Abort;
 use std::test::Fail;
 use vcd_dump::TimeUnit;
 
-// An input, and so many gates that invert it, the first of them an output.
+// An input, and this number of gates that invert it, the first of them an output.
 fn inverters(alloc: Global, count: u32) -> Result<Vec<u8>, AllocError> {
     let mut text = Vec::from_slice(alloc, b"INPUT(a)\nOUTPUT(y0)\n")?;
     for number in 0..count {
@@ -25,7 +25,7 @@ fn push_inverter(text: &mut Vec<u8>, number: u32) -> Result<(), AllocError> {
     text.extend_from_slice(b" = NOT(a)\n")
 }
 
-// The input is 0, and 1 from tick 5,000,000 on; each gate takes a million ticks.
+// The input is 0, and 1 from tick 5,000,000 on; each gate has a delay of a million ticks.
 fn driven(bench: &[u8]) -> Source<'_> {
     Source {
         bench,
@@ -95,7 +95,7 @@ fn two_runs(rt: HostRuntime) -> Result<(), Fail> {
     Ok(())
 }
 
-// So many inputs.
+// This number of inputs.
 fn inputs(alloc: Global, count: u32) -> Result<Vec<u8>, AllocError> {
     let mut text = Vec::new(alloc);
     for number in 0..count {
@@ -104,7 +104,7 @@ fn inputs(alloc: Global, count: u32) -> Result<Vec<u8>, AllocError> {
     Ok(text)
 }
 
-// Each shown net has a line for its name and one for its first value, beside eight others.
+// Each shown net has a line for its name and one for its first value; there are eight other lines.
 #[test]
 fn ten_thousand_nets(rt: HostRuntime) -> Result<(), Fail> {
     let bench = inputs(rt.alloc(), 10_000)?;
@@ -124,7 +124,7 @@ fn ten_thousand_nets(rt: HostRuntime) -> Result<(), Fail> {
     Ok(())
 }
 
-// A gate that turns over at each tick from 1 on.
+// A gate that changes at each tick from 1 on.
 #[test]
 fn a_hundred_thousand_changes(rt: HostRuntime) -> Result<(), Fail> {
     let source = Source {

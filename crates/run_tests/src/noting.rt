@@ -1,4 +1,4 @@
-//! What is noted of runs.
+//! Notes on runs.
 use bench_text::BenchFault;
 use prepared_runs::{Picks, SimFault, Source};
 use run_notes::notes_text;
@@ -6,7 +6,7 @@ use std::alloc::Global;
 use std::process::Abort;
 use timing_text::{DelayFault, OptionFault, StimulusFault};
 
-// An input that is driven, and an output behind it.
+// An input that is driven, and an output after it.
 const DRIVEN: Source<'static> = Source {
     bench: b"INPUT(e)\nOUTPUT(y)\ny = BUFF(e)\n",
     delays: b"",
@@ -16,7 +16,7 @@ const DRIVEN: Source<'static> = Source {
     picks: Picks::Nothing,
 };
 
-// A gate at three inputs, of which one at most is driven, and an inverter behind it.
+// A gate at three inputs, of which one at most is driven, and an inverter after it.
 const GATED: Source<'static> = Source {
     bench: b"INPUT(a)\nINPUT(b)\nINPUT(c)\nOUTPUT(y)\ny = AND(a, b, c)\nz = NOT(y)\n",
     stimuli: b"0 b 0\n",
@@ -30,31 +30,31 @@ const RING: Source<'static> = Source {
     ..DRIVEN
 };
 
-// All there is to note.
+// A run with every note.
 const ALL: Source<'static> = Source {
     bench: b"INPUT(e)\nz = NOT(y)\ny = AND(a, e)\nINPUT(a)\n",
     stimuli: b"0 e 1\n9 e 0\n",
     ..DRIVEN
 };
 
-const LATE: &[u8] = b"note: inputs with stimuli past the horizon, which play no part: e\n";
+const LATE: &[u8] = b"note: inputs whose stimuli after the horizon are ignored: e\n";
 
 const NO_OUTPUT: &[u8] = b"note: no net is an output\n";
 
-/// A run, its horizon, and what is noted of it.
+/// A run, its horizon, and the notes on it.
 type Row = (Source<'static>, u64, &'static [u8]);
 
 static NOTED: [Row; 13] = [
     (DRIVEN, 9, b""),
     (DRIVEN, 8, LATE),
-    // The last stimulus alone, which comes too late.
+    // Only the last stimulus, which comes too late.
     (
         Source {
             stimuli: b"9 e 1\n",
             ..DRIVEN
         },
         8,
-        b"note: inputs with stimuli past the horizon, which play no part: e\n\
+        b"note: inputs whose stimuli after the horizon are ignored: e\n\
           note: other nets that are X throughout: e y\n",
     ),
     // It comes at the horizon, and its gate a tick later.
@@ -123,10 +123,10 @@ static NOTED: [Row; 13] = [
         8,
         b"note: no net is an output\n\
           note: inputs without a stimulus, X throughout: a\n\
-          note: inputs with stimuli past the horizon, which play no part: e\n\
+          note: inputs whose stimuli after the horizon are ignored: e\n\
           note: other nets that are X throughout: z y\n",
     ),
-    // The 0 at tick 9 shows behind both gates.
+    // The 0 at tick 9 shows after both gates.
     (
         ALL,
         11,
@@ -147,7 +147,7 @@ fn noted(rt: HostRuntime) {
     }
 }
 
-// What picks the events plays no part, whatever is wrong with it.
+// What picks the events has no effect, whatever is wrong with it.
 #[test]
 fn noted_without_a_schedule(rt: HostRuntime) {
     let source = Source {

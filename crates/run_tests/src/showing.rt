@@ -19,15 +19,15 @@ const EDGE: Source<'static> = Source {
     picks: Picks::Nothing,
 };
 
-// Nets whose names are the words for other nets.
+// Nets whose names are the arguments for other nets.
 const WORDS: Source<'static> = Source {
     bench: b"INPUT(all)\nOUTPUT(outputs)\noutputs = NOT(all)\n",
     stimuli: b"0 all 0\n3 all 1\n",
     ..EDGE
 };
 
-// A flip-flop whose pin is 1 at tick 4 alone, an inverter behind it, and a gate beside them that oscillates
-// from tick 6 on.
+// A flip-flop whose pin is 1 at tick 4 alone, an inverter after it, and a gate beside them that oscillates from
+// tick 6 on.
 const BESIDE: Source<'static> = Source {
     bench: b"INPUT(e)\nz = NAND(e, z)\nINPUT(d)\nOUTPUT(y)\ny = NOT(q)\nq = DFF(d)\n",
     delays: b"timing version 2\nclock q 4 0\n",
@@ -35,13 +35,13 @@ const BESIDE: Source<'static> = Source {
     ..EDGE
 };
 
-// The same with events of both parts to begin with.
+// The same with events of both parts applied first.
 const PICKED: Source<'static> = Source {
     picks: Picks::Text(b"advance e\nadvance z\nadvance d\ndeliver z 1\nadvance z\ndeliver q 0\n"),
     ..BESIDE
 };
 
-// Of the inverter behind the flip-flop: its pin is 1 from tick 5 on, and 0 from tick 9 on.
+// Of the inverter after the flip-flop: its pin is 1 from tick 5 on, and 0 from tick 9 on.
 const BEHIND_DUMP: &[u8] =
     b"$version nullsim 1 $end\n$timescale 1 ns $end\n$scope module top $end\n$var wire 1 ! y $end\n$upscope $end\n$enddefinitions $end\n#0\n$dumpvars\nx!\n$end\n#6\n0!\n#10\n1!\n";
 
@@ -118,7 +118,7 @@ const OUTPUTS: View = View {
     unit: TimeUnit::Ns,
 };
 
-// The output hangs on a part of the circuit alone.
+// The output depends on a part of the circuit only.
 #[test]
 fn outputs_of_a_part(rt: HostRuntime) {
     for source in &[BESIDE, PICKED] {
@@ -128,7 +128,7 @@ fn outputs_of_a_part(rt: HostRuntime) {
     }
 }
 
-// An inverter and an input beside it; the events to begin with make all of both known.
+// An inverter and another input; the events that are applied first make both known to the horizon.
 const INVERTER_BESIDE: Source<'static> = Source {
     bench: b"INPUT(a)\nINPUT(b)\nOUTPUT(y)\ny = NOT(a)\n",
     stimuli: b"0 a 0\n3 a 1\n",
@@ -136,7 +136,7 @@ const INVERTER_BESIDE: Source<'static> = Source {
     ..EDGE
 };
 
-// The events make all known before the first sweep, so no percent is told before the last one.
+// The events make everything known before the first sweep, so no percentage is reported before the last one.
 fn knows_all_at_once(rt: &impl Abort, alloc: Global, show: Selection<'static>) {
     let view = DumpView {
         horizon: 5,
@@ -162,7 +162,7 @@ fn picked_events_are_applied(rt: HostRuntime) -> Result<(), AllocError> {
     Ok(())
 }
 
-// The run is refused so by the kernel, both ways, and nothing goes out.
+// The kernel refuses the run with this fault, by rounds and in sweeps, and nothing is written.
 fn refuses(rt: &impl Abort, alloc: Global, source: &Source, view: &DumpView, fault: SimFault) {
     let mut out = Vec::new(alloc);
     let answer = simulate_with_progress(alloc, source, view, &mut out, &mut Silent);
@@ -172,7 +172,7 @@ fn refuses(rt: &impl Abort, alloc: Global, source: &Source, view: &DumpView, fau
     assert!(rt; out.is_empty());
 }
 
-// A schedule is looked at before the names, and by the plain engine not at all.
+// A schedule is checked before the names, and by the plain engine not at all.
 #[test]
 fn unknown_names(rt: HostRuntime) -> Result<(), AllocError> {
     let names = Vec::from_slice(rt.alloc(), &[b"a".as_slice(), b"zz".as_slice()])?;

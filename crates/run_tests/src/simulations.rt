@@ -1,4 +1,4 @@
-//! Runs by the kernel: dumps byte for byte, what is reported, schedules.
+//! Runs by the kernel: dumps byte for byte, reports, schedules.
 use cmb_kernel::Counts;
 use plain_runs::plain;
 use prepared_runs::{Picks, Show, Source, View};
@@ -77,7 +77,7 @@ const PRESET_RING: Source<'static> = Source {
     ..RING_COUNTER
 };
 
-// The wire to the first side of the comparison takes as long as the buffer.
+// The wire to the first side of the comparison has the delay of the buffer.
 const WIRED_XOR: Source<'static> = Source {
     delays: b"timing version 2\nwire y 0 1\n",
     ..EDGE
@@ -103,7 +103,7 @@ fn counts([events, changes, nulls, rounds]: [u64; 4]) -> Counts {
     }
 }
 
-// The report of a run without a schedule that counts this in all.
+// The report of a run without a schedule, with these counts in total.
 fn unscheduled(total: [u64; 4]) -> Report {
     Report {
         after: counts([0, 0, 0, 0]),
@@ -154,10 +154,10 @@ const FIFTY: &[u8] = b"advance y\nadvance y\nadvance y\nadvance y\nadvance y\n\
       advance y\nadvance y\nadvance y\nadvance y\nadvance y\n\
       advance y\nadvance y\nadvance y\nadvance y\nadvance y\n";
 
-/// A run up to a tick, what was counted before its rounds and in all, and its dump.
+/// A run up to a tick, its counts before its rounds and in total, and its dump.
 type Run = (Source<'static>, u64, [u64; 4], [u64; 4], &'static [u8]);
 
-// What is counted and dumped, without schedules and with them.
+// Counts and dumps, without schedules and with them.
 static RUNS: [Run; 17] = [
     (INVERTER, 5, [0, 0, 0, 0], [7, 4, 3, 2], INVERTER_DUMP),
     (SLOW_INVERTER, 5, [0, 0, 0, 0], [2, 2, 2, 1], SLOW_DUMP),

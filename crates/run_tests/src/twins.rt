@@ -62,7 +62,7 @@ const BOTH: &[Change] = &[
     },
 ];
 
-// y by a gate that takes two ticks.
+// y by a gate with a delay of two ticks.
 const LATE: &[Change] = &[
     Change {
         tick: 2,
@@ -106,7 +106,7 @@ const STARTED: &[Change] = &[
     },
 ];
 
-// The output of the flip-flops' circuit, as reckoned by hand.
+// The output of the flip-flops' circuit, worked out independently.
 const OUTPUT: &[Change] = &[
     Change {
         tick: 6,
@@ -162,7 +162,7 @@ const SLOW: Source<'static> = Source {
 
 const OTHER_CLOCK: Source<'static> = Source { period: 10, ..FLOP };
 
-// Clock and init lines that say what holds without them, a phase, and an initial value.
+// Clock and init lines that repeat the defaults, a phase, and an initial value.
 const SAID: Source<'static> = Source {
     delays: b"timing version 2\nclock q 4 0\ninit q X\n",
     period: 10,
@@ -179,7 +179,7 @@ const OTHER_START: Source<'static> = Source {
     ..FLOP
 };
 
-// A wire to the compared net, and wires beside it and of no ticks.
+// A wire to the compared net, a wire to another net, and a wire of no ticks.
 const WIRED: Source<'static> = Source {
     delays: b"timing version 2\nwire y 0 1\n",
     ..ONE
@@ -206,17 +206,17 @@ static COMPARED: [Compared; 18] = [
     (ONE, OTHER, b"y", 5, true, INVERTED, INVERTED),
     (OTHER, ONE, b"y", 5, true, INVERTED, INVERTED),
     (ONE, OTHER, b"z", 5, false, BOTH, INVERTED),
-    // A change of an input past the horizon plays no part; one at the horizon does.
+    // A change of an input past the horizon has no effect; one at the horizon does.
     (ONE, DRIVEN_ON, b"y", 5, true, INVERTED, INVERTED),
     (ONE, DRIVEN_ON, b"y", 6, false, INVERTED, INVERTED),
-    // Neither what is picked nor what is beside the cone plays a part.
+    // Neither picked events nor the circuit outside the cone have an effect.
     (ONE, SCHEDULED, b"y", 5, true, INVERTED, INVERTED),
     (ONE, PICKED, b"y", 5, true, INVERTED, INVERTED),
     (ONE, SLOW_BESIDE, b"y", 5, true, INVERTED, INVERTED),
     (ONE, UNDRIVEN_BESIDE, b"y", 5, true, INVERTED, INVERTED),
     (S27, PICKED_S27, b"G17", 35, true, OUTPUT, OUTPUT),
     (ONE, WIRED_BESIDE, b"y", 5, true, INVERTED, INVERTED),
-    // A delay, a period, a phase, an initial value and a wire do, even where they show the same.
+    // A delay, a period, a phase, an initial value and a wire have one, even if they show the same.
     (SLOW, ONE, b"y", 5, false, LATE, INVERTED),
     (FLOP, OTHER_CLOCK, b"q", 9, false, SAMPLED, &[]),
     (FLOP, SAID, b"q", 9, true, SAMPLED, SAMPLED),
@@ -226,7 +226,7 @@ static COMPARED: [Compared; 18] = [
     (WIRED, SLOW, b"y", 5, false, LATE, LATE),
 ];
 
-// The waveform is X before its first change, and has just these changes.
+// The waveform is X before its first change, and has exactly these changes.
 fn is_wave(rt: &impl Abort, wave: &Waveform, changes: &[Change]) {
     assert!(rt; wave.before() == Value::Unknown);
     assert!(rt; wave.changes() == changes);
@@ -276,10 +276,10 @@ const BAD_PIN_PICKED: Source<'static> = Source {
 
 const BAD_PIN: SimFault = SimFault::Schedule(ScheduleFault::BadPin { line: 1 });
 
-/// A source, and what is wrong with it.
+/// A source, and its fault.
 type Faulty = (Source<'static>, SimFault);
 
-// Faults of the settings, which are looked at before the texts, and of each text.
+// Faults of the settings, which are checked before the texts, and of each text.
 static FAULTY: [Faulty; 10] = [
     (
         Source {
@@ -356,7 +356,7 @@ fn refuses(rt: &impl Abort, answer: Result<TwinAnswer, TwinFault>, side: Side, f
     assert!(rt; answer.err() == Some(TwinFault { side, fault }));
 }
 
-// A source is refused on both sides, even where no run has a net of the name, and by a check.
+// A source is refused on both sides, even if no run has a net with the name, and by a check.
 #[test]
 fn faults_of_a_source(rt: HostRuntime) {
     for (source, fault) in &FAULTY {
@@ -446,7 +446,7 @@ const OTHERWISE_PICKED_S27: Source<'static> = Source {
 /// A source, the horizon, and the numbers of nets and pins.
 type Checked = (Source<'static>, u64, u32, u32);
 
-// Circuits of several sizes, and what is picked, which plays no part.
+// Circuits of several sizes, and picked events, which have no effect.
 static CHECKED: [Checked; 7] = [
     (S27, 35, 17, 21),
     (S27, 0, 17, 21),
@@ -457,7 +457,7 @@ static CHECKED: [Checked; 7] = [
     (OTHERWISE_PICKED_S27, 35, 17, 21),
 ];
 
-// The engines give the same waveform for each of so many nets, with so many pins.
+// The engines give the same waveform for each of this number of nets, with this number of pins.
 #[test]
 fn engines_that_agree(rt: HostRuntime) {
     for &(source, horizon, nets, pins) in &CHECKED {

@@ -1,5 +1,5 @@
-//! Runs by each engine on writers that take little a call, and on writers that stumble: the dump is
-//! broken off with a first part of it, by the fault that the writer met.
+//! Runs by each engine on writers that accept few bytes a call, and on writers that fail: a prefix of the dump
+//! is written, and the run ends with the writer's fault.
 use plain_runs::plain;
 use prepared_runs::{Picks, Show, SimFault, Source, View};
 use runs::{simulate, sweep};
@@ -19,7 +19,7 @@ const INVERTER: Source<'static> = Source {
     picks: Picks::Nothing,
 };
 
-// A gate that turns over at each tick from 1 on.
+// A gate that changes at each tick from 1 on.
 const OSCILLATOR: Source<'static> = Source {
     bench: b"INPUT(e)\ny = NAND(e, y)\n",
     stimuli: b"0 e 0\n1 e 1\n",
@@ -32,7 +32,7 @@ const SHORT: View = View {
     unit: TimeUnit::Ns,
 };
 
-// Hundreds of thousands of changes, whose lines are some megabytes.
+// Hundreds of thousands of changes, whose lines have some megabytes.
 const LONG: View = View {
     horizon: 300_000,
     ..SHORT
@@ -45,7 +45,7 @@ enum Engine {
     Plain,
 }
 
-// What a run by this engine answers.
+// Returns the result of a run by this engine.
 fn dumps<W: Write>(
     alloc: Global,
     engine: Engine,
@@ -60,7 +60,7 @@ fn dumps<W: Write>(
     }
 }
 
-// How often the run writes to a writer that takes all, never nothing.
+// Returns the number of writes of the run to a writer that accepts everything. No write is empty.
 fn calls_of(rt: &impl Abort, alloc: Global, engine: Engine, dump: &[u8]) -> u32 {
     let mut out = Stumbling::new(alloc, u32::MAX, Slip::TakesNothing);
     assert!(rt; dumps(alloc, engine, &INVERTER, &SHORT, &mut out) == Ok(()));
@@ -69,8 +69,8 @@ fn calls_of(rt: &impl Abort, alloc: Global, engine: Engine, dump: &[u8]) -> u32 
     out.calls
 }
 
-// Each engine, and how often it writes to a writer that takes all: the declarations and the last time are a
-// call each, and so is what is known after each of two rounds, in one sweep, or by the plain engine.
+// Each engine, and the number of its writes to a writer that accepts everything: one for the declarations, one
+// for the last time, and one for what is known after each of two rounds, in one sweep, or by the plain engine.
 static ENGINES: [(Engine, u32); 3] = [(Engine::Rounds, 4), (Engine::Sweeps, 3), (Engine::Plain, 3)];
 
 #[test]
@@ -80,8 +80,8 @@ fn pieces_of_a_dump(rt: HostRuntime) {
     }
 }
 
-// A writer that takes so many bytes in all, and so many a call, is called so often and takes this of the
-// dump; where there is no room it fails, or takes nothing.
+// A writer with room for a number of bytes in total and in each call: the number of its calls, and the prefix
+// of the dump that it accepts. Without room it fails, or accepts nothing.
 fn takes(
     rt: &impl Abort,
     alloc: Global,
@@ -123,7 +123,7 @@ fn fault_of(slip: Slip) -> SimFault {
     }
 }
 
-// A writer that stumbles at the call of this number breaks the run off, and isn't called again.
+// A writer that fails at the call with this number breaks off the run, and isn't called again.
 fn breaks_off(
     rt: &impl Abort,
     alloc: Global,
@@ -152,7 +152,7 @@ fn writers_that_stumble_once(rt: HostRuntime) {
     }
 }
 
-// A dump of some megabytes goes out in pieces, and the writer stumbles at each of them in turn.
+// A dump of some megabytes is written in pieces, and the writer fails at each of them in turn.
 fn breaks_off_everywhere(rt: &impl Abort, alloc: Global, engine: Engine) {
     let mut out = Stumbling::new(alloc, u32::MAX, Slip::TakesNothing);
     assert!(rt; dumps(alloc, engine, &OSCILLATOR, &LONG, &mut out) == Ok(()));
