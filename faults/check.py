@@ -4,8 +4,8 @@
 The memory probes (crates/memory_probes) and each command of nullsim are run once for each of their requests for memory,
 which is then refused. After that nullsim is run over faulty streams and files, over texts that are cut off or changed at
 random, and over texts and circuits of the greatest size. Then come the answers in `cases/`, the examples of `explain`,
-products of a multiplier, the commands, pictures and prose of the pages, and the script that builds and starts the program.
-The last line is 'N passed, M failed', over all of these.
+products of a multiplier, the commands, pictures, prose and definitions of the pages, and the script that builds and starts
+the program. The last line is 'N passed, M failed', over all of these.
 
     check.py [--random COUNT] [--seed FIRST]    the number of circuits and decks changed at random, and the first seed
 """

@@ -1,5 +1,6 @@
 """The pages hold what the program prints: the commands in them, the pictures beside them, and a trace that another
-program computed from the definitions. What they show of a source is in that file. `prose` says how they read."""
+program computed from the definitions. What they show of a source is in that file. `prose` says how they read, and `believe` what the
+headline rests on."""
 import re
 import shutil
 import subprocess
@@ -7,6 +8,7 @@ from pathlib import Path
 from typing import Callable
 from xml.etree import ElementTree
 
+import believe
 import prose
 from programs import EXAMPLES, ROOT, SECONDS, run
 
@@ -127,11 +129,12 @@ def cases_of(program: Path, page: Path, folder: str) -> list[tuple[str, Callable
 
 
 def cases(program: Path, folder: str) -> list[tuple[str, Callable[[], str | None]]]:
-    """Each stored answer, each example of a page and each part of a source in one, with its check; and how pages read."""
+    """Each stored answer, each example of a page and each part of a source in one, with its check; how pages read; and
+    what the headline rests on."""
     found = [(name, lambda it=(program, ROOT / name, words): stored_fault(*it)) for name, words in STORED.items()]
     found.append(("the names that explain lists", lambda: names_fault(program)))
     there = Path(folder, "pages")
     shutil.copytree(EXAMPLES, there / "examples")
     for page in [ROOT / "README.md", *sorted((ROOT / "docs").glob("*.md")), EXAMPLES / "README.md"]:
         found += cases_of(program, page, str(there))
-    return found + prose.cases()
+    return found + prose.cases() + believe.cases()

@@ -1,2 +1,4 @@
+pub mod CallerLemmas
 mod EventCount
+mod Existing
 mod Picks

@@ -124,8 +124,9 @@ fn push_example_line(text: &mut String, circuit: &str, number: u64) -> Result<()
 fn push_both(text: &mut String, example: &Example) -> Result<(), AllocError>
     ensures { OnOk result (string_bytes text.new ≡ string_bytes text.old ++ both_texts example.now) }
 {
-    let (faulty, mended) = (example.faulty, example.mended);
-    write!(text, "{faulty}corrected:\n{mended}")
+    text.push_str(example.faulty)?;
+    text.push_str("corrected:\n")?;
+    text.push_str(example.mended)
 }
 
 /// Returns the names of all faults: a line for each table, with the subject's title and the names.

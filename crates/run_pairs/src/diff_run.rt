@@ -1,10 +1,11 @@
 //! Two runs, compared net by net.
-ghost use Rattle.std.specs.Prelude.{◌≡◌, ◌≢◌, IfErr, IfOk, IsOkAnd};
+ghost use Rattle.std.specs.Prelude.{◌≡◌, ◌≢◌, IfErr, IfOk, IsOkAnd, OnOk};
 ghost use Rattle.netlist.specs.Names.{seen_names};
 ghost use Rattle.run_pairs.specs.Diffs.{IsDiff, IsDiffRefusal, names_compared, names_of_outputs, on_run, pair_by, pair_in, pair_of, ticks_of_diff};
-ghost use Rattle.prepared_runs.specs.Prepared.{seen_run};
+ghost use Rattle.prepared_runs.specs.Prepared.{run_of_source, seen_run};
 ghost use Rattle.prepared_runs.specs.Source.{seen_source, MayWantMemory};
 ghost use Rattle.run_pairs.specs.Twins.{CanCompare, IsTwinRefusal};
+ghost use Rattle.runs.specs.Simulated.{IsCompleted};
 ghost use Rattle.prepared_runs.specs.declared.fault.SimFault.TheVariants.{Memory};
 
 use crate::diff_fault::DiffFault;
@@ -58,6 +59,9 @@ pub fn diff(
 ) -> Result<DiffAnswer, DiffFault>
     ensures ok { IfOk result (λ answer. IsOkAnd (pair_of (seen_source first.now) (seen_source second.now) (seen_names names.now) ticks)
         (λ pair. IsDiff pair answer.text.items answer.same)) }
+    // Both runs end complete.
+    ensures first_complete { OnOk result (IsOkAnd (run_of_source (seen_source first.now) ticks.horizon) IsCompleted) }
+    ensures second_complete { OnOk result (IsOkAnd (run_of_source (seen_source second.now) ticks.horizon) IsCompleted) }
     ensures err { IfErr result (IsDiffRefusal (pair_of (seen_source first.now) (seen_source second.now) (seen_names names.now) ticks)) }
     ensures memory { IfErr result (λ fault. (side : Side) → fault ≡ on_run side Memory → MayWantMemory (seen_source first.now) ticks.horizon) }
 {

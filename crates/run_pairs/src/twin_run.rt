@@ -1,12 +1,13 @@
 //! Two runs, compared at one net.
-ghost use Rattle.std.specs.Prelude.{◌≡◌, ◌+◌, ◌<◌, ◌≤◌, ◌↔◌, ◌∷◌, [], length, All, IfErr, IfOk, IsOkAnd, IsTrue, Ok, Err};
+ghost use Rattle.std.specs.Prelude.{◌≡◌, ◌+◌, ◌<◌, ◌≤◌, ◌↔◌, ◌∷◌, [], length, All, IfErr, IfOk, IsOkAnd, IsTrue, OnOk, Ok, Err};
 ghost use Rattle.logic3.specs.Wave.{wave_of};
 ghost use Rattle.design.specs.Equations.{value_of};
 ghost use Rattle.cmb_events.specs.Schedule.{most_events, Exists};
 ghost use Rattle.fanin_cone.specs.Agreement.{AgreesOn};
 ghost use Rattle.fanin_cone.specs.Cone.{InCone};
 ghost use Rattle.prepared_runs.specs.Source.{seen_source, MayWantMemory};
-ghost use Rattle.prepared_runs.specs.Prepared.{seen_run};
+ghost use Rattle.prepared_runs.specs.Prepared.{run_of_source, seen_run};
+ghost use Rattle.runs.specs.Simulated.{IsCompleted};
 ghost use Rattle.run_pairs.specs.Twins.{CanCompare, IsComparison, IsTwinRefusal, twins_in, twins_of};
 ghost use Rattle.prepared_runs.specs.declared.fault.SimFault.TheVariants.{Memory};
 
@@ -79,6 +80,9 @@ pub fn twin(
         IsOkAnd (twins_of (seen_source first.now) (seen_source second.now) name.now horizon)
         (λ twins. IsComparison twins name.now horizon answer)) }
     ensures isolated { IfOk result (λ answer. IsTrue answer.agree → answer.first ≡ answer.second) }
+    // Both runs end complete.
+    ensures first_complete { OnOk result (IsOkAnd (run_of_source (seen_source first.now) horizon) IsCompleted) }
+    ensures second_complete { OnOk result (IsOkAnd (run_of_source (seen_source second.now) horizon) IsCompleted) }
     ensures err { IfErr result
         (IsTwinRefusal (twins_of (seen_source first.now) (seen_source second.now) name.now horizon)) }
     ensures memory { IfErr result (λ fault. fault.fault ≡ Memory → MayWantMemory (seen_source first.now) horizon) }

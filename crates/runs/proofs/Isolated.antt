@@ -15,9 +15,10 @@ use Rattle.runs.specs.Isolation.{AcceptedRun, AgreeingRuns, EndsShowing, IsShown
 use Rattle.prepared_runs.specs.Source.{dump_of_design}
 use Rattle.runs.proofs.Reports.{simulated-good}
 use Rattle.prepared_runs.proofs.CallerLemmas.{ready_of_run, ShowsValues-run_of_source, name_is}
-use Rattle.runs.proofs.Simulated.{few_rounds}
+use Rattle.runs.proofs.Completed.{IsCompleted-run_of_source}
+use Rattle.runs.proofs.Simulated.{few_rounds, total_of}
 
--- an accepted run ends, and shows for a shown net what its equations give
+-- an accepted run ends complete, and shows for a shown net what its equations give
 ends_showing : (run : AcceptedRun) (name : List ℕ) (net : ℕ) (signal : ℕ → Value) → IsShown run name net →
     ((tick : ℕ) → tick ≤ run.view.horizon → value_of run.run.design.circuit net tick ≡ signal tick) → EndsShowing run name signal
 ends_showing accepted name net signal shown same =
@@ -28,6 +29,8 @@ ends_showing accepted name net signal shown same =
     let found = net_at-named run.design.netlist name net shown.number in
     let named : name_of run.design.circuit net ≡ name = name_is run.design design net (omega (arith, found.0, length-circuit run.design design)) ∙ found.1 in
     rw (simulated-good accepted.source view run accepted.accepted accepted.known) (record {
+      complete = IsCompleted-run_of_source accepted.source view.horizon run accepted.accepted;
+      counts = total_of run;
       rounds = few_rounds run;
       shows = λ tick due.
           subst (λ n. shown_value (dump_of_design view run.horizon run.design) n tick ≡ Some (value_of run.design.circuit net tick)) named

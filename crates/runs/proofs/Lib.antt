@@ -1,5 +1,6 @@
 pub mod CallerLemmas
 mod Checks
+mod Completed
 mod ConesShown
 mod Drains
 mod Isolated

@@ -11,7 +11,7 @@ use Rattle.cmb_kernel.specs.State.{KernelView, State, fresh, is_complete, most_r
 use Rattle.cmb_kernel.specs.Step.{after_deliver, completed_within, round_events, round_of, step, steps}
 use Rattle.prepared_runs.specs.Shown.{waves_up_to}
 use Rattle.prepared_runs.specs.Prepared.{RunView}
-use Rattle.runs.specs.Simulated.{report_of, reported}
+use Rattle.runs.specs.Simulated.{completed_run, report_of, reported}
 
 -- ---- no event of a schedule is refused
 
@@ -46,6 +46,11 @@ few_rounds run =
     omega arith
 
 -- ---- the report
+
+-- its total are the counts of the state in which the run ends
+pub total_of : (run : RunView) → (report_of run).total ≡ (completed_run run).counts
+unfolding report_of
+total_of run = refl
 
 -- a fresh kernel's report is the run's
 pub report_of-fresh : (run : RunView) (start : KernelView) (events : List Event) → start ≡ fresh run.design.circuit (run.horizon + 1) → events ≡ run.events →

@@ -1,6 +1,7 @@
 -- A run that goes on, with what every net knows taken out each time.
 use Rattle.std.proofs.Common.{◌≡◌, ◌≢◌, ℕ, ◌+◌, ◌-◌, ◌<◌, ◌≤◌, ◌==◌, min, Bool, true, false, List, [], ◌∷◌, map, length, refl, ap, sym, subst, ◌∙◌, arith, eqb-true}
 use Rattle.std.specs.List.{All}
+use Rattle.std.proofs.lemmas.Bool.{eq-eqb}
 use Rattle.std.proofs.lemmas.Bool.Decides.{nat_tests}
 use Rattle.std.proofs.lemmas.List.Elements.{All-head, All-tail}
 use Rattle.logic3.specs.Wave.{changes_between}
@@ -11,10 +12,11 @@ use Rattle.gate_process.proofs.CallerLemmas.{least-bound}
 use Rattle.cmb_kernel.specs.State.{KernelView, IsUndrained, floor_at, is_complete, least_delay, least_frontier, most_rounds}
 use Rattle.cmb_kernel.specs.Step.{completed_within, round_of}
 use Rattle.cmb_kernel.specs.Sound.{IsSound}
-use Rattle.cmb_kernel.proofs.CallerLemmas.{RoundsAlike, falls, least_tells, no_round_yet, round_more, same_counts, still_alike}
+use Rattle.cmb_kernel.proofs.CallerLemmas.{RoundsAlike, falls, frontier_when_complete, is_complete-true, least_tells, no_round_yet, round_more, same_counts, still_alike}
 use Rattle.vcd_dump.specs.Spans.{parts_of}
 use Rattle.runs.specs.Drained.{EachFloor, DrainsTo, values_of}
 use Rattle.runs.specs.Paces.{Suits}
+use Rattle.runs.specs.Simulated.{IsKnown}
 use Rattle.runs.specs.declared.pace.Pace.{Pace}
 use Rattle.runs.proofs.Drains.{least_same}
 
@@ -88,6 +90,12 @@ pub complete_is : (now mid : KernelView) (known : ℕ) → DrainsTo now mid → 
 complete_is now mid known drains is =
     let end = ap (λ (k : KernelView). k.end) drains.run in
     (λ i. (is ∙ sym (least_same now mid drains)) i == sym end i) ∙ least_tells mid.circuit mid.end mid.state drains.sound
+
+-- so then each net is
+pub known_to_end : (now mid : KernelView) (known : ℕ) → DrainsTo now mid → known ≡ least_frontier now.end now.state → known ≡ now.end → IsKnown mid
+known_to_end now mid known drains is whole net below =
+    let done = sym (complete_is now mid known drains is) ∙ eq-eqb known now.end whole in
+    frontier_when_complete mid.circuit mid.end mid.state drains.sound (is_complete-true mid.state done) net below
 
 module _ {ByRounds : Type 0} {start now mid : KernelView} {written known : ℕ} (so_far : Streamed ByRounds start now written) (drains : DrainsTo now mid)
     (is : known ≡ least_frontier now.end now.state) (floors : EachFloor mid (λ floor. floor ≡ known)) (ok : IsCircuit start.circuit) where

@@ -9,7 +9,7 @@ use Rattle.vcd_dump.specs.Shown.{shown_value}
 use Rattle.runs.specs.declared.simulation.Report.{Report}
 use Rattle.prepared_runs.specs.declared.view.DumpView.{DumpView}
 use Rattle.prepared_runs.specs.Prepared.{RunView, run_of_source}
-use Rattle.runs.specs.Simulated.{simulated}
+use Rattle.runs.specs.Simulated.{completed_run, simulated, IsCompleted}
 use Rattle.prepared_runs.specs.Source.{SourceView, knows_shown, shown_nets}
 
 -- an accepted input, and the run that it makes, which has each net to be shown
@@ -33,9 +33,11 @@ pub record AgreeingRuns (first second : AcceptedRun) (name : List ℕ) (net othe
   pub first_shown : IsShown first name net
   pub second_shown : IsShown second name other_net
 
--- the run takes at most as many rounds as least delays are needed to cover all its ticks, and its dump shows this
--- signal for the name, at every tick to the horizon
+-- the run ends complete, within as many rounds as least delays are needed to cover all its ticks; what it reports in total
+-- are the counts of its last state; and its dump shows this signal for the name, at every tick to the horizon
 pub record ShowsSignal (run : AcceptedRun) (name : List ℕ) (signal : ℕ → Value) (answer : List ℕ × Report) : Type 0 where
+  pub complete : IsCompleted run.run
+  pub counts : (answer.1).total ≡ (completed_run run.run).counts
   pub rounds : (answer.1).total.rounds ≤ most_rounds (run.run.horizon + 1) run.run.design.circuit
   pub shows : (tick : ℕ) → tick ≤ run.view.horizon → shown_value answer.0 name tick ≡ Some (signal tick)
 

@@ -3,13 +3,30 @@ use Rattle.std.specs.Prelude.{◌≡◌, ℕ, ◌+◌, ◌<◌, List, length, Re
 use Rattle.std.specs.Result.{result_map_both}
 use Rattle.text_lines.specs.Text.{◌>>=◌}
 use Rattle.design.specs.Circuit.{Circuit}
-use Rattle.cmb_kernel.specs.State.{KernelView, State, started, frontier_at, least_frontier, most_rounds}
+use Rattle.cmb_kernel.specs.State.{KernelView, State, started, frontier_at, least_frontier, most_rounds, IsComplete}
 use Rattle.cmb_kernel.specs.Step.{steps, completed_within}
 use Rattle.prepared_runs.specs.declared.fault.SimFault.{SimFault}
 use Rattle.runs.specs.declared.simulation.Report.{Report}
 use Rattle.prepared_runs.specs.declared.view.DumpView.{DumpView}
 use Rattle.prepared_runs.specs.Source.{SourceView, if_known, dump_of_design}
 use Rattle.prepared_runs.specs.Prepared.{RunView, run_of_source}
+
+-- ---- the states of a run
+
+-- the state that a run reaches by its events
+abbrev pub state_after_events : RunView → State
+state_after_events run = steps (started run.design.circuit (run.horizon + 1)) run.events
+
+-- the state in which a run ends: rounds follow the events until it is complete, and never more than the most that a run needs
+abbrev pub completed_run : RunView → State
+completed_run run = completed_within (most_rounds (run.horizon + 1) run.design.circuit) (state_after_events run)
+
+-- a run ends complete: its last state is, so that each net is known at every tick up to the horizon
+pub record IsCompleted (run : RunView) : Type 0 where
+  pub complete : IsComplete (completed_run run)
+  pub known : (net : ℕ) → net < length run.design.circuit → frontier_at (completed_run run) net ≡ run.horizon + 1
+
+-- ---- what it reports
 
 -- what is reported if the events lead to this state: of it, and of the rounds that complete it
 abbrev pub reported : ℕ → Circuit → State → Report
@@ -21,9 +38,7 @@ reported end circuit state = record {
 
 -- what a run reports
 unfoldable pub report_of : RunView → Report
-report_of run =
-    let end = run.horizon + 1 in
-    reported end run.design.circuit (steps (started run.design.circuit end) run.events)
+report_of run = reported (run.horizon + 1) run.design.circuit (state_after_events run)
 
 -- the answer to a source: the dump and the report, or the first fault
 unfoldable pub simulated : SourceView → DumpView → Result (List ℕ × Report) SimFault

@@ -1,5 +1,5 @@
 //! The kernel and the plain engine, compared.
-ghost use Rattle.std.specs.Prelude.{◌≡◌, ◌<◌, ◌≤◌, ◌^◌, length, map, All, IfErr, IfOk, IsOkAnd, false, Err};
+ghost use Rattle.std.specs.Prelude.{◌≡◌, ◌<◌, ◌≤◌, ◌^◌, length, map, All, IfErr, IfOk, IsOkAnd, OnOk, false, Err};
 ghost use Rattle.std.specs.List.{range_with_len};
 ghost use Rattle.logic3.specs.Wave.{wave_of};
 ghost use Rattle.design.specs.Equations.{value_of};
@@ -8,7 +8,7 @@ ghost use Rattle.cmb_kernel.specs.State.{IsUndrained};
 ghost use Rattle.runs.specs.Checked.{checked};
 ghost use Rattle.prepared_runs.specs.Ends.{IsRefusal};
 ghost use Rattle.prepared_runs.specs.Source.{seen_source, MayWantMemory};
-ghost use Rattle.runs.specs.Simulated.{IsKnown};
+ghost use Rattle.runs.specs.Simulated.{IsCompleted, IsKnown};
 ghost use Rattle.prepared_runs.specs.Prepared.{run_of_source, seen_run};
 ghost use Rattle.prepared_runs.specs.declared.fault.SimFault.TheVariants.{Memory};
 
@@ -38,6 +38,8 @@ pub struct CheckAnswer {
 pub fn check(alloc: Global, source: &Source<'_>, horizon: u64) -> Result<CheckAnswer, SimFault>
     ensures ok { IfOk result (λ answer. IsOkAnd (run_of_source (seen_source source.now) horizon)
         (λ run. answer ≡ checked run)) }
+    // The run that the source makes ends complete.
+    ensures complete { OnOk result (IsOkAnd (run_of_source (seen_source source.now) horizon) IsCompleted) }
     ensures err { IfErr result (IsRefusal (run_of_source (seen_source source.now) horizon)) }
     ensures memory { result ≡ Err Memory → MayWantMemory (seen_source source.now) horizon }
 {

@@ -24,9 +24,9 @@ pub fn picks_play_no_part()
 /// Isolation. Two accepted inputs, run to one horizon, agree on the fan-in cone that a net has in
 /// the first of them: its parts, pins, timings and stimuli up to the horizon. All else may
 /// differ: other nets, their order and numbers, settings, what is shown, and what picks the events.
-/// Then both runs end, within as many rounds as the horizon and their least delays allow, and both
-/// dumps show for that net, at every tick to the horizon, the same value: the one that its defining
-/// equations give.
+/// Then both runs end, complete, within as many rounds as the horizon and their least delays allow:
+/// each net is known up to the horizon. And both dumps show for that net, at every tick to the
+/// horizon, the same value: the one that its defining equations give.
 pub fn isolation()
     ensures first { (first second : AcceptedRun) (name : List ℕ) (net other_net : ℕ) →
         AgreeingRuns first second name net other_net →

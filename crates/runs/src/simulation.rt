@@ -4,7 +4,7 @@ ghost use Rattle.std.specs.Io.KnownBytes.{Appends};
 ghost use Rattle.cmb_kernel.specs.State.{most_rounds};
 ghost use Rattle.prepared_runs.specs.Source.{seen_source, MayWantMemory};
 ghost use Rattle.prepared_runs.specs.Ends.{RunEndsBy};
-ghost use Rattle.runs.specs.Simulated.{dump_in, simulated};
+ghost use Rattle.runs.specs.Simulated.{dump_in, simulated, IsCompleted};
 ghost use Rattle.prepared_runs.specs.Prepared.{run_of_source};
 ghost use Rattle.prepared_runs.specs.Viewed.{ShowsValues};
 ghost use Rattle.prepared_runs.specs.Views.{dump_view};
@@ -56,7 +56,9 @@ pub fn simulate<W: Write>(
     ensures shows { OnOk result (W.contents out.old ≡ Some [] → IfSome (W.contents out.new) (λ text.
         IsOkAnd (run_of_source (seen_source source.now) view.now.horizon)
         (λ run. ShowsValues (dump_view view.now) run.design text))) }
-    // A run takes at most as many rounds as least delays are needed to cover all its ticks.
+    // The run ends complete: each net is known up to the horizon.
+    ensures complete { OnOk result (IsOkAnd (run_of_source (seen_source source.now) view.now.horizon) IsCompleted) }
+    // It takes at most as many rounds as least delays are needed to cover all its ticks.
     ensures rounds { IfOk result (λ report. IsOkAnd (run_of_source (seen_source source.now) view.now.horizon)
         (λ run. report.total.rounds ≤ most_rounds (run.horizon + 1) run.design.circuit)) }
     ensures err { IfErr result (RunEndsBy (dump_in (simulated (seen_source source.now) (dump_view view.now)))
@@ -84,7 +86,9 @@ pub fn simulate_with_progress<W: Write, P: Progress>(
     ensures shows { OnOk result (W.contents out.old ≡ Some [] → IfSome (W.contents out.new) (λ text.
         IsOkAnd (run_of_source (seen_source source.now) view.now.horizon)
         (λ run. ShowsValues view.now run.design text))) }
-    // A run takes at most as many rounds as least delays are needed to cover all its ticks.
+    // The run ends complete: each net is known up to the horizon.
+    ensures complete { OnOk result (IsOkAnd (run_of_source (seen_source source.now) view.now.horizon) IsCompleted) }
+    // It takes at most as many rounds as least delays are needed to cover all its ticks.
     ensures rounds { IfOk result (λ report. IsOkAnd (run_of_source (seen_source source.now) view.now.horizon)
         (λ run. report.total.rounds ≤ most_rounds (run.horizon + 1) run.design.circuit)) }
     ensures err { IfErr result (RunEndsBy (dump_in (simulated (seen_source source.now) view.now))

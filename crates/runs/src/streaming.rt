@@ -12,7 +12,7 @@ ghost use Rattle.runs.specs.Alone.{CanShow};
 ghost use Rattle.runs.specs.Drained.{EachFloor, DrainsTo, IsRest, values_of};
 ghost use Rattle.prepared_runs.specs.Ends.{BreaksOff};
 ghost use Rattle.runs.specs.Paces.{Suits};
-ghost use Rattle.runs.specs.Simulated.{report_of, reported};
+ghost use Rattle.runs.specs.Simulated.{report_of, reported, IsKnown};
 ghost use Rattle.prepared_runs.specs.Prepared.{seen_run};
 ghost use Rattle.prepared_runs.specs.Source.{signals_of};
 ghost use Rattle.run_progress.specs.Told.{IsProgress, Told};
@@ -52,7 +52,8 @@ pub(crate) fn dump_by_kernel<W: Write, P: Progress>(
     stream_run(alloc, &mut kernel, run, unit, nets, pace, out, progress)
 }
 
-/// Applies the run's events, and then runs to the end and writes the dump of these nets.
+/// Applies the run's events, and then runs to the end and writes the dump of these nets. Each net is
+/// known to the end then.
 fn stream_run<W: Write, P: Progress>(
     alloc: Global,
     kernel: &mut RunKernel<'_>,
@@ -75,6 +76,7 @@ fn stream_run<W: Write, P: Progress>(
     requires once { AllPairs (λ (earlier later : ℕ). earlier ≢ later) nets.now }
     ensures report { pace.old ≡ Rounds → IfOk result (λ report.
         report ≡ reported kernel.old.end kernel.old.circuit (steps kernel.old.state run.now.schedule)) }
+    ensures complete { OnOk result (IsKnown kernel.new) }
     ensures ok { OnOk result (Appends (W.contents out.old) (W.contents out.new)
         (dump_text unit run.now.horizon (signals_of run.now.design.circuit nets.now))) }
     ensures err { IfErr result (BreaksOff (W.contents out.old) (W.contents out.new)
@@ -115,6 +117,7 @@ fn stream_to_end<W: Write, P: Progress>(
     requires nets { All (λ net. net < length run.now.design.circuit) nets.now }
     requires once { AllPairs (λ (earlier later : ℕ). earlier ≢ later) nets.now }
     ensures running { OnOk result (kernel.new.failed ≡ false) }
+    ensures complete { OnOk result (IsKnown kernel.new) }
     // Drains play no part in the counts.
     ensures counts { pace.old ≡ Rounds → OnOk result (kernel.new.state.counts ≡
         (completed_within (most_rounds kernel.old.end kernel.old.circuit) kernel.old.state).counts) }

@@ -9,7 +9,7 @@ ghost use Rattle.runs.specs.Alone.{CanShow};
 ghost use Rattle.runs.specs.AtEnd.{IsAtEnd};
 ghost use Rattle.prepared_runs.specs.Ends.{BreaksOff, RunEndsBy};
 ghost use Rattle.runs.specs.Paces.{Suits};
-ghost use Rattle.runs.specs.Simulated.{IsKnown, dump_in, simulated};
+ghost use Rattle.runs.specs.Simulated.{IsCompleted, IsKnown, dump_in, simulated};
 ghost use Rattle.prepared_runs.specs.Prepared.{run_of_source};
 ghost use Rattle.prepared_runs.specs.Source.{seen_source, signals_of, MayWantMemory};
 ghost use Rattle.prepared_runs.specs.Viewed.{ShowsValues};
@@ -49,6 +49,8 @@ pub fn sweep<W: Write>(
     ensures shows { OnOk result (W.contents out.old ≡ Some [] → IfSome (W.contents out.new) (λ text.
         IsOkAnd (run_of_source (seen_source source.now) view.now.horizon)
         (λ run. ShowsValues (dump_view view.now) run.design text))) }
+    // The run that the source makes ends complete.
+    ensures complete { OnOk result (IsOkAnd (run_of_source (seen_source source.now) view.now.horizon) IsCompleted) }
     ensures err { IfErr result (RunEndsBy (dump_in (simulated (seen_source source.now) (dump_view view.now)))
         (W.contents out.old) (W.contents out.new)) }
     ensures memory { result ≡ Err Memory → MayWantMemory (seen_source source.now) view.now.horizon }
@@ -74,6 +76,8 @@ pub fn sweep_with_progress<W: Write, P: Progress>(
     ensures shows { OnOk result (W.contents out.old ≡ Some [] → IfSome (W.contents out.new) (λ text.
         IsOkAnd (run_of_source (seen_source source.now) view.now.horizon)
         (λ run. ShowsValues view.now run.design text))) }
+    // The run that the source makes ends complete.
+    ensures complete { OnOk result (IsOkAnd (run_of_source (seen_source source.now) view.now.horizon) IsCompleted) }
     ensures err { IfErr result (RunEndsBy (dump_in (simulated (seen_source source.now) view.now))
         (W.contents out.old) (W.contents out.new)) }
     ensures memory { result ≡ Err Memory → MayWantMemory (seen_source source.now) view.now.horizon }

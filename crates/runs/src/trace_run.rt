@@ -3,8 +3,9 @@ ghost use Rattle.std.specs.Prelude.{◌≡◌, All, Err, IfErr, IsOkAnd, OnOk};
 ghost use Rattle.std.specs.Io.KnownBytes.{Appends};
 ghost use Rattle.cmb_events.specs.Schedule.{Exists};
 ghost use Rattle.prepared_runs.specs.Ends.{BreaksOff, RunEndsBy};
-ghost use Rattle.prepared_runs.specs.Prepared.{seen_run};
+ghost use Rattle.prepared_runs.specs.Prepared.{run_of_source, seen_run};
 ghost use Rattle.prepared_runs.specs.Source.{seen_source, MayWantMemory};
+ghost use Rattle.runs.specs.Simulated.{IsCompleted};
 ghost use Rattle.runs.specs.Traced.{trace_of_run, trace_of_source};
 ghost use Rattle.prepared_runs.specs.declared.fault.SimFault.TheVariants.{Memory};
 
@@ -26,6 +27,8 @@ pub fn trace<W: Write>(
 ) -> Result<(), SimFault>
     ensures ok { OnOk result (IsOkAnd (trace_of_source (seen_source source.now) horizon)
         (Appends (W.contents out.old) (W.contents out.new))) }
+    // The run that the source makes ends complete.
+    ensures complete { OnOk result (IsOkAnd (run_of_source (seen_source source.now) horizon) IsCompleted) }
     ensures err { IfErr result (RunEndsBy (trace_of_source (seen_source source.now) horizon)
         (W.contents out.old) (W.contents out.new)) }
     ensures memory { result ≡ Err Memory → MayWantMemory (seen_source source.now) horizon }

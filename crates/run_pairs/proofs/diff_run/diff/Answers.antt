@@ -15,6 +15,7 @@ use Rattle.prepared_runs.specs.Source.{seen_source, MayWantMemory}
 use Rattle.prepared_runs.specs.Prepared.{run_of_source, seen_run}
 use Rattle.run_pairs.proofs.Diffs.{IsDiffRefusal-lifted, IsDiffRefusal-run, IsDiffRefusal-ticks, IsOkAnd-run, pair_of-bad_first, pair_of-bad_second, pair_of-bad_ticks, pair_of-in}
 use Rattle.prepared_runs.proofs.CallerLemmas.{ready_of_run}
+use Rattle.runs.proofs.CallerLemmas.{run_completes}
 use Rattle.run_pairs.proofs.Twins.{CanCompare-made}
 use Rattle.run_pairs.proofs.diff_run.diff.Goals as goal
 
@@ -126,3 +127,17 @@ returns-clause-ok c =
     let answer = c.in_ok-diff_prepared.field-0 in
     rw (pair_of-in first second names ticks _ (sym c.in_ok-compared.ensures.exact) _ made_one _ made_other)
     (IsOkAnd-run (pair_in one other c.in_ok-compared.compared names) (λ pair. IsDiff pair answer.text.items answer.same) c.in_ok-diff_prepared.ensures.ok)
+
+pub returns-clause-first_complete : goal.returns-clause-first_complete
+returns-clause-first_complete c =
+    let first = seen_source c.args.first.now in
+    let horizon = c.args.ticks.horizon in
+    let made_one = IfOk-at_ok (λ (run : PreparedRun). run_of_source first horizon ≡ Ok (seen_run run)) c.in_ok-one.ensures.ok c.prepare_run.ensures.ok in
+    run_completes first horizon (seen_run c.in_ok-one.one) made_one
+
+pub returns-clause-second_complete : goal.returns-clause-second_complete
+returns-clause-second_complete c =
+    let second = seen_source c.args.second.now in
+    let horizon = c.args.ticks.horizon in
+    let made_other = IfOk-at_ok (λ (run : PreparedRun). run_of_source second horizon ≡ Ok (seen_run run)) c.in_ok-other.ensures.ok c.prepare_run-2.ensures.ok in
+    run_completes second horizon (seen_run c.in_ok-other.other) made_other

@@ -8,6 +8,7 @@ use Rattle.prepared_runs.specs.Source.{seen_source}
 use Rattle.prepared_runs.specs.Prepared.{run_of_source, seen_run}
 use Rattle.run_pairs.specs.Twins.{IsComparison, twins_in, twins_of}
 use Rattle.prepared_runs.proofs.CallerLemmas.{ready_of_run}
+use Rattle.runs.proofs.CallerLemmas.{run_completes_on}
 use Rattle.run_pairs.proofs.Twins.{CanCompare-made, IsTwinRefusal-lifted, twins_of-bad_first, twins_of-bad_second, twins_of-in}
 use Rattle.run_pairs.proofs.twin_run.twin.Goals as goal
 
@@ -60,6 +61,20 @@ returns-clause-ok c =
     rw (twins_of-in first second name horizon one made_one other made_other)
     (subst (λ ticks. IfOk c.compare.result (λ answer. IsOkAnd (twins_in one other name) (λ twins. IsComparison twins name ticks answer)))
     (ready_of_run first horizon one made_one).horizon c.compare.ensures.ok)
+
+pub returns-clause-first_complete : goal.returns-clause-first_complete
+returns-clause-first_complete c =
+    let first = seen_source c.args.first.now in
+    let horizon = c.args.horizon in
+    let made_one = IfOk-at_ok (λ (run : PreparedRun). run_of_source first horizon ≡ Ok (seen_run run)) c.in_ok-one.ensures.ok c.prepare_run.ensures.ok in
+    run_completes_on first horizon (seen_run c.in_ok-one.one) c.compare.result made_one
+
+pub returns-clause-second_complete : goal.returns-clause-second_complete
+returns-clause-second_complete c =
+    let second = seen_source c.args.second.now in
+    let horizon = c.args.horizon in
+    let made_other = IfOk-at_ok (λ (run : PreparedRun). run_of_source second horizon ≡ Ok (seen_run run)) c.in_ok-other.ensures.ok c.prepare_run-2.ensures.ok in
+    run_completes_on second horizon (seen_run c.in_ok-other.other) c.compare.result made_other
 
 pub returns-clause-err : goal.returns-clause-err
 returns-clause-err c =

@@ -8,7 +8,7 @@ use Rattle.prepared_runs.specs.Prepared.{RunView, run_of_source}
 use Rattle.prepared_runs.specs.Source.{seen_source, MayWantMemory}
 use Rattle.prepared_runs.specs.Viewed.{ShowsValues}
 use Rattle.runs.specs.declared.simulation.Report.{Report}
-use Rattle.runs.specs.Simulated.{dump_in, simulated}
+use Rattle.runs.specs.Simulated.{dump_in, simulated, IsCompleted}
 use Rattle.runs.proofs.simulation.simulate.Goals as goal
 
 pub returns-clause-ok : goal.returns-clause-ok
@@ -30,6 +30,11 @@ returns-clause-rounds g c =
     subst (λ (view : DumpView). IfOk c.simulate_with_progress.result (λ (report : Report). IsOkAnd (run_of_source (seen_source c.args.source.now) view.horizon)
     (λ (run : RunView). report.total.rounds ≤ most_rounds (run.horizon + 1) run.design.circuit)))
     c.of.ensures c.simulate_with_progress.ensures.rounds
+
+pub returns-clause-complete : goal.returns-clause-complete
+returns-clause-complete g c =
+    subst (λ (view : DumpView). OnOk c.simulate_with_progress.result (IsOkAnd (run_of_source (seen_source c.args.source.now) view.horizon) IsCompleted))
+    c.of.ensures c.simulate_with_progress.ensures.complete
 
 pub returns-clause-err : goal.returns-clause-err
 returns-clause-err g c =

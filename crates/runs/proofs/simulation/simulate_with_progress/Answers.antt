@@ -7,6 +7,7 @@ use Rattle.prepared_runs.specs.Source.{seen_source}
 use Rattle.prepared_runs.specs.Prepared.{run_of_source, seen_run}
 use Rattle.prepared_runs.specs.Ends.{BreaksOff}
 use Rattle.runs.proofs.Reports.{simulated-bad, simulated-good, simulated-unknown}
+use Rattle.runs.proofs.Completed.{run_completes_on}
 use Rattle.runs.proofs.ConesShown.{CanShow-shown}
 use Rattle.prepared_runs.proofs.CallerLemmas.{RunEndsBy-BreaksOff, RunEndsBy-IsRefusal, ShowsValues-run_of_source, dump_of_design-nets, IfSome-appended, ready_of_run}
 use Rattle.runs.proofs.Simulated.{few_rounds}
@@ -61,6 +62,10 @@ returns-clause-rounds g c =
     (IfOk-weaker c.dump_by_kernel.result _ _
     (λ report is. subst (λ (r : Report). r.total.rounds ≤ most_rounds (run.horizon + 1) run.design.circuit) (sym is) (few_rounds run))
     (c.dump_by_kernel.ensures.report refl))
+
+pub returns-clause-complete : goal.returns-clause-complete
+returns-clause-complete g c =
+    run_completes_on (seen_source c.args.source.now) c.args.view.now.horizon _ c.dump_by_kernel.result c.in_ok-run.ensures.ok
 
 pub returns-clause-err : goal.returns-clause-err
 returns-clause-err g c =

@@ -16,7 +16,7 @@ use Rattle.prepared_runs.specs.Ends.{BreaksOff}
 use Rattle.runs.specs.declared.pace.Pace.TheVariants.{Rounds}
 use Rattle.runs.proofs.Drains.{least_same}
 use Rattle.prepared_runs.proofs.CallerLemmas.{BreaksOff-memory}
-use Rattle.runs.proofs.Streamed.{Streamed, same, ahead_of, at_end, still_more, led, suits_of, suits_still, streamed_begins, least_within, streamed_more, streamed_less, counts_are}
+use Rattle.runs.proofs.Streamed.{Streamed, same, ahead_of, at_end, still_more, led, suits_of, suits_still, streamed_begins, least_within, streamed_more, streamed_less, counts_are, known_to_end}
 use Rattle.runs.proofs.Streams.{text_before, text_begins, breaks_at_first, goes_on, breaks_in_span, breaks_here, ends, breaks_at_end}
 use Rattle.runs.proofs.streaming.stream_to_end.Goals as goal
 
@@ -121,6 +121,11 @@ pub returns-then-known-end-clause-counts : goal.returns-then-known-end-clause-co
 returns-then-known-end-clause-counts g c =
     let ok = subst IsCircuit (sym c.requires.circuit) (IsCircuit-from_IsDesign c.args.run.now.design c.requires.well_formed) in
     λ by. counts_are c.loop-stream.invariant.streamed c.in_ok-write_known.ensures.drains c.least_frontier-known.ensures c.in_ok-write_known.ensures.floors ok by c.requires.sound
+    (at_end (ap (λ (k : KernelView). k.end) c.loop-stream.invariant.streamed.run ∙ c.requires.end) c.ticks-end.ensures.ticks c.if-known-end.true)
+
+pub returns-then-known-end-clause-complete : goal.returns-then-known-end-clause-complete
+returns-then-known-end-clause-complete g c =
+    known_to_end c.loop-stream.kernel c.write_known.new.kernel c.least_frontier-known.result c.in_ok-write_known.ensures.drains c.least_frontier-known.ensures
     (at_end (ap (λ (k : KernelView). k.end) c.loop-stream.invariant.streamed.run ∙ c.requires.end) c.ticks-end.ensures.ticks c.if-known-end.true)
 
 pub returns-then-known-end-clause-ok : goal.returns-then-known-end-clause-ok

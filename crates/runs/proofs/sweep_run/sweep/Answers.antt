@@ -6,7 +6,7 @@ use Rattle.prepared_runs.specs.Ends.{RunEndsBy}
 use Rattle.prepared_runs.specs.Prepared.{RunView, run_of_source}
 use Rattle.prepared_runs.specs.Source.{seen_source, MayWantMemory}
 use Rattle.prepared_runs.specs.Viewed.{ShowsValues}
-use Rattle.runs.specs.Simulated.{dump_in, simulated}
+use Rattle.runs.specs.Simulated.{dump_in, simulated, IsCompleted}
 use Rattle.runs.proofs.sweep_run.sweep.Goals as goal
 
 pub returns-clause-ok : goal.returns-clause-ok
@@ -21,6 +21,11 @@ returns-clause-shows g c =
     IfSome (g.W.Write.contents c.sweep_with_progress.new.out) (λ text. IsOkAnd (run_of_source (seen_source c.args.source.now) view.horizon)
     (λ (run : RunView). ShowsValues view run.design text))))
     c.of.ensures c.sweep_with_progress.ensures.shows
+
+pub returns-clause-complete : goal.returns-clause-complete
+returns-clause-complete g c =
+    subst (λ (view : DumpView). OnOk c.sweep_with_progress.result (IsOkAnd (run_of_source (seen_source c.args.source.now) view.horizon) IsCompleted))
+    c.of.ensures c.sweep_with_progress.ensures.complete
 
 pub returns-clause-err : goal.returns-clause-err
 returns-clause-err g c =

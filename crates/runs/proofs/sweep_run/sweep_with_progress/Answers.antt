@@ -5,6 +5,7 @@ use Rattle.prepared_runs.specs.Source.{seen_source}
 use Rattle.prepared_runs.specs.Prepared.{run_of_source, seen_run}
 use Rattle.prepared_runs.specs.Ends.{BreaksOff}
 use Rattle.runs.proofs.Reports.{simulated-bad, simulated-good, simulated-unknown}
+use Rattle.runs.proofs.Completed.{run_completes_on}
 use Rattle.runs.proofs.ConesShown.{CanShow-shown, dump_alone}
 use Rattle.prepared_runs.proofs.CallerLemmas.{RunEndsBy-BreaksOff, RunEndsBy-IsRefusal, ShowsValues-run_of_source, IfSome-appended, ready_of_run}
 use Rattle.run_progress.specs.Told.{IsProgress, Told}
@@ -44,6 +45,10 @@ returns-clause-shows g c =
     (λ done empty. IfSome-appended _ _ _ _ empty (subst (Appends _ _) text done)
     (ShowsValues-run_of_source (seen_source c.args.source.now) c.args.view.now _ c.in_ok-run.ensures.ok))
     c.dump_by_sweeps.ensures.ok)
+
+pub returns-clause-complete : goal.returns-clause-complete
+returns-clause-complete g c =
+    run_completes_on (seen_source c.args.source.now) c.args.view.now.horizon _ c.dump_by_sweeps.result c.in_ok-run.ensures.ok
 
 pub returns-clause-err : goal.returns-clause-err
 returns-clause-err g c =

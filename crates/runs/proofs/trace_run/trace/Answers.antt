@@ -1,6 +1,7 @@
 use Rattle.std.proofs.lemmas.Result.{err_from_is_err_and, IfErr-weaker}
 use Rattle.prepared_runs.specs.Prepared.{run_of_source}
 use Rattle.prepared_runs.specs.Source.{seen_source}
+use Rattle.runs.proofs.Completed.{run_completes_on}
 use Rattle.runs.proofs.Traces.{trace_of_source-bad, trace_of_source-good}
 use Rattle.prepared_runs.proofs.CallerLemmas.{RunEndsBy-BreaksOff, RunEndsBy-IsRefusal}
 use Rattle.runs.proofs.trace_run.trace.Goals as goal
@@ -14,6 +15,9 @@ returns-in_err-run-clause-err g c =
 pub returns-clause-ok : goal.returns-clause-ok
 returns-clause-ok g c =
     rw (trace_of_source-good (seen_source c.args.source.now) c.args.horizon _ c.in_ok-run.ensures.ok) c.trace_prepared.ensures.ok
+
+pub returns-clause-complete : goal.returns-clause-complete
+returns-clause-complete g c = run_completes_on (seen_source c.args.source.now) c.args.horizon _ c.trace_prepared.result c.in_ok-run.ensures.ok
 
 pub returns-clause-err : goal.returns-clause-err
 returns-clause-err g c =
