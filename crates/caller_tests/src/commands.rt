@@ -148,7 +148,7 @@ static ROWS: [Row; 15] = [
 
 #[test]
 fn answers(rt: HostRuntime) -> Result<(), Fail> {
-    for &(line, wanted, dump, told) in &ROWS {
+    for &(line, wanted, dump, message) in &ROWS {
         let words: Vec<String> = words_of(rt.alloc(), line)?;
         let mut texts = Map {
             alloc: rt.alloc(),
@@ -159,7 +159,7 @@ fn answers(rt: HostRuntime) -> Result<(), Fail> {
         let status: u8 = command(rt.alloc(), &words, &mut texts, &mut out, &mut err);
         assert_eq!(rt; status, wanted, "at {line}");
         assert!(rt; out.as_slice() == dump, "at {line}");
-        assert!(rt; err.as_slice() == told, "at {line}");
+        assert!(rt; err.as_slice() == message, "at {line}");
     }
     Ok(())
 }

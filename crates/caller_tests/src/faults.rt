@@ -1,5 +1,5 @@
 //! Faults of whole runs and of the texts that they are read from: each variant by its name, and no others.
-use crate::runs::INVERTER;
+use crate::simulations::INVERTER;
 use bench_text::BenchFault;
 use cmb_kernel::ScheduleFault;
 use design::{DelayFault, OptionFault, StimulusFault};

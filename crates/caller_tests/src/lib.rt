@@ -11,7 +11,7 @@ mod commands;
 #[cfg(test)]
 mod cones;
 #[cfg(test)]
-mod decks;
+mod deck_runs;
 #[cfg(test)]
 mod designs;
 #[cfg(test)]
@@ -35,9 +35,9 @@ mod processes;
 #[cfg(test)]
 mod refusing;
 #[cfg(test)]
-mod runs;
-#[cfg(test)]
 mod schedules;
+#[cfg(test)]
+mod simulations;
 #[cfg(test)]
 mod streams;
 #[cfg(test)]

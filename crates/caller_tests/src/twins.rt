@@ -1,5 +1,5 @@
 //! Two runs compared at a net, and the two engines compared.
-use crate::runs::INVERTER;
+use crate::simulations::INVERTER;
 use logic3::{Change, Value, Waveform};
 use nullsim::{CheckAnswer, Side, SimFault, Source, TwinAnswer, TwinFault, check, twin};
 use std::process::Abort;

@@ -139,7 +139,7 @@ pub(super) static UNITS: [Described; 1] = [Described(
 )];
 
 /// Whether a run reports its progress.
-pub(super) static TOLD: [Described; 1] = [Described(
+pub(super) static REPORTED: [Described; 1] = [Described(
     "progress",
     Takes::Nothing,
     Absent::Nothing,

@@ -1,6 +1,6 @@
 //! The subcommand `plain`: its options, and its order.
 use crate::help::subcommand_named;
-use crate::options::{ALONE, LENGTH, SHOWN, SOURCE, TOLD, UNITS, source_given, view_given};
+use crate::options::{ALONE, LENGTH, REPORTED, SHOWN, SOURCE, UNITS, source_given, view_given};
 use clap::{ArgMatches, Command};
 use orders::{Order, PickOptions};
 use std::alloc::{AllocError, Global};
@@ -21,7 +21,7 @@ pub(super) fn subcommand<'a>(alloc: Global) -> Result<Command<'a>, AllocError> {
             LENGTH.as_slice(),
             SHOWN.as_slice(),
             UNITS.as_slice(),
-            TOLD.as_slice(),
+            REPORTED.as_slice(),
         ],
     )
 }

@@ -1,7 +1,7 @@
 //! The subcommand `run`: its options, and its order.
 use crate::described::{Absent, Described, Takes};
 use crate::help::subcommand_named;
-use crate::options::{ALONE, LENGTH, SHOWN, SOURCE, TOLD, UNITS, source_given, view_given};
+use crate::options::{ALONE, LENGTH, REPORTED, SHOWN, SOURCE, UNITS, source_given, view_given};
 use crate::picks::{PICKED, picks_given};
 use clap::{ArgMatches, Command, Error};
 use orders::Order;
@@ -32,7 +32,7 @@ pub(super) fn subcommand<'a>(alloc: Global) -> Result<Command<'a>, AllocError> {
             UNITS.as_slice(),
             PICKED.as_slice(),
             OPTIONS.as_slice(),
-            TOLD.as_slice(),
+            REPORTED.as_slice(),
         ],
     )
 }

@@ -65,12 +65,12 @@ fn read_asked<'a>(alloc: Global, words: &'a [String]) -> Result<Asked<'a>, Error
     Ok(Asked::Order {
         order: order_matched(alloc, &matches)?,
         verbose: matches.get_flag("verbose"),
-        progress: tells_progress(&matches),
+        progress: reports_progress(&matches),
     })
 }
 
 /// Returns whether the arguments ask a run to report its progress.
-fn tells_progress(matches: &ArgMatches<'_>) -> bool {
+fn reports_progress(matches: &ArgMatches<'_>) -> bool {
     match matches.subcommand() {
         Some(("run", options)) => options.get_flag("progress"),
         Some(("plain", options)) => options.get_flag("progress"),

@@ -1,2 +1,2 @@
 mod Decks
-mod Told
+mod Reported

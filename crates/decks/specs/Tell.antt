@@ -13,7 +13,7 @@ use Rattle.decks.specs.DeckRun.{DeckEndsBy, dump_of_deck, fault_of_deck}
 
 -- a failed read of standard input, as a fault of the program
 abbrev pub IsUnreadDeck : ReadFault → ProgramFault → Type 0
-IsUnreadDeck fault told = (name : Bor (List ℕ)) × (name.now ≡ codes "stdin") × (told ≡ fault_of_read name fault)
+IsUnreadDeck fault reported = (name : Bor (List ℕ)) × (name.now ≡ codes "stdin") × (reported ≡ fault_of_read name fault)
 
 module _ (out out_new err err_new : Option (List ℕ)) (status : ℕ) where
   -- ---- a deck that was read and has this answer
@@ -31,16 +31,16 @@ module _ (out out_new err err_new : Option (List ℕ)) (status : ℕ) where
   abbrev pub DeckUnflushed : Result (List ℕ) DeckFault → Type 0
   DeckUnflushed answer = IsOkAnd answer (Appends out out_new) × Reports section_names Flush err err_new status
 
-  abbrev pub DeckTold : Result (List ℕ) DeckFault → Type 0
-  DeckTold answer = DeckDone answer ⊎ (DeckBroken answer ⊎ DeckUnflushed answer)
+  abbrev pub DeckReported : Result (List ℕ) DeckFault → Type 0
+  DeckReported answer = DeckDone answer ⊎ (DeckBroken answer ⊎ DeckUnflushed answer)
 
   -- ---- standard input
 
   -- it couldn't be read: nothing was written
   abbrev pub DeckUnread : Type 0
   DeckUnread =
-      (fault : ReadFault) × ((told : ProgramFault) × IsUnreadDeck fault told × Keeps out out_new × Reports section_names told err err_new status)
+      (fault : ReadFault) × ((reported : ProgramFault) × IsUnreadDeck fault reported × Keeps out out_new × Reports section_names reported err err_new status)
 
   -- or what was reported is for the deck that the reader has: for all its bytes, if they are known
   abbrev pub TellEnds : Option (List ℕ) → Type 0
-  TellEnds bytes = DeckUnread ⊎ ((deck : List ℕ) × IfSome bytes (λ all. deck ≡ all) × DeckTold (dump_of_deck deck))
+  TellEnds bytes = DeckUnread ⊎ ((deck : List ℕ) × IfSome bytes (λ all. deck ≡ all) × DeckReported (dump_of_deck deck))

@@ -1,6 +1,6 @@
 //! The program without arguments.
 ghost use Rattle.decks.specs.DeckRun.{dump_of_deck};
-ghost use Rattle.decks.specs.Tell.{DeckTold, IsUnreadDeck, TellEnds};
+ghost use Rattle.decks.specs.Tell.{DeckReported, IsUnreadDeck, TellEnds};
 
 use crate::deck_run::deck_in_sweeps;
 use program_io::status::DONE;
@@ -40,7 +40,7 @@ fn unread_deck(fault: ReadFault) -> ProgramFault<'static>
 /// failed. Except for 0, one line `WHERE:LINE: NAME` is written to `err`, without allocating memory; a fault of
 /// `err` is ignored.
 pub fn answer_deck<W: Write, E: Write>(alloc: Global, text: &[u8], out: &mut W, err: &mut E) -> u8
-    ensures { DeckTold (W.contents out.old) (W.contents out.new) (E.contents err.old) (E.contents err.new)
+    ensures { DeckReported (W.contents out.old) (W.contents out.new) (E.contents err.old) (E.contents err.new)
         result (dump_of_deck text.now) }
 {
     match deck_in_sweeps(alloc, text, out) {

@@ -1,8 +1,8 @@
 //! Arguments, orders and the program with arguments: a prefix of the answer has been written, and a failed
 //! allocation is reported.
-use crate::faults::told;
+use crate::faults::reported;
 use crate::whole_runs::{
-    CONE, INFO, NO_DIFFERENCE, OSCILLATOR, SAME, TOLD, TWINS, answered, ended,
+    CONE, INFO, MEMORY_LINE, NO_DIFFERENCE, OSCILLATOR, SAME, TWINS, answered, ended,
 };
 use command_line::parse_words;
 use engine_probes::{Follower, Teller};
@@ -84,7 +84,7 @@ const UNWRITTEN: &[u8] = b"stdout:0: Write\n\
 /// Probes each command, and one whose answer can't be written.
 pub(crate) fn probe<W: Write>(alloc: Global, teller: &mut Teller<W>) -> Option<()> {
     for (line, text) in &LINES {
-        let words = told(teller, "words", words_of(alloc, line))?;
+        let words = reported(teller, "words", words_of(alloc, line))?;
         orders(alloc, teller, words.as_slice(), text)?;
         commands(alloc, teller, words.as_slice(), text)?;
     }
@@ -105,11 +105,11 @@ fn orders<W: Write>(
     words: &[String],
     text: &'static [u8],
 ) -> Option<()> {
-    told(teller, "parse_words", parse_words(alloc, words))?;
-    match told(teller, "asked_by_words", asked_by_words(alloc, words))? {
+    reported(teller, "parse_words", parse_words(alloc, words))?;
+    match reported(teller, "asked_by_words", asked_by_words(alloc, words))? {
         Asked::Order { order, .. } => {
             carried_out(alloc, teller, &order, text)?;
-            told_orders(alloc, teller, &order, text)
+            reported_orders(alloc, teller, &order, text)
         }
         Asked::Explanation { .. } | Asked::FaultNames => Some(()),
     }
@@ -123,19 +123,19 @@ fn carried_out<W: Write>(
 ) -> Option<()> {
     let mut shelf = Shelf { alloc };
     let mut out = Follower::of(text);
-    let texts = told(teller, "Order::read", order.read(alloc, &mut shelf))?;
+    let texts = reported(teller, "Order::read", order.read(alloc, &mut shelf))?;
     let answer = order.carry_out(alloc, &texts, &mut out, &mut Silent);
     ended(teller, "Order::carry_out", answer, &out)
 }
 
-fn told_orders<W: Write>(
+fn reported_orders<W: Write>(
     alloc: Global,
     teller: &mut Teller<W>,
     order: &Order<'_>,
     text: &'static [u8],
 ) -> Option<()> {
     let mut shelf = Shelf { alloc };
-    let (mut out, mut err) = (Follower::of(text), Follower::of(TOLD));
+    let (mut out, mut err) = (Follower::of(text), Follower::of(MEMORY_LINE));
     let status = answer_order(alloc, order, false, &mut shelf, &mut out, &mut err);
     answered(teller, "answer_order", status, &out, &err)
 }
@@ -147,14 +147,14 @@ fn commands<W: Write>(
     text: &'static [u8],
 ) -> Option<()> {
     let mut shelf = Shelf { alloc };
-    let (mut out, mut err) = (Follower::of(text), Follower::of(TOLD));
+    let (mut out, mut err) = (Follower::of(text), Follower::of(MEMORY_LINE));
     let status = command(alloc, words, &mut shelf, &mut out, &mut err);
     answered(teller, "command", status, &out, &err)
 }
 
 /// Reports that a writer is full, and the system's message, unless an allocation for it failed.
 fn unwritten<W: Write>(alloc: Global, teller: &mut Teller<W>) -> Option<()> {
-    let words = told(teller, "words", words_of(alloc, "info --bench e.bench -v"))?;
+    let words = reported(teller, "words", words_of(alloc, "info --bench e.bench -v"))?;
     let mut err = Follower::of(UNWRITTEN);
     let mut shelf = Shelf { alloc };
     let status = command(alloc, words.as_slice(), &mut shelf, &mut Full {}, &mut err);

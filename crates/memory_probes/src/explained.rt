@@ -1,5 +1,5 @@
 //! The explanations of faults.
-use crate::faults::told;
+use crate::faults::reported;
 use engine_probes::Teller;
 use explanations::{AtHand, Subject, explanation_text, fault_text, names_text, tables};
 use std::alloc::Global;
@@ -19,12 +19,12 @@ static FAULT: AtHand<'static> = AtHand {
 /// fault.
 pub(crate) fn probe<W: Write>(alloc: Global, teller: &mut Teller<W>) -> Option<()> {
     let tables = tables();
-    told(
+    reported(
         teller,
         "explanation_text",
         explanation_text(alloc, &tables, "BadLine"),
     )?;
-    told(teller, "names_text", names_text(alloc, &tables))?;
-    told(teller, "fault_text", fault_text(alloc, &tables, FAULT))?;
+    reported(teller, "names_text", names_text(alloc, &tables))?;
+    reported(teller, "fault_text", fault_text(alloc, &tables, FAULT))?;
     Some(())
 }

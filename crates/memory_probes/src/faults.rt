@@ -18,7 +18,7 @@ pub(crate) trait Fault {
 }
 
 /// Prints the line of a call of which only the answer is checked. Returns its value, unless it is a fault.
-pub(crate) fn told<T: Drop, E: Fault + Drop, W: Write>(
+pub(crate) fn reported<T: Drop, E: Fault + Drop, W: Write>(
     teller: &mut Teller<W>,
     call: &str,
     answer: Result<T, E>,

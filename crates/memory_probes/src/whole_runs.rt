@@ -1,5 +1,5 @@
 //! Whole runs: a prefix of the text has been written.
-use crate::faults::{Fault, told};
+use crate::faults::{Fault, reported};
 use circuit_texts::{cone_text, info};
 use decks::{answer_deck, deck, tell};
 use engine_probes::{Follower, Teller};
@@ -64,7 +64,7 @@ const DECK: &[u8] =
     b"%nullsim 12\n%bench\nINPUT(e)\ny = NAND(e, y)\n%delays\ny 2\n%stimuli\n0 e 0\n5 e 1\n%schedule\nadvance e\n";
 
 /// What the program prints if an allocation fails.
-pub(crate) const TOLD: &[u8] = b"memory:0: Memory\n";
+pub(crate) const MEMORY_LINE: &[u8] = b"memory:0: Memory\n";
 
 /// The percentages of the 13 ticks of the oscillator, one by one.
 const PERCENTS: &[u8] = b"\r0%\r7%\r15%\r23%\r30%\r38%\r46%\r53%\r61%\r69%\r76%\r84%\r92%\r100%\n";
@@ -108,7 +108,7 @@ pub(crate) fn probe<W: Write>(alloc: Global, teller: &mut Teller<W>) -> Option<(
     for (source, horizon, dump) in &INPUT_RUNS {
         let view = DumpView {
             horizon: *horizon,
-            show: told(teller, "Selection::Named", input_twice(alloc))?,
+            show: reported(teller, "Selection::Named", input_twice(alloc))?,
             unit: TimeUnit::Ns,
         };
         named_dumps(alloc, teller, source, &view, dump)?;
@@ -197,8 +197,8 @@ fn progress<W: Write>(alloc: Global, teller: &mut Teller<W>) -> Option<()> {
             out.is_whole() && err.is_whole(),
         ),
         Err(fault) => {
-            let told = fault.is_memory() && out.follows();
-            teller.refused("runs::plain_with_progress", told);
+            let reported = fault.is_memory() && out.follows();
+            teller.refused("runs::plain_with_progress", reported);
             None
         }
     }
@@ -223,14 +223,14 @@ fn written_dumps<W: Write>(
 
 fn comparisons<W: Write>(alloc: Global, teller: &mut Teller<W>) -> Option<()> {
     let answer = twin(alloc, &OSCILLATOR, &OSCILLATOR, b"y", 12);
-    told(teller, "runs::twin", answer)?;
-    told(teller, "runs::check", check(alloc, &OSCILLATOR, 12))?;
+    reported(teller, "runs::twin", answer)?;
+    reported(teller, "runs::check", check(alloc, &OSCILLATOR, 12))?;
     let text = cone_text(alloc, OSCILLATOR.bench, &[b"y".as_slice()]);
-    told(teller, "runs::cone_text", text)?;
-    told(teller, "runs::info", info(alloc, OSCILLATOR.bench))?;
+    reported(teller, "runs::cone_text", text)?;
+    reported(teller, "runs::info", info(alloc, OSCILLATOR.bench))?;
     let answer = diff(alloc, &OSCILLATOR, &OSCILLATOR, &[], COUNTING);
-    told(teller, "runs::diff", answer)?;
-    told(
+    reported(teller, "runs::diff", answer)?;
+    reported(
         teller,
         "run_notes::notes_text",
         notes_text(alloc, &OSCILLATOR, 12),
@@ -261,10 +261,10 @@ fn decks<W: Write>(alloc: Global, teller: &mut Teller<W>) -> Option<()> {
     let mut out = Follower::of(OSCILLATOR_DUMP);
     let answer = deck(alloc, DECK, &mut out);
     ended(teller, "decks::deck", answer, &out)?;
-    let (mut out, mut err) = (Follower::of(OSCILLATOR_DUMP), Follower::of(TOLD));
+    let (mut out, mut err) = (Follower::of(OSCILLATOR_DUMP), Follower::of(MEMORY_LINE));
     let status = answer_deck(alloc, DECK, &mut out, &mut err);
     answered(teller, "decks::answer_deck", status, &out, &err)?;
-    let (mut out, mut err) = (Follower::of(OSCILLATOR_DUMP), Follower::of(TOLD));
+    let (mut out, mut err) = (Follower::of(OSCILLATOR_DUMP), Follower::of(MEMORY_LINE));
     let mut input = DECK;
     let status = tell(alloc, &mut input, &mut out, &mut err);
     answered(teller, "decks::tell", status, &out, &err)
@@ -280,7 +280,7 @@ pub(crate) fn answered<W: Write>(
     err: &Follower,
 ) -> Option<()> {
     if status == 0 {
-        return teller.fine(call, out.is_whole() && err.left() == TOLD.len());
+        return teller.fine(call, out.is_whole() && err.left() == MEMORY_LINE.len());
     }
     teller.refused(call, status == 4 && out.follows() && err.is_whole());
     None
@@ -290,6 +290,6 @@ pub(crate) fn answered<W: Write>(
 fn readings<W: Write>(alloc: Global, teller: &mut Teller<W>) -> Option<()> {
     let bytes = [b'z'; 20_000];
     let mut input = bytes.as_slice();
-    let text = told(teller, "read_text", read_text(alloc, &mut input))?;
+    let text = reported(teller, "read_text", read_text(alloc, &mut input))?;
     teller.fine("read_text", text.as_slice() == bytes.as_slice())
 }

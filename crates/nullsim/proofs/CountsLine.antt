@@ -1,4 +1,4 @@
--- The line of counts, and what an order tells beside its answer.
+-- The line of counts, and what an order reports beside its answer.
 use Rattle.std.proofs.Common.{◌≡◌, ℕ, Bool, List, [], ◌∷◌, ◌++◌, Result, Ok, inl, inr, ap, sym, subst, ◌∙◌, append_assoc}
 use Rattle.std.proofs.lemmas.List.{append-nil}
 use Rattle.std.specs.List.{concat}
@@ -20,18 +20,18 @@ pub concat-joined : (text : List ℕ) (texts : List (List ℕ)) → concat (text
 concat-joined text [] = append-nil text
 concat-joined text (next ∷ texts) = sym (append_assoc text next (concat texts)) ∙ concat-joined (text ++ next) texts
 
--- such an answer went out, and what is told beside it was told
+-- such an answer went out, and what is reported beside it was reported
 pub AnswerDone-outcome : (IsSuch : Result Answer ProgramFault → Type 0) (old new : Streams) (outcome : Outcome) (status : ℕ) →
     GoesOut IsSuch old.out new.out outcome → AppendsPrefix old.err new.err (outcome_text outcome) → status ≡ status_of_outcome outcome →
     AnswerDone IsSuch old new status
-AnswerDone-outcome IsSuch old new outcome status (answer, is, (appends, same)) part told =
-    (answer, is, (appends, subst (λ (o : Outcome). AppendsPrefix old.err new.err (outcome_text o)) same part, told ∙ ap status_of_outcome same))
+AnswerDone-outcome IsSuch old new outcome status (answer, is, (appends, same)) part reported =
+    (answer, is, (appends, subst (λ (o : Outcome). AppendsPrefix old.err new.err (outcome_text o)) same part, reported ∙ ap status_of_outcome same))
 
 -- an answer of the one kind is one of the other
 module _ (P Q : Result Answer ProgramFault → Type 0) (turns : (answer : Result Answer ProgramFault) → P answer → Q answer) where
   pub Answered-weaker : (progress : Bool) (order : Order) (old new : Streams) (status : ℕ) → Answered P progress order old new status →
       Answered Q progress order old new status
-  Answered-weaker progress order old new status (inl (told, progressed, (answer, is, done))) =
-      inl (told, progressed, (answer, turns (Ok answer) is, done))
-  Answered-weaker progress order old new status (inr (told, progressed, (fault, no_read, ends, reports))) =
-      inr (told, progressed, (fault, no_read, AnswerEndsBy-weaker P Q turns old.out new.out fault ends, reports))
+  Answered-weaker progress order old new status (inl (reported, progressed, (answer, is, done))) =
+      inl (reported, progressed, (answer, turns (Ok answer) is, done))
+  Answered-weaker progress order old new status (inr (reported, progressed, (fault, no_read, ends, reports))) =
+      inr (reported, progressed, (fault, no_read, AnswerEndsBy-weaker P Q turns old.out new.out fault ends, reports))

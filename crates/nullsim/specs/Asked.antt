@@ -9,13 +9,13 @@ use Rattle.command_line.specs.declared.words.Asked.{Asked}
 use Rattle.command_line.specs.declared.words.Asked.TheVariants as asked
 use Rattle.command_line.specs.declared.words.NoOrder.{NoOrder}
 use Rattle.nullsim.specs.Command.{Explains, HelpsIfAsked, Streams, TextMade, VersionGiven}
-use Rattle.nullsim.specs.Progress.{OrderTold, OrderToldVerbosely}
+use Rattle.nullsim.specs.Progress.{OrderReported, OrderReportedVerbosely}
 use Rattle.nullsim.specs.Version.{asks_for_version}
 
 -- an order is carried out; if requested, its fault is explained by some tables, and its progress is reported
 abbrev pub OrderEnds : Bool → Bool → Option (List ℕ) → KnownTexts → Order → Streams → Streams → ℕ → Type 0
-OrderEnds false progress said known order old new status = OrderTold progress known order old new status
-OrderEnds true progress said known order old new status = (tables : List Table) × OrderToldVerbosely progress tables said known order old new status
+OrderEnds false progress said known order old new status = OrderReported progress known order old new status
+OrderEnds true progress said known order old new status = (tables : List Table) × OrderReportedVerbosely progress tables said known order old new status
 
 -- or the explanation of the faults with a name, or the names of all faults, is printed by some tables, and no file is read
 abbrev pub AskedEnds : Option (List ℕ) → KnownTexts → Asked → Streams → Streams → ℕ → Type 0

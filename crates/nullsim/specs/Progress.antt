@@ -9,21 +9,21 @@ use Rattle.orders.specs.declared.order.Order.{Order}
 use Rattle.orders.specs.declared.order_texts.OrderTexts.{OrderTexts}
 use Rattle.orders.specs.Options.{KnownTexts, ReadsOrder}
 use Rattle.orders.specs.OrderAnswer.{IsAnswer}
-use Rattle.orders.specs.Progress.{BrokenTicks, DoneTicks, horizon_told}
+use Rattle.orders.specs.Progress.{BrokenTicks, DoneTicks, horizon_reported}
 use Rattle.orders.specs.Readings.{ReadsAll, files_of}
 use Rattle.nullsim.specs.Command.{AnswerBroken, AnswerDone, OrderUnread, Streams}
 use Rattle.nullsim.specs.Noted.{AnswerNoted}
 use Rattle.nullsim.specs.Verbose.{AnswerBrokenVerbosely, OrderUnreadVerbosely}
 
 -- the percentages of such numbers of ticks were written, or a prefix of them; nothing if they aren't requested
-abbrev pub TellsProgress : Bool → Order → (List ℕ → Type 0) → Option (List ℕ) → Option (List ℕ) → Type 0
-TellsProgress false order Such old new = new ≡ old
-TellsProgress true order Such old new = (ticks : List ℕ) × Such ticks × AppendsPrefix old new (progress_text (horizon_told order) ticks)
+abbrev pub ReportsProgress : Bool → Order → (List ℕ → Type 0) → Option (List ℕ) → Option (List ℕ) → Type 0
+ReportsProgress false order Such old new = new ≡ old
+ReportsProgress true order Such old new = (ticks : List ℕ) × Such ticks × AppendsPrefix old new (progress_text (horizon_reported order) ticks)
 
 module _ (progress : Bool) (order : Order) (old : Streams) where
   -- the progress, and then such an end
   abbrev pub Behind : (List ℕ → Type 0) → (Streams → Type 0) → Type 0
-  Behind Such Ends = (told : Option (List ℕ)) × TellsProgress progress order Such old.err told × Ends (record old { err = told })
+  Behind Such Ends = (reported : Option (List ℕ)) × ReportsProgress progress order Such old.err reported × Ends (record old { err = reported })
 
   -- an order is done or broken off, after the progress of each
   abbrev pub Ended : (Streams → Type 0) → (Streams → Type 0) → Type 0
@@ -34,11 +34,11 @@ module _ (progress : Bool) (order : Order) (old : Streams) where
 -- such an answer, or the fault after all files were read, is reported
 abbrev pub Answered : (Result Answer ProgramFault → Type 0) → Bool → Order → Streams → Streams → ℕ → Type 0
 Answered IsSuch progress order old new status =
-    Ended progress order old (λ told. AnswerDone IsSuch told new status) (λ told. AnswerBroken IsSuch order told new status)
+    Ended progress order old (λ reported. AnswerDone IsSuch reported new status) (λ reported. AnswerBroken IsSuch order reported new status)
 
 -- its files were read, and its answer or its fault is reported; or one couldn't be read, and only that is reported
-abbrev pub OrderTold : Bool → KnownTexts → Order → Streams → Streams → ℕ → Type 0
-OrderTold progress known order old new status =
+abbrev pub OrderReported : Bool → KnownTexts → Order → Streams → Streams → ℕ → Type 0
+OrderReported progress known order old new status =
     OrderUnread order old new status
     ⊎ (ReadsAll (files_of order) old.readings new.readings × Answered (IsAnswer known order) progress order old new status)
 
@@ -46,11 +46,11 @@ OrderTold progress known order old new status =
 
 abbrev pub AnsweredVerbosely : List Table → OrderTexts → Bool → Order → Streams → Streams → ℕ → Type 0
 AnsweredVerbosely tables texts progress order old new status =
-    Ended progress order old (λ told. AnswerNoted texts order told new status) (λ told. AnswerBrokenVerbosely tables order told new status texts)
+    Ended progress order old (λ reported. AnswerNoted texts order reported new status) (λ reported. AnswerBrokenVerbosely tables order reported new status texts)
 
 -- by the texts that were read, or by the system's message on a failed read, as the texts know it
-abbrev pub OrderToldVerbosely : Bool → List Table → Option (List ℕ) → KnownTexts → Order → Streams → Streams → ℕ → Type 0
-OrderToldVerbosely progress tables said known order old new status =
+abbrev pub OrderReportedVerbosely : Bool → List Table → Option (List ℕ) → KnownTexts → Order → Streams → Streams → ℕ → Type 0
+OrderReportedVerbosely progress tables said known order old new status =
     OrderUnreadVerbosely tables order old new status said
     ⊎ ((texts : OrderTexts) × ReadsOrder known order texts × ReadsAll (files_of order) old.readings new.readings
     × AnsweredVerbosely tables texts progress order old new status)

@@ -8,10 +8,10 @@ ghost use Rattle.explanations.specs.Explained.{all_names, explained};
 ghost use Rattle.orders.specs.OrderAnswer.{IsAnswerTo};
 ghost use Rattle.nullsim.specs.Asked.{CommandEnds, OrderEnds};
 ghost use Rattle.nullsim.specs.Command.{Explains, TextGiven, TextMade, VersionGiven, line_of_numbers, outcome_text, status_of_outcome};
-ghost use Rattle.nullsim.specs.Progress.{Answered, OrderTold};
+ghost use Rattle.nullsim.specs.Progress.{Answered, OrderReported};
 ghost use Rattle.nullsim.specs.Version.{asks_for_version};
 
-use crate::telling::carry_out;
+use crate::carrying::carry_out;
 use crate::verbose::answer_verbosely;
 use crate::version::{asks_for_version, give_version};
 use crate::words::asked_by_words;
@@ -62,8 +62,8 @@ pub fn command<T: Texts, W: Write, E: Write>(
                 progress,
             },
         ) => answer_as_asked(alloc, &order, verbose, progress, texts, out, err),
-        Ok(Asked::Explanation { name }) => tell_fault(alloc, &tables(), name, out, err),
-        Ok(Asked::FaultNames) => tell_names(alloc, &tables(), out, err),
+        Ok(Asked::Explanation { name }) => print_fault(alloc, &tables(), name, out, err),
+        Ok(Asked::FaultNames) => print_names(alloc, &tables(), out, err),
         Err(no_order) => explain(no_order, out, err),
     }
 }
@@ -78,7 +78,7 @@ fn answer_as_asked<T: Texts, W: Write, E: Write>(
     out: &mut W,
     err: &mut E,
 ) -> u8
-    ensures told { OrderEnds verbose progress (T.said texts.new) (T.known texts.old) order.now
+    ensures reported { OrderEnds verbose progress (T.said texts.new) (T.known texts.old) order.now
         (record { readings = T.readings texts.old; out = W.contents out.old; err = E.contents err.old })
         (record { readings = T.readings texts.new; out = W.contents out.new; err = E.contents err.new }) result }
     ensures no_usage { result ≢ 2 }
@@ -105,7 +105,7 @@ pub fn answer_order<T: Texts, W: Write, E: Write>(
     out: &mut W,
     err: &mut E,
 ) -> u8
-    ensures told { OrderTold progress (T.known texts.old) order.now
+    ensures reported { OrderReported progress (T.known texts.old) order.now
         (record { readings = T.readings texts.old; out = W.contents out.old; err = E.contents err.old })
         (record { readings = T.readings texts.new; out = W.contents out.new; err = E.contents err.new }) result }
     ensures no_usage { result ≢ 2 }
@@ -125,22 +125,22 @@ fn answer_read<W: Write, E: Write>(
     out: &mut W,
     err: &mut E,
 ) -> u8
-    ensures told { Answered (IsAnswerTo order.now texts.now) progress order.now
+    ensures reported { Answered (IsAnswerTo order.now texts.now) progress order.now
         (record { readings = None; out = W.contents out.old; err = E.contents err.old })
         (record { readings = None; out = W.contents out.new; err = E.contents err.new }) result }
     ensures no_usage { result ≢ 2 }
 {
     match carry_out(alloc, order, texts, progress, out, err) {
-        Ok(outcome) => tell_outcome(err, outcome),
+        Ok(outcome) => report_outcome(err, outcome),
         Err(fault) => report(err, fault, order.text_names(fault.side())),
     }
 }
 
 /// Writes what is printed with an answer, or a prefix of it if the writer fails, and returns the exit status.
 /// Allocates no memory.
-pub(crate) fn tell_outcome<E: Write>(err: &mut E, outcome: Outcome) -> u8
+pub(crate) fn report_outcome<E: Write>(err: &mut E, outcome: Outcome) -> u8
     ensures status { result ≡ status_of_outcome outcome }
-    ensures told { AppendsPrefix (E.contents err.old) (E.contents err.new) (outcome_text outcome) }
+    ensures reported { AppendsPrefix (E.contents err.old) (E.contents err.new) (outcome_text outcome) }
 {
     match outcome {
         Outcome::Done => DONE,
@@ -201,14 +201,14 @@ fn write_numbers<'a, E: Write>(
 }
 
 /// Writes the explanations of the faults with this name, and flushes once; returns the exit status.
-fn tell_fault<W: Write, E: Write>(
+fn print_fault<W: Write, E: Write>(
     alloc: Global,
     tables: &[Table],
     name: &str,
     out: &mut W,
     err: &mut E,
 ) -> u8
-    ensures told { TextMade (explained tables.now name.now) (W.contents out.old) (W.contents out.new)
+    ensures reported { TextMade (explained tables.now name.now) (W.contents out.old) (W.contents out.new)
         (E.contents err.old) (E.contents err.new) result }
     ensures no_usage { result ≢ 2 }
 {
@@ -219,8 +219,8 @@ fn tell_fault<W: Write, E: Write>(
 }
 
 /// Writes the names of all faults, and flushes once; returns the exit status.
-fn tell_names<W: Write, E: Write>(alloc: Global, tables: &[Table], out: &mut W, err: &mut E) -> u8
-    ensures told { TextMade (all_names tables.now) (W.contents out.old) (W.contents out.new)
+fn print_names<W: Write, E: Write>(alloc: Global, tables: &[Table], out: &mut W, err: &mut E) -> u8
+    ensures reported { TextMade (all_names tables.now) (W.contents out.old) (W.contents out.new)
         (E.contents err.old) (E.contents err.new) result }
     ensures no_usage { result ≢ 2 }
 {

@@ -7,7 +7,7 @@ ghost use Rattle.nullsim.specs.Version.{version};
 pub use runs::laws::isolation;
 
 /// The first line of each dump has the program's version.
-pub fn dumps_tell_the_version()
+pub fn dumps_print_the_version()
     ensures { (unit : TimeUnit) →
         (rest : List ℕ) × (heading unit ≡ line (codes "$version " ++ version ++ codes " $end") ++ rest) }
 {}

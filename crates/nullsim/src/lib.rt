@@ -1,13 +1,13 @@
 //! The interface of the simulator for callers: runs, decks, and the program without and with arguments.
 #![tactic(auto)]
 
+mod carrying;
 mod commander;
 pub mod laws;
 mod names;
 mod notes;
 mod numbers;
 mod reasons;
-mod telling;
 mod verbose;
 mod version;
 mod words;

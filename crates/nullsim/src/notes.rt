@@ -5,8 +5,8 @@ ghost use Rattle.prepared_runs.specs.Source.{seen_source};
 ghost use Rattle.nullsim.specs.Command.{outcome_text, status_of_outcome};
 ghost use Rattle.nullsim.specs.Noted.{AppendsParts, drawn_note, noted_source, order_notes, picks_note, run_of};
 
-use crate::commander::tell_outcome;
-use crate::verbose::write_told;
+use crate::commander::report_outcome;
+use crate::verbose::print_text;
 use orders::{Order, OrderTexts, PickOptions, SourceOptions, SourceTexts};
 use prepared_runs::{Picks, Source};
 use program_io::Outcome;
@@ -17,7 +17,7 @@ use std::io::Write;
 
 /// Writes what is printed with an answer, followed by the notes on the order's run, or a prefix of each if the
 /// writer fails; returns the exit status. If an allocation fails, there are no notes.
-pub(crate) fn tell_noted<E: Write>(
+pub(crate) fn report_noted<E: Write>(
     alloc: Global,
     order: &Order<'_>,
     texts: &OrderTexts,
@@ -25,10 +25,10 @@ pub(crate) fn tell_noted<E: Write>(
     err: &mut E,
 ) -> u8
     ensures status { result ≡ status_of_outcome outcome }
-    ensures told { AppendsParts (E.contents err.old) (E.contents err.new) (outcome_text outcome)
+    ensures reported { AppendsParts (E.contents err.old) (E.contents err.new) (outcome_text outcome)
         (order_notes texts.now order.now) }
 {
-    let status = tell_outcome(err, outcome);
+    let status = report_outcome(err, outcome);
     write_notes(alloc, order, texts, err);
     status
 }
@@ -38,7 +38,7 @@ fn write_notes<E: Write>(alloc: Global, order: &Order<'_>, texts: &OrderTexts, e
     ensures { AppendsPrefix (E.contents err.old) (E.contents err.new) (order_notes texts.now order.now) }
 {
     match notes_of(alloc, order, texts) {
-        Some(notes) => write_told(err, notes.as_slice()),
+        Some(notes) => print_text(err, notes.as_slice()),
         None => {}
     }
 }

@@ -2,13 +2,13 @@
 ghost use Rattle.std.specs.Prelude.{◌≡◌, ◌≢◌, None, option_and_then, option_map, IfOk};
 ghost use Rattle.vcd_dump.specs.Bytes.{AppendsPrefix};
 ghost use Rattle.nullsim.specs.AtFault.{name_at_fault};
-ghost use Rattle.nullsim.specs.Progress.{AnsweredVerbosely, OrderToldVerbosely};
+ghost use Rattle.nullsim.specs.Progress.{AnsweredVerbosely, OrderReportedVerbosely};
 ghost use Rattle.nullsim.specs.Verbose.{ReportsVerbosely, explanation, reason_of, subject_of, subject_of_run, text_at_fault, text_in_run};
 
+use crate::carrying::carry_out_heard;
 use crate::names::name_at_fault;
-use crate::notes::tell_noted;
+use crate::notes::report_noted;
 use crate::numbers::number_at_fault;
-use crate::telling::carry_out_heard;
 use explanations::{AtHand, Subject, Table, fault_text};
 use orders::{Order, OrderTexts, SourceTexts, Texts};
 use prepared_runs::SimFault;
@@ -33,7 +33,7 @@ pub fn answer_verbosely<T: Texts, W: Write, E: Write>(
     out: &mut W,
     err: &mut E,
 ) -> u8
-    ensures told { OrderToldVerbosely progress tables.now (T.said texts.new) (T.known texts.old) order.now
+    ensures reported { OrderReportedVerbosely progress tables.now (T.said texts.new) (T.known texts.old) order.now
         (record { readings = T.readings texts.old; out = W.contents out.old; err = E.contents err.old })
         (record { readings = T.readings texts.new; out = W.contents out.new; err = E.contents err.new }) result }
     ensures no_usage { result ≢ 2 }
@@ -54,14 +54,14 @@ fn answer_read<W: Write, E: Write>(
     out: &mut W,
     err: &mut E,
 ) -> u8
-    ensures told { AnsweredVerbosely tables.now texts.now progress order.now
+    ensures reported { AnsweredVerbosely tables.now texts.now progress order.now
         (record { readings = None; out = W.contents out.old; err = E.contents err.old })
         (record { readings = None; out = W.contents out.new; err = E.contents err.new }) result }
     ensures no_usage { result ≢ 2 }
 {
     let (carried, said) = carry_out_heard(alloc, order, texts, progress, out, err);
     match carried {
-        Ok(outcome) => tell_noted(alloc, order, texts, outcome, err),
+        Ok(outcome) => report_noted(alloc, order, texts, outcome, err),
         Err(fault) => {
             let said = said.as_ref().map(|said| said.as_bytes());
             report_verbosely(alloc, tables, order, fault, Some(texts), said, err)
@@ -80,7 +80,7 @@ fn report_verbosely<E: Write>(
     said: Option<&[u8]>,
     err: &mut E,
 ) -> u8
-    ensures told { ReportsVerbosely tables.now (option_map (λ texts. texts.now) texts.entry) order.now fault.entry
+    ensures reported { ReportsVerbosely tables.now (option_map (λ texts. texts.now) texts.entry) order.now fault.entry
         (E.contents err.old) (E.contents err.new) result (option_map (λ said. said.now) said.entry) }
     ensures no_usage { result ≢ 2 }
 {
@@ -105,7 +105,7 @@ fn explain_fault<E: Write>(
         order.now fault.entry) }
 {
     match explanation(alloc, tables, order, fault, texts, said) {
-        Ok(told) => write_told(err, told.as_slice()),
+        Ok(text) => print_text(err, text.as_slice()),
         Err(_) => {}
     }
 }
@@ -119,7 +119,7 @@ fn explanation<'a>(
     texts: Option<&'a OrderTexts>,
     said: Option<&'a [u8]>,
 ) -> Result<Vec<u8>, AllocError>
-    ensures { IfOk result (λ told. told.items ≡ explanation tables.now
+    ensures { IfOk result (λ text. text.items ≡ explanation tables.now
         (record { texts = option_map (λ texts. texts.now) texts.entry; said = option_map (λ said. said.now) said.entry })
         order.now fault.entry) }
 {
@@ -195,10 +195,10 @@ fn reason_of<'a>(fault: ProgramFault<'_>, said: Option<&'a [u8]>) -> Option<&'a 
     }
 }
 
-pub(crate) fn write_told<E: Write>(err: &mut E, told: &[u8])
-    ensures { AppendsPrefix (E.contents err.old) (E.contents err.new) told.now }
+pub(crate) fn print_text<E: Write>(err: &mut E, text: &[u8])
+    ensures { AppendsPrefix (E.contents err.old) (E.contents err.new) text.now }
 {
-    let _ = write_all_bytes(err, told);
+    let _ = write_all_bytes(err, text);
 }
 
 /// Returns the subject of a fault.

@@ -15,14 +15,14 @@ pub fn asked_by_words<'a>(alloc: Global, words: &'a [String]) -> Result<Asked<'a
 {
     match parse_words(alloc, words) {
         Ok(asked) => Ok(asked),
-        Err(NoOrder::Help(text)) if !asks_for_help(words) => Err(told(alloc, text, words)),
-        Err(NoOrder::Usage(text)) => Err(told(alloc, text, words)),
+        Err(NoOrder::Help(text)) if !asks_for_help(words) => Err(usage_error(alloc, text, words)),
+        Err(NoOrder::Usage(text)) => Err(usage_error(alloc, text, words)),
         Err(no_order) => Err(no_order),
     }
 }
 
 /// Returns the usage error with this text and a tip, if any.
-fn told(alloc: Global, text: String, words: &[String]) -> NoOrder
+fn usage_error(alloc: Global, text: String, words: &[String]) -> NoOrder
     ensures { HelpsIfAsked words.now result }
 {
     match with_tip(alloc, text, words) {

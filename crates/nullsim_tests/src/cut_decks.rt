@@ -1,12 +1,12 @@
 //! Decks that are cut off, and numbers of a hundred digits in them.
-use crate::telling::INVERTER;
+use crate::deck_reports::INVERTER;
 use nullsim::tell;
 use std::alloc::Global;
 use std::process::Abort;
 use worked_examples::dumps::INVERTER_DUMP;
 
 // The answer to a deck: the status, standard output, and the fault line.
-fn tells(rt: &impl Abort, alloc: Global, deck: &[u8], status: u8, dump: &[u8], fault: &[u8]) {
+fn answers(rt: &impl Abort, alloc: Global, deck: &[u8], status: u8, dump: &[u8], fault: &[u8]) {
     let (mut input, mut out, mut err) = (deck, Vec::new(alloc), Vec::new(alloc));
     assert_eq!(rt; tell(alloc, &mut input, &mut out, &mut err), status);
     assert!(rt; out.as_slice() == dump);
@@ -40,7 +40,7 @@ fn worked_cuts(rt: HostRuntime) {
     assert_eq!(rt; INVERTER.len(), 69);
     for &(bytes, status, dump, fault) in &CUTS {
         let deck = &INVERTER[..bytes.min(INVERTER.len())];
-        tells(&rt, rt.alloc(), deck, status, dump, fault);
+        answers(&rt, rt.alloc(), deck, status, dump, fault);
     }
 }
 
@@ -87,7 +87,7 @@ fn long_numbers(rt: HostRuntime) -> Result<(), std::test::Fail> {
         let mut deck = Vec::from_slice(rt.alloc(), before)?;
         deck.extend_from_slice(NINES)?;
         deck.extend_from_slice(after)?;
-        tells(&rt, rt.alloc(), &deck, 1, b"", fault);
+        answers(&rt, rt.alloc(), &deck, 1, b"", fault);
     }
     Ok(())
 }

@@ -100,22 +100,29 @@ fn answers(
     line: &str,
     room: usize,
     behind: Behind,
-    told: &[u8],
+    message: &[u8],
 ) -> Result<(), Fail> {
     let (mut out, mut err) = (Short { room, behind }, Vec::new(alloc));
     let status = status_of(alloc, line, &mut out, &mut err)?;
     assert_eq!(rt; status, 3, "at {line}, {room}");
-    assert!(rt; err.as_slice() == told, "at {line}, {room}");
+    assert!(rt; err.as_slice() == message, "at {line}, {room}");
     Ok(())
 }
 
-fn is_told(rt: &impl Abort, alloc: Global, line: &str, failure: &Failure) -> Result<(), Fail> {
+fn is_reported(rt: &impl Abort, alloc: Global, line: &str, failure: &Failure) -> Result<(), Fail> {
     let (room, behind, fault, explained) = *failure;
-    let mut told = Vec::from_slice(alloc, fault.as_bytes())?;
-    answers(rt, alloc, line, room, behind, told.as_slice())?;
-    told.extend_from_slice(explained.as_bytes())?;
+    let mut message = Vec::from_slice(alloc, fault.as_bytes())?;
+    answers(rt, alloc, line, room, behind, message.as_slice())?;
+    message.extend_from_slice(explained.as_bytes())?;
     let verbose = format!(in alloc; "-v {line}")?;
-    answers(rt, alloc, verbose.as_str(), room, behind, told.as_slice())
+    answers(
+        rt,
+        alloc,
+        verbose.as_str(),
+        room,
+        behind,
+        message.as_slice(),
+    )
 }
 
 #[test]
@@ -127,7 +134,7 @@ fn failed_writes(rt: HostRuntime) -> Result<(), Fail> {
         "plain --bench inv.bench --horizon 20",
     ] {
         for failure in &FAILURES {
-            is_told(&rt, rt.alloc(), line, failure)?;
+            is_reported(&rt, rt.alloc(), line, failure)?;
         }
     }
     Ok(())

@@ -1,5 +1,5 @@
 //! Readers through `read_text` and `tell`: readers that fail, that don't end, and that return few bytes a call.
-use crate::telling::INVERTER;
+use crate::deck_reports::INVERTER;
 use nullsim::{ReadFault, read_text, tell};
 use std::io::{self, ErrorKind, Read, Write};
 use std::test::Fail;

@@ -5,6 +5,8 @@
 #[cfg(test)]
 mod cut_decks;
 #[cfg(test)]
+mod deck_reports;
+#[cfg(test)]
 mod failures;
 #[cfg(test)]
 mod inputs;
@@ -16,7 +18,5 @@ mod progressing;
 mod shelf;
 #[cfg(test)]
 mod sizes;
-#[cfg(test)]
-mod telling;
 #[cfg(test)]
 mod writers;

@@ -32,13 +32,13 @@ static FAULTY: [Faulty; 7] = [
 
 #[test]
 fn faulty_streams(rt: HostRuntime) -> Result<(), Fail> {
-    for &(line, room, err_room, status, told) in &FAULTY {
+    for &(line, room, err_room, status, message) in &FAULTY {
         let mut out = Narrow::new(rt.alloc(), room, 7);
         let mut err = Narrow::new(rt.alloc(), err_room, 7);
         let got = status_of(rt.alloc(), line, &mut out, &mut err)?;
         assert_eq!(rt; got, status, "at {line}, {room}");
         assert!(rt;
-            err.taken.as_slice() == told.as_bytes(),
+            err.taken.as_slice() == message.as_bytes(),
             "at {line}, {room}"
         );
     }
@@ -48,12 +48,12 @@ fn faulty_streams(rt: HostRuntime) -> Result<(), Fail> {
 // Once standard error has failed, at the second percentage, only the fault is reported.
 #[test]
 fn stumbling_standard_error(rt: HostRuntime) -> Result<(), Fail> {
-    for (room, status, told) in [(190, 0, "\r0%"), (40, 3, "\r0%stdout:0: Write\n")] {
+    for (room, status, message) in [(190, 0, "\r0%"), (40, 3, "\r0%stdout:0: Write\n")] {
         let mut out = Narrow::new(rt.alloc(), room, 7);
         let mut err = Stumbling::new(rt.alloc(), 3, Slip::TakesNothing);
         let got = status_of(rt.alloc(), PLAIN, &mut out, &mut err)?;
         assert_eq!(rt; got, status, "at {room}");
-        assert!(rt; err.taken.as_slice() == told.as_bytes(), "at {room}");
+        assert!(rt; err.taken.as_slice() == message.as_bytes(), "at {room}");
     }
     Ok(())
 }

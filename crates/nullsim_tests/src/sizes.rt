@@ -26,13 +26,13 @@ fn answers(
     texts: &[Named<'_>],
     line: &str,
     end: &[u8],
-    told: &[u8],
+    message: &[u8],
 ) -> Result<Vec<u8>, Fail> {
     let (mut out, mut err) = (Vec::new(alloc), Vec::new(alloc));
     let status = status_over(alloc, Shelf::of(alloc, texts), line, &mut out, &mut err)?;
     assert_eq!(rt; status, 0, "at {line}");
     assert!(rt; out.ends_with(end), "at {line}");
-    assert!(rt; err.as_slice() == told, "at {line}");
+    assert!(rt; err.as_slice() == message, "at {line}");
     Ok(out)
 }
 

@@ -110,21 +110,21 @@ fn ends<W: Write>(
     out: &mut W,
     err: &mut Narrow,
     status: u8,
-    told: &str,
+    message: &str,
 ) -> Result<(), Fail> {
     let got = status_of(alloc, line, out, err)?;
     assert_eq!(rt; got, status, "at {line}");
-    assert!(rt; err.taken.as_slice() == told.as_bytes(), "at {line}");
+    assert!(rt; err.taken.as_slice() == message.as_bytes(), "at {line}");
     Ok(())
 }
 
 #[test]
 fn faulty_writers(rt: HostRuntime) -> Result<(), Fail> {
-    for &((line, text), (room, flush_fails), (err_room, most), status, told, flushes) in &ROWS {
+    for &((line, text), (room, flush_fails), (err_room, most), status, message, flushes) in &ROWS {
         let mut out = Narrow::new(rt.alloc(), room, 7);
         out.flush_fails = flush_fails;
         let mut err = Narrow::new(rt.alloc(), err_room, most);
-        ends(&rt, rt.alloc(), line, &mut out, &mut err, status, told)?;
+        ends(&rt, rt.alloc(), line, &mut out, &mut err, status, message)?;
         took(&rt, &out, text, room, flushes, line);
     }
     Ok(())
@@ -149,13 +149,13 @@ fn stumbles(
     call: u32,
     slip: Slip,
 ) -> Result<(), Fail> {
-    let told = match slip {
+    let message = match slip {
         Slip::Fails(_) => NOT_WRITTEN,
         Slip::TakesNothing => "stdout:0: WroteNothing\n",
     };
     let mut out = Stumbling::new(alloc, call, slip);
     let mut err = Narrow::new(alloc, 99, 7);
-    ends(rt, alloc, line, &mut out, &mut err, 3, told)?;
+    ends(rt, alloc, line, &mut out, &mut err, 3, message)?;
     assert_eq!(rt; out.calls, call.saturating_add(1), "at {line}");
     assert!(rt; text.starts_with(out.taken.as_slice()), "at {line}, {call}");
     Ok(())
@@ -179,8 +179,8 @@ fn writers_of_a_byte_a_call(rt: HostRuntime) -> Result<(), Fail> {
     for &((line, text), _) in &CALLS {
         let mut out = Narrow::new(rt.alloc(), 9999, 1);
         let mut err = Narrow::new(rt.alloc(), 99, 7);
-        let told = if line == COUNTED.0 { COUNTS } else { "" };
-        ends(&rt, rt.alloc(), line, &mut out, &mut err, 0, told)?;
+        let message = if line == COUNTED.0 { COUNTS } else { "" };
+        ends(&rt, rt.alloc(), line, &mut out, &mut err, 0, message)?;
         took(&rt, &out, text, text.len(), 1, line);
         assert_eq!(&rt; out.calls as usize, text.len(), "at {line}");
     }

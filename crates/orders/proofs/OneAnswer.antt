@@ -90,10 +90,10 @@ module _ (a b : Result (List ℕ) SimFault) where
 
 -- tests of one fact answer alike
 same_from_fact : {P : Type 0} (a b : Bool) → (IsTrue a ↔ P) → (IsTrue b ↔ P) → a ≡ b
-same_from_fact true true tells other_tells = refl
-same_from_fact true false tells other_tells = sym (other_tells.1 (tells.0 refl))
-same_from_fact false true tells other_tells = tells.1 (other_tells.0 refl)
-same_from_fact false false tells other_tells = refl
+same_from_fact true true says other_says = refl
+same_from_fact true false says other_says = sym (other_says.1 (says.0 refl))
+same_from_fact false true says other_says = says.1 (other_says.0 refl)
+same_from_fact false false says other_says = refl
 
 one_comparison : (twins : Twins) (name : List ℕ) (horizon : ℕ) (a b : TwinAnswer) →
     IsComparison twins name horizon a → IsComparison twins name horizon b → twin_text a ≡ twin_text b

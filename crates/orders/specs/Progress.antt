@@ -2,13 +2,13 @@
 use Rattle.std.specs.Prelude.{◌≡◌, ℕ, ◌+◌, List, []}
 use Rattle.orders.specs.declared.order.Order.{Order}
 use Rattle.orders.specs.declared.order.Order.TheVariants.{Run, Plain}
-use Rattle.run_progress.specs.Told.{CountsBelow, CountsTo, RisesBelow, RisesTo}
+use Rattle.run_progress.specs.Reported.{CountsBelow, CountsTo, RisesBelow, RisesTo}
 
 -- the horizon up to which it reports ticks; it has no meaning for an order that reports none
-abbrev pub horizon_told : Order → ℕ
-horizon_told (Run options view counts) = view.horizon
-horizon_told (Plain options view) = view.horizon
-horizon_told other = 0
+abbrev pub horizon_reported : Order → ℕ
+horizon_reported (Run options view counts) = view.horizon
+horizon_reported (Plain options view) = view.horizon
+horizon_reported other = 0
 
 -- the numbers of ticks that it reports if it is done: those of a run rise to the number of all ticks, those of the plain engine count up to
 -- it

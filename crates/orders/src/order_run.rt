@@ -2,8 +2,8 @@
 ghost use Rattle.std.specs.Prelude.{IfErr, IfOk, OnErr, OnOk};
 ghost use Rattle.program_io.specs.Answers.{AnswerEndsBy, GoesOut, IsNoRead};
 ghost use Rattle.orders.specs.OrderAnswer.{IsAnswerTo};
-ghost use Rattle.orders.specs.Progress.{BrokenTicks, DoneTicks, horizon_told};
-ghost use Rattle.run_progress.specs.Told.{Told};
+ghost use Rattle.orders.specs.Progress.{BrokenTicks, DoneTicks, horizon_reported};
+ghost use Rattle.run_progress.specs.Reported.{Reported};
 
 use crate::order::Order;
 use crate::order_texts::OrderTexts;
@@ -35,10 +35,10 @@ impl Order<'_> {
         ensures err { IfErr result
             (AnswerEndsBy (IsAnswerTo self.now texts.now) (W.contents out.old) (W.contents out.new)) }
         ensures no_read { IfErr result IsNoRead }
-        ensures told { OnOk result
-            (Told (P.tells (horizon_told self.now)) (DoneTicks self.now) progress.old progress.new) }
-        ensures told_until { OnErr result
-            (Told (P.tells (horizon_told self.now)) (BrokenTicks self.now) progress.old progress.new) }
+        ensures reported { OnOk result
+            (Reported (P.reports (horizon_reported self.now)) (DoneTicks self.now) progress.old progress.new) }
+        ensures reported_until { OnErr result
+            (Reported (P.reports (horizon_reported self.now)) (BrokenTicks self.now) progress.old progress.new) }
     {
         let (one, other) = (&texts.first, &texts.second);
         match self {

@@ -3,7 +3,7 @@ ghost use Rattle.std.specs.Prelude.{◌≡◌, ◌+◌, ◌<◌, [], map, length
 ghost use Rattle.std.specs.Io.KnownBytes.{Appends};
 ghost use Rattle.design.specs.Design.{IsDesign};
 ghost use Rattle.design.specs.Equations.{waves_of};
-ghost use Rattle.run_progress.specs.Told.{IsTickByTick, Told};
+ghost use Rattle.run_progress.specs.Reported.{IsTickByTick, Reported};
 ghost use Rattle.prepared_runs.specs.Source.{design_of_source, dump_of_design, dump_of_source, seen_source, shown_nets, MayWantMemory};
 ghost use Rattle.prepared_runs.specs.Ends.{BreaksOff, RunEndsBy};
 ghost use Rattle.prepared_runs.specs.Shown.{wave_at, waves_up_to};
@@ -68,7 +68,7 @@ pub fn plain_with_progress<W: Write, P: Progress>(
     ensures err { IfErr result (RunEndsBy (dump_of_source (seen_source source.now) view.now)
         (W.contents out.old) (W.contents out.new)) }
     ensures memory { result ≡ Err Memory → MayWantMemory (seen_source source.now) view.now.horizon }
-    ensures told { Told (P.tells view.now.horizon) (IsTickByTick result view.now.horizon) progress.old progress.new }
+    ensures reported { Reported (P.reports view.now.horizon) (IsTickByTick result view.now.horizon) progress.old progress.new }
 {
     let (design, horizon) = prepare(alloc, source, view.horizon)?;
     let nets = shown_nets(alloc, &design, &view.show)?;
@@ -99,7 +99,7 @@ fn dump_by_plain_engine<W: Write, P: Progress>(
         (dump_of_design view.now horizon design.now)) }
     ensures err { IfErr result (BreaksOff (W.contents out.old) (W.contents out.new)
         (dump_of_design view.now horizon design.now)) }
-    ensures told { Told (P.tells horizon) (IsTickByTick result horizon) progress.old progress.new }
+    ensures reported { Reported (P.reports horizon) (IsTickByTick result horizon) progress.old progress.new }
 {
     let waves = shown_waves(alloc, design, horizon, &view.show, nets, progress)?;
     write_dump(alloc, design, horizon, view, nets, waves.as_slice(), out)
@@ -117,7 +117,7 @@ pub(crate) fn shown_waves<P: Progress>(
     requires nets { nets.now ≡ shown_nets show.now design.now.netlist }
     requires well_formed { IsDesign design.now }
     ensures waves { IfOk result (λ waves. waves.items ≡ waves_up_to design.now.circuit horizon nets.now) }
-    ensures told { Told (P.tells horizon) (IsTickByTick result horizon) progress.old progress.new }
+    ensures reported { Reported (P.reports horizon) (IsTickByTick result horizon) progress.old progress.new }
 {
     let waves = all_waves(alloc, design, horizon, progress)?;
     match show {
@@ -134,14 +134,14 @@ fn all_waves<P: Progress>(
     progress: &mut P,
 ) -> Result<Vec<Waveform>, AllocError>
     ensures waves { IfOk result (λ waves. waves.items ≡ waves_of design.now.circuit (horizon + 1)) }
-    ensures told { Told (P.tells horizon) (IsTickByTick result horizon) progress.old progress.new }
+    ensures reported { Reported (P.reports horizon) (IsTickByTick result horizon) progress.old progress.new }
 {
     let mut waves = unknown_waves(alloc, design)?;
     let mut values = Vec::new(alloc);
-    progress.tell(0, horizon);
+    progress.report(0, horizon);
     for tick in 0..horizon.ticks() + 1 {
         advance(design, tick, &mut waves, &mut values)?;
-        progress.tell(tick + 1, horizon);
+        progress.report(tick + 1, horizon);
     }
     Ok(waves)
 }

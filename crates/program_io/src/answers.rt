@@ -6,7 +6,7 @@ ghost use Rattle.drawn_stimuli.specs.Inputs.{seen_drive};
 ghost use Rattle.prepared_runs.specs.Ends.{RunEndsBy};
 ghost use Rattle.runs.specs.Simulated.{dump_in, simulated};
 ghost use Rattle.prepared_runs.specs.Source.{seen_source};
-ghost use Rattle.run_progress.specs.Told.{IsProgress, IsTickByTick, Told};
+ghost use Rattle.run_progress.specs.Reported.{IsProgress, IsTickByTick, Reported};
 ghost use Rattle.program_io.specs.Answers.{AnswerEndsBy, GoesOut, IsAnswerOfCone, IsAnswerOfDiff, IsAnswerOfInfo, IsAnswerOfTwin, IsNoRead, check_answer, counted, diagram_answer, outcome_of, plain_answer, run_answer, stimuli_answer, trace_answer, why_answer};
 
 use crate::answer_text::{check_text, twin_text};
@@ -43,7 +43,7 @@ pub fn write_run<W: Write, P: Progress>(
     ensures err { IfErr result (AnswerEndsBy (λ answer. answer ≡ run_answer (seen_source source.now) view.now counts)
         (W.contents out.old) (W.contents out.new)) }
     ensures no_read { IfErr result IsNoRead }
-    ensures told { Told (P.tells view.now.horizon) (IsProgress result view.now.horizon) progress.old progress.new }
+    ensures reported { Reported (P.reports view.now.horizon) (IsProgress result view.now.horizon) progress.old progress.new }
 {
     let outcome = dump_and_count(alloc, source, view, counts, out, progress)?;
     flush(out)?;
@@ -64,7 +64,7 @@ fn dump_and_count<W: Write, P: Progress>(
         Appends (W.contents out.old) (W.contents out.new) done.0 × (outcome ≡ counted counts (done.1).total))) }
     ensures err { IfErr result (RunEndsBy (dump_in (simulated (seen_source source.now) view.now))
         (W.contents out.old) (W.contents out.new)) }
-    ensures told { Told (P.tells view.now.horizon) (IsProgress result view.now.horizon) progress.old progress.new }
+    ensures reported { Reported (P.reports view.now.horizon) (IsProgress result view.now.horizon) progress.old progress.new }
 {
     if !counts {
         sweep_with_progress(alloc, source, view, out, progress)?;
@@ -91,7 +91,7 @@ pub fn write_plain<W: Write, P: Progress>(
     ensures err { IfErr result (AnswerEndsBy (λ answer. answer ≡ plain_answer (seen_source source.now) view.now)
         (W.contents out.old) (W.contents out.new)) }
     ensures no_read { IfErr result IsNoRead }
-    ensures told { Told (P.tells view.now.horizon) (IsTickByTick result view.now.horizon) progress.old progress.new }
+    ensures reported { Reported (P.reports view.now.horizon) (IsTickByTick result view.now.horizon) progress.old progress.new }
 {
     plain_with_progress(alloc, source, view, out, progress)?;
     flush(out)?;

@@ -8,7 +8,7 @@ ghost use Rattle.run_notes.specs.Remarks.{noted_nets};
 
 /// An input that is noted as undriven shows X at every tick, and any other net that is noted as X throughout
 /// shows X at every tick to the horizon. Each net that shows X at all of these is noted as one or the other.
-pub fn notes_tell_of_x()
+pub fn notes_report_x()
     ensures undriven { (circuit : Circuit) (horizon net tick : ℕ) → Contains (noted_nets Undriven horizon circuit) net →
         value_of circuit net tick ≡ value.Unknown }
     ensures unknown { (circuit : Circuit) (horizon net tick : ℕ) → Contains (noted_nets Unknown horizon circuit) net →

@@ -16,8 +16,8 @@ use Rattle.prepared_runs.specs.Marked.{is_among}
 module _ (first second : NetlistView) (name : List ℕ) (net other : Option ℕ) (is : net ≡ net_named first name) (also : other ≡ net_named second name) where
   -- where the first has no net of the name it is known where the second has one
   pub is_known-second : (known : Bool) → is_some net ≡ false → is_some other ≡ known → is_known first second name ≡ known
-  is_known-second known lacks tells =
-      ap (λ b. b || is_some (net_named second name)) (sym (ap is_some is) ∙ lacks) ∙ sym (ap is_some also) ∙ tells
+  is_known-second known lacks says =
+      ap (λ b. b || is_some (net_named second name)) (sym (ap is_some is) ∙ lacks) ∙ sym (ap is_some also) ∙ says
 
 -- a net of the first is known
 pub is_known-first : (first second : NetlistView) (name : List ℕ) (net : Option ℕ) → net ≡ net_named first name → is_some net ≡ true → is_known first second name ≡ true

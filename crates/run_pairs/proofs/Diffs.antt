@@ -201,20 +201,20 @@ module _ (one other : RunView) (ticks : ComparedTicks) (name : List ℕ) where
       pub IsComparisonOf-same : (agree : Bool) →
           first_difference (value_of one.design.circuit net) (value_of other.design.circuit other_net) ticks ≡ None →
           (IsTrue agree ↔ AgreesOnCone one other name) → IsComparisonOf one other ticks name (Same agree)
-      IsComparisonOf-same agree none tells = rw (found, other_found, none) (agree, tells, refl)
+      IsComparisonOf-same agree none says = rw (found, other_found, none) (agree, says, refl)
 
 -- ---- one answer
 
 one_Bool : (P : Type 0) (a b : Bool) → (IsTrue a ↔ P) → (IsTrue b ↔ P) → a ≡ b
-one_Bool P true b tells other = sym (other.1 (tells.0 refl))
-one_Bool P false true tells other = absurd (true≢false (sym (tells.1 (other.0 refl))))
-one_Bool P false false tells other = refl
+one_Bool P true b says other = sym (other.1 (says.0 refl))
+one_Bool P false true says other = absurd (true≢false (sym (says.1 (other.0 refl))))
+one_Bool P false false says other = refl
 
 module _ (one other : RunView) (name : List ℕ) where
   one_of_difference : (found : Option Difference) (a b : Comparison) → IsOfDifference one other name found a → IsOfDifference one other name found b → a ≡ b
   one_of_difference (Some found) a b is also = is ∙ sym also
-  one_of_difference None a b (agree, tells, is) (other_agree, other_tells, also) =
-      is ∙ ap (λ agree. Same agree) (one_Bool (AgreesOnCone one other name) agree other_agree tells other_tells) ∙ sym also
+  one_of_difference None a b (agree, says, is) (other_agree, other_says, also) =
+      is ∙ ap (λ agree. Same agree) (one_Bool (AgreesOnCone one other name) agree other_agree says other_says) ∙ sym also
 
   one_of_nets : (ticks : ComparedTicks) (net other_net : Option ℕ) (a b : Comparison) → IsOfNets one other ticks name net other_net a →
       IsOfNets one other ticks name net other_net b → a ≡ b
@@ -286,13 +286,13 @@ module _ (one other : RunView) (ticks : ComparedTicks) where
       at < length names → IsDiff (pair_by one other ticks (take at (seen_names names))) text same →
       IsComparisonOf one other ticks (get_or names at d).now comparison → new_text ≡ text ++ comparison_line (get_or names at d).now comparison →
       new_same ≡ (same && is_same comparison) → IsDiff (pair_by one other ticks (take (at + 1) (seen_names names))) new_text new_same
-  IsDiff-next names at d text new_text same new_same comparison inside so_far is told kept =
+  IsDiff-next names at d text new_text same new_same comparison inside so_far is said kept =
       let name = (get_or names at d).now in
       let there : at < length (seen_names names) = rw length-map inside in
       let more : take (at + 1) (seen_names names) ≡ take at (seen_names names) ++ name ∷ [] =
       take_more (seen_names names) at [] there
       ∙ ap (λ n. take at (seen_names names) ++ n ∷ []) (get_or-map (λ (borrowed : Bor (List ℕ)). borrowed.now) names at d [] inside) in
-      rw (more, told, kept) (IsDiff-more (take at (seen_names names)) text same name comparison so_far is)
+      rw (more, said, kept) (IsDiff-more (take at (seen_names names)) text same name comparison so_far is)
 
 -- ---- the signals
 
@@ -354,9 +354,9 @@ pub IsComparisonOf-agreeing : (one other : RunView) (ticks : ComparedTicks) (nam
 IsComparisonOf-agreeing one other ticks name comparison formed other_formed within agree is =
     go (net_named one.design.netlist name) refl (net_named other.design.netlist name) refl is
   where
-    told : (found : Option Difference) → found ≡ None → IsOfDifference one other name found comparison → comparison ≡ Same true
-    told None none (agrees, tells, is) = is ∙ ap (λ a. Same a) (tells.1 agree)
-    told (Some found) none is = absurd (cc)
+    said : (found : Option Difference) → found ≡ None → IsOfDifference one other name found comparison → comparison ≡ Same true
+    said None none (agrees, says, is) = is ∙ ap (λ a. Same a) (says.1 agree)
+    said (Some found) none is = absurd (cc)
 
     at : AgreesAt one.design other.design one.horizon name
     at = agree name (start name (0, omega arith, refl))
@@ -369,7 +369,7 @@ IsComparisonOf-agreeing one other ticks name comparison formed other_formed with
         let same : (tick : ℕ) → IsCompared ticks tick → f tick ≡ g tick =
         λ tick compared. same_values one.design other.design formed other_formed name net other_net one.horizon agree found other_found tick
         (let early = compared.early_enough in omega arith) in
-        told (first_difference f g ticks) (first_difference-None f g ticks same) is
+        said (first_difference f g ticks) (first_difference-None f g ticks same) is
     go None lacks other_net other_found is = absurd (lacks_net one.design formed name at.x lacks at.first)
     go (Some net) found None lacks is = absurd (lacks_net other.design other_formed name at.y lacks at.second)
 

@@ -78,13 +78,13 @@ module _ (one other : RunView) (name : List ℕ) where
 
 -- ---- agreement
 
--- whether designs agree on a net's cone, by the call that tells it where both have the net; where one lacks it they don't
+-- whether designs agree on a net's cone, by the call that says it where both have the net; where one lacks it they don't
 pub agrees_iff : (a b : DesignView) (name : List ℕ) (horizon : ℕ) (answer : Option Bool) →
     (IsSome answer ↔ (IsSome (net_of a name) × IsSome (net_of b name))) →
     IfSome answer (λ agrees. IsTrue agrees ↔ AgreesOn a b (InCone a.netlist (name ∷ [])) horizon) →
     IsTrue (unwrap_or answer false) ↔ AgreesOn a b (InCone a.netlist (name ∷ [])) horizon
-agrees_iff a b name horizon (Some agrees) found told = told
-agrees_iff a b name horizon None found told = (
+agrees_iff a b name horizon (Some agrees) found said = said
+agrees_iff a b name horizon None found said = (
   λ never. absurd (true≢false (sym never)),
   λ agree.
       let at = agree name (start name (0, omega arith, refl)) in

@@ -6,22 +6,22 @@ use Rattle.vcd_dump.specs.Bytes.{AppendsPrefix}
 use Rattle.vcd_dump.proofs.CallerLemmas.{AppendsPrefix-after, AppendsPrefix-longer}
 use Rattle.run_progress.specs.Percents.{Meter, Shows, line_feed, next_percent, percents_text, progress_text}
 
--- what tells percents, and then ends its line, tells all of the progress, or a first part of it where its writer fails
-pub AppendsPrefix-progress : (horizon : ℕ) (fresh told : Meter) (ticks : List ℕ) (ended : Option (List ℕ)) → fresh.next ≡ 0 → Shows horizon fresh ticks told →
-    AppendsPrefix told.bytes ended (line_feed told.next) → (told.failed ≡ true → Keeps told.bytes ended) →
+-- what reports percents, and then ends its line, reports all of the progress, or a first part of it where its writer fails
+pub AppendsPrefix-progress : (horizon : ℕ) (fresh reported : Meter) (ticks : List ℕ) (ended : Option (List ℕ)) → fresh.next ≡ 0 → Shows horizon fresh ticks reported →
+    AppendsPrefix reported.bytes ended (line_feed reported.next) → (reported.failed ≡ true → Keeps reported.bytes ended) →
     AppendsPrefix fresh.bytes ended (progress_text horizon ticks)
-AppendsPrefix-progress horizon fresh told ticks ended first shows feed kept = go told.failed refl
+AppendsPrefix-progress horizon fresh reported ticks ended first shows feed kept = go reported.failed refl
   where
     text : percents_text horizon fresh.next ticks ≡ percents_text horizon 0 ticks
     text = ap (λ next. percents_text horizon next ticks) first
 
-    next : told.next ≡ next_percent horizon 0 ticks
+    next : reported.next ≡ next_percent horizon 0 ticks
     next = shows.next ∙ ap (λ next. next_percent horizon next ticks) first
 
-    go : (failed : Bool) → told.failed ≡ failed → AppendsPrefix fresh.bytes ended (progress_text horizon ticks)
+    go : (failed : Bool) → reported.failed ≡ failed → AppendsPrefix fresh.bytes ended (progress_text horizon ticks)
     go false is =
         subst (λ (end : List ℕ). AppendsPrefix fresh.bytes ended (percents_text horizon 0 ticks ++ end)) (ap line_feed next)
-        (AppendsPrefix-after fresh.bytes told.bytes ended _ _ (subst (Appends fresh.bytes told.bytes) text (shows.whole is)) feed)
+        (AppendsPrefix-after fresh.bytes reported.bytes ended _ _ (subst (Appends fresh.bytes reported.bytes) text (shows.whole is)) feed)
     go true is =
-        let (n, part) = subst (AppendsPrefix fresh.bytes told.bytes) text shows.part in
-        AppendsPrefix-longer fresh.bytes ended _ _ (n, Appends-kept fresh.bytes told.bytes ended _ part (kept is))
+        let (n, part) = subst (AppendsPrefix fresh.bytes reported.bytes) text shows.part in
+        AppendsPrefix-longer fresh.bytes ended _ _ (n, Appends-kept fresh.bytes reported.bytes ended _ part (kept is))

@@ -1,3 +1,3 @@
 pub mod CallerLemmas
 mod Endings
-mod Telling
+mod Reporting

@@ -1,3 +1,3 @@
 pub mod Percents
+pub mod Reported
 pub mod Showing
-pub mod Told

@@ -28,19 +28,19 @@ module _ (horizon : ℕ) where
     fails = λ failed. (failed, Keeps-refl meter.bytes);
   }
 
-  module _ (old mid new : Meter) (first second : List ℕ) (told : Shows horizon old first mid) (more : Shows horizon mid second new) where
+  module _ (old mid new : Meter) (first second : List ℕ) (reported : Shows horizon old first mid) (more : Shows horizon mid second new) where
     text_of_both : percents_text horizon old.next (first ++ second)
         ≡ percents_text horizon old.next first ++ percents_text horizon mid.next second
     text_of_both =
         percents_text-joined old.next first second
-        ∙ ap (λ next. percents_text horizon old.next first ++ percents_text horizon next second) (sym told.next)
+        ∙ ap (λ next. percents_text horizon old.next first ++ percents_text horizon next second) (sym reported.next)
 
     part_of_both : (failed : Bool) → mid.failed ≡ failed → AppendsPrefix old.bytes new.bytes (percents_text horizon old.next (first ++ second))
     part_of_both false is =
         subst (AppendsPrefix old.bytes new.bytes) (sym text_of_both)
-        (AppendsPrefix-after old.bytes mid.bytes new.bytes _ _ (told.whole is) more.part)
+        (AppendsPrefix-after old.bytes mid.bytes new.bytes _ _ (reported.whole is) more.part)
     part_of_both true is =
-        let (n, part) = told.part in
+        let (n, part) = reported.part in
         subst (AppendsPrefix old.bytes new.bytes) (sym text_of_both)
         (AppendsPrefix-longer old.bytes new.bytes _ _ (n, Appends-kept old.bytes mid.bytes new.bytes _ part (more.fails is).1))
 
@@ -48,16 +48,16 @@ module _ (horizon : ℕ) where
         Appends old.bytes new.bytes (percents_text horizon old.next (first ++ second))
     whole_of_both false is done =
         subst (Appends old.bytes new.bytes) (sym text_of_both)
-        (Appends-trans old.bytes mid.bytes new.bytes _ _ (told.whole is) (more.whole done))
+        (Appends-trans old.bytes mid.bytes new.bytes _ _ (reported.whole is) (more.whole done))
     whole_of_both true is done = let failed = (more.fails is).0 in absurd (cc)
 
     pub Shows-joined : Shows horizon old (first ++ second) new
     Shows-joined = record {
-      next = more.next ∙ ap (λ next. next_percent horizon next second) told.next ∙ sym (next_percent-joined old.next first second);
+      next = more.next ∙ ap (λ next. next_percent horizon next second) reported.next ∙ sym (next_percent-joined old.next first second);
       part = part_of_both mid.failed refl;
       whole = whole_of_both mid.failed refl;
       fails = λ failed.
-          let before = told.fails failed in
+          let before = reported.fails failed in
           let behind' = more.fails before.0 in
           (behind'.0, Keeps-trans old.bytes mid.bytes new.bytes before.1 behind'.1);
     }

@@ -85,11 +85,11 @@ impl<E: Write> Progress for Percents<'_, E> {
     ghost use Rattle.run_progress.specs.Percents.{Shows};
     ghost use Rattle.run_progress.specs.Showing.{Shows-nothing, Shows-joined};
 
-    ghost tells = { λ horizon old ticks new. (new.out.ghost_name ≡ old.out.ghost_name)
+    ghost reports = { λ horizon old ticks new. (new.out.ghost_name ≡ old.out.ghost_name)
         × Shows horizon (record { next = old.next; failed = old.failed; bytes = E.contents old.out.now }) ticks
         (record { next = new.next; failed = new.failed; bytes = E.contents new.out.now }) };
 
-    fn tell(&mut self, known: u64, horizon: Horizon) {
+    fn report(&mut self, known: u64, horizon: Horizon) {
         let percent = known * 100 / (horizon.ticks() + 1);
         if percent >= self.next {
             self.next = percent + 1;
@@ -99,6 +99,6 @@ impl<E: Write> Progress for Percents<'_, E> {
 
     ghost nothing = { λ horizon state. (refl, Shows-nothing horizon _) };
 
-    ghost joined = { λ horizon old mid new first second told more.
-        (more.0 ∙ told.0, Shows-joined horizon _ _ _ first second told.1 more.1) };
+    ghost joined = { λ horizon old mid new first second reported more.
+        (more.0 ∙ reported.0, Shows-joined horizon _ _ _ first second reported.1 more.1) };
 }

@@ -7,17 +7,17 @@ pub trait Progress {
 
     // The reports of these numbers of ticks, in this order, for a run up to this horizon led from the
     // first state to the second.
-    ghost tells: { ℕ → Self → List ℕ → Self → Type 0 };
+    ghost reports: { ℕ → Self → List ℕ → Self → Type 0 };
 
     /// Receives the report that `known` ticks of every net are known, in a run up to this horizon.
-    fn tell(&mut self, known: u64, horizon: Horizon)
+    fn report(&mut self, known: u64, horizon: Horizon)
         requires { known ≤ horizon + 1 }
-        ensures { tells horizon self.old (known ∷ []) self.new };
+        ensures { reports horizon self.old (known ∷ []) self.new };
 
-    ghost nothing: { (horizon : ℕ) (state : Self) → tells horizon state [] state };
+    ghost nothing: { (horizon : ℕ) (state : Self) → reports horizon state [] state };
 
     ghost joined: { (horizon : ℕ) (old mid new : Self) (first second : List ℕ) →
-        tells horizon old first mid → tells horizon mid second new → tells horizon old (first ++ second) new };
+        reports horizon old first mid → reports horizon mid second new → reports horizon old (first ++ second) new };
 }
 
 /// Ignores all reports.
@@ -27,9 +27,9 @@ pub struct Silent;
 impl Progress for Silent {
     ghost use Rattle.std.specs.Prelude.{⊤};
 
-    ghost tells = { λ _ _ _ _. ⊤ };
+    ghost reports = { λ _ _ _ _. ⊤ };
 
-    fn tell(&mut self, _known: u64, _horizon: Horizon) {}
+    fn report(&mut self, _known: u64, _horizon: Horizon) {}
 
     ghost nothing = { λ _ _. tt };
 

@@ -135,15 +135,15 @@ static NOTED: [Row; 13] = [
     ),
 ];
 
-fn notes(rt: &impl Abort, alloc: Global, source: &Source, horizon: u64, told: &[u8]) {
+fn notes(rt: &impl Abort, alloc: Global, source: &Source, horizon: u64, wanted: &[u8]) {
     let answer = notes_text(alloc, source, horizon);
-    assert!(rt; answer.is_ok_and(|text| text.as_slice() == told));
+    assert!(rt; answer.is_ok_and(|text| text.as_slice() == wanted));
 }
 
 #[test]
 fn noted(rt: HostRuntime) {
-    for (source, horizon, told) in &NOTED {
-        notes(&rt, rt.alloc(), source, *horizon, told);
+    for (source, horizon, wanted) in &NOTED {
+        notes(&rt, rt.alloc(), source, *horizon, wanted);
     }
 }
 

@@ -11,7 +11,7 @@ use Rattle.cmb_kernel.specs.State.{KernelView, State, fresh, is_complete, most_r
 use Rattle.cmb_kernel.specs.Step.{after_deliver, completed_within, round_events, round_of, step, steps}
 use Rattle.prepared_runs.specs.Shown.{waves_up_to}
 use Rattle.prepared_runs.specs.Prepared.{RunView}
-use Rattle.runs.specs.Simulated.{completed_run, report_of, reported}
+use Rattle.runs.specs.Simulated.{completed_run, report_from, report_of}
 
 -- ---- no event of a schedule is refused
 
@@ -54,11 +54,11 @@ total_of run = refl
 
 -- a fresh kernel's report is the run's
 pub report_of-fresh : (run : RunView) (start : KernelView) (events : List Event) → start ≡ fresh run.design.circuit (run.horizon + 1) → events ≡ run.events →
-    reported start.end start.circuit (steps start.state events) ≡ report_of run
+    report_from start.end start.circuit (steps start.state events) ≡ report_of run
 unfolding report_of
 report_of-fresh run start events is are =
-    ap (λ (r : KernelView). reported r.end r.circuit (steps r.state events)) is
-    ∙ ap (λ es. reported (run.horizon + 1) run.design.circuit (steps (started run.design.circuit (run.horizon + 1)) es)) are
+    ap (λ (r : KernelView). report_from r.end r.circuit (steps r.state events)) is
+    ∙ ap (λ es. report_from (run.horizon + 1) run.design.circuit (steps (started run.design.circuit (run.horizon + 1)) es)) are
 
 -- what a run's kernel knows at its end are the waveforms up to the horizon
 pub waves_up_to-known : (run : RunView) (kernel : KernelView) → kernel.circuit ≡ run.design.circuit → kernel.end ≡ run.horizon + 1 → (nets : List ℕ) →

@@ -6,7 +6,7 @@ use Rattle.cmb_kernel.specs.State.{KernelView, State, floor_at, frontier_at, lea
 use Rattle.cmb_kernel.specs.Sound.{IsSound}
 use Rattle.cmb_kernel.specs.Sweeps.{HoldsAll}
 use Rattle.cmb_kernel.specs.Useful.{NoneFalls}
-use Rattle.runs.specs.Windows.{most_told}
+use Rattle.runs.specs.Windows.{most_sent}
 use Rattle.runs.specs.declared.pace.Pace.{Pace}
 use Rattle.runs.specs.declared.pace.Pace.TheVariants.{Rounds, Sweeps}
 use Rattle.runs.specs.declared.sweeps.Sweeps as of_sweeps
@@ -17,7 +17,7 @@ pub record Covers (sweeps : of_sweeps.Sweeps) (circuit : Circuit) (end : ℕ) : 
   pub all : HoldsAll circuit sweeps.order.items
   pub cut_up : IsCutUp circuit sweeps.order.items sweeps.segments.items
   pub to_end : sweeps.end ≡ end
-  pub most : sweeps.most ≡ most_told (length circuit)
+  pub most : sweeps.most ≡ most_sent (length circuit)
 
 -- a run of a circuit to an end can advance at this pace
 abbrev pub Suits : Pace → Circuit → ℕ → Type 0

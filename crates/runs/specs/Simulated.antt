@@ -29,8 +29,8 @@ pub record IsCompleted (run : RunView) : Type 0 where
 -- ---- what it reports
 
 -- what is reported if the events lead to this state: of it, and of the rounds that complete it
-abbrev pub reported : ℕ → Circuit → State → Report
-reported end circuit state = record {
+abbrev pub report_from : ℕ → Circuit → State → Report
+report_from end circuit state = record {
   after = state.counts;
   least = least_frontier end state;
   total = (completed_within (most_rounds end circuit) state).counts;
@@ -38,7 +38,7 @@ reported end circuit state = record {
 
 -- what a run reports
 unfoldable pub report_of : RunView → Report
-report_of run = reported (run.horizon + 1) run.design.circuit (state_after_events run)
+report_of run = report_from (run.horizon + 1) run.design.circuit (state_after_events run)
 
 -- the answer to a source: the dump and the report, or the first fault
 unfoldable pub simulated : SourceView → DumpView → Result (List ℕ × Report) SimFault

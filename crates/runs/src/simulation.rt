@@ -8,7 +8,7 @@ ghost use Rattle.runs.specs.Simulated.{dump_in, simulated, IsCompleted};
 ghost use Rattle.prepared_runs.specs.Prepared.{run_of_source};
 ghost use Rattle.prepared_runs.specs.Viewed.{ShowsValues};
 ghost use Rattle.prepared_runs.specs.Views.{dump_view};
-ghost use Rattle.run_progress.specs.Told.{IsProgress, Told};
+ghost use Rattle.run_progress.specs.Reported.{IsProgress, Reported};
 ghost use Rattle.prepared_runs.specs.declared.fault.SimFault.TheVariants.{Memory};
 
 use crate::pace::Pace;
@@ -94,7 +94,7 @@ pub fn simulate_with_progress<W: Write, P: Progress>(
     ensures err { IfErr result (RunEndsBy (dump_in (simulated (seen_source source.now) view.now))
         (W.contents out.old) (W.contents out.new)) }
     ensures memory { result ≡ Err Memory → MayWantMemory (seen_source source.now) view.now.horizon }
-    ensures told { Told (P.tells view.now.horizon) (IsProgress result view.now.horizon) progress.old progress.new }
+    ensures reported { Reported (P.reports view.now.horizon) (IsProgress result view.now.horizon) progress.old progress.new }
 {
     let run = prepare_run(alloc, source, view.horizon)?;
     let nets = shown_nets(alloc, &run.design, &view.show)?;

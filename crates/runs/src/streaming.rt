@@ -12,10 +12,10 @@ ghost use Rattle.runs.specs.Alone.{CanShow};
 ghost use Rattle.runs.specs.Drained.{EachFloor, DrainsTo, IsRest, values_of};
 ghost use Rattle.prepared_runs.specs.Ends.{BreaksOff};
 ghost use Rattle.runs.specs.Paces.{Suits};
-ghost use Rattle.runs.specs.Simulated.{report_of, reported, IsKnown};
+ghost use Rattle.runs.specs.Simulated.{report_from, report_of, IsKnown};
 ghost use Rattle.prepared_runs.specs.Prepared.{seen_run};
 ghost use Rattle.prepared_runs.specs.Source.{signals_of};
-ghost use Rattle.run_progress.specs.Told.{IsProgress, Told};
+ghost use Rattle.run_progress.specs.Reported.{IsProgress, Reported};
 ghost use Rattle.runs.specs.declared.pace.Pace.TheVariants.{Rounds};
 
 use crate::draining::{forget_below, give_parts};
@@ -46,7 +46,7 @@ pub(crate) fn dump_by_kernel<W: Write, P: Progress>(
         (dump_text unit run.now.horizon (signals_of run.now.design.circuit nets.now))) }
     ensures err { IfErr result (BreaksOff (W.contents out.old) (W.contents out.new)
         (dump_text unit run.now.horizon (signals_of run.now.design.circuit nets.now))) }
-    ensures told { Told (P.tells run.now.horizon) (IsProgress result run.now.horizon) progress.old progress.new }
+    ensures reported { Reported (P.reports run.now.horizon) (IsProgress result run.now.horizon) progress.old progress.new }
 {
     let mut kernel = RunKernel::new(alloc, &run.design, run.horizon)?;
     stream_run(alloc, &mut kernel, run, unit, nets, pace, out, progress)
@@ -75,13 +75,13 @@ fn stream_run<W: Write, P: Progress>(
     requires nets { All (λ net. net < length run.now.design.circuit) nets.now }
     requires once { AllPairs (λ (earlier later : ℕ). earlier ≢ later) nets.now }
     ensures report { pace.old ≡ Rounds → IfOk result (λ report.
-        report ≡ reported kernel.old.end kernel.old.circuit (steps kernel.old.state run.now.schedule)) }
+        report ≡ report_from kernel.old.end kernel.old.circuit (steps kernel.old.state run.now.schedule)) }
     ensures complete { OnOk result (IsKnown kernel.new) }
     ensures ok { OnOk result (Appends (W.contents out.old) (W.contents out.new)
         (dump_text unit run.now.horizon (signals_of run.now.design.circuit nets.now))) }
     ensures err { IfErr result (BreaksOff (W.contents out.old) (W.contents out.new)
         (dump_text unit run.now.horizon (signals_of run.now.design.circuit nets.now))) }
-    ensures told { Told (P.tells run.now.horizon) (IsProgress result run.now.horizon) progress.old progress.new }
+    ensures reported { Reported (P.reports run.now.horizon) (IsProgress result run.now.horizon) progress.old progress.new }
 {
     kernel.apply_all(run.schedule.events())?;
     let after = kernel.counts();
@@ -125,7 +125,7 @@ fn stream_to_end<W: Write, P: Progress>(
         (dump_text unit run.now.horizon (signals_of run.now.design.circuit nets.now))) }
     ensures err { IfErr result (BreaksOff (W.contents out.old) (W.contents out.new)
         (dump_text unit run.now.horizon (signals_of run.now.design.circuit nets.now))) }
-    ensures told { Told (P.tells run.now.horizon) (IsProgress result run.now.horizon) progress.old progress.new }
+    ensures reported { Reported (P.reports run.now.horizon) (IsProgress result run.now.horizon) progress.old progress.new }
 {
     let hidden = hidden_nets(alloc, run.design.nets(), nets)?;
     let end = run.horizon.ticks() + 1;
@@ -141,7 +141,7 @@ fn stream_to_end<W: Write, P: Progress>(
             &mut stream,
             out,
         )?;
-        progress.tell(known, run.horizon);
+        progress.report(known, run.horizon);
         if known == end {
             stream.finish(out)?;
             return Ok(());

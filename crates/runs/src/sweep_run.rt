@@ -14,7 +14,7 @@ ghost use Rattle.prepared_runs.specs.Prepared.{run_of_source};
 ghost use Rattle.prepared_runs.specs.Source.{seen_source, signals_of, MayWantMemory};
 ghost use Rattle.prepared_runs.specs.Viewed.{ShowsValues};
 ghost use Rattle.prepared_runs.specs.Views.{dump_view};
-ghost use Rattle.run_progress.specs.Told.{IsProgress, Told};
+ghost use Rattle.run_progress.specs.Reported.{IsProgress, Reported};
 ghost use Rattle.prepared_runs.specs.declared.fault.SimFault.TheVariants.{Memory};
 
 use crate::alone::cones_of;
@@ -81,7 +81,7 @@ pub fn sweep_with_progress<W: Write, P: Progress>(
     ensures err { IfErr result (RunEndsBy (dump_in (simulated (seen_source source.now) view.now))
         (W.contents out.old) (W.contents out.new)) }
     ensures memory { result ≡ Err Memory → MayWantMemory (seen_source source.now) view.now.horizon }
-    ensures told { Told (P.tells view.now.horizon) (IsProgress result view.now.horizon) progress.old progress.new }
+    ensures reported { Reported (P.reports view.now.horizon) (IsProgress result view.now.horizon) progress.old progress.new }
 {
     let run = prepare_run(alloc, source, view.horizon)?;
     let nets = shown_nets(alloc, &run.design, &view.show)?;
@@ -110,7 +110,7 @@ fn dump_by_sweeps<W: Write, P: Progress>(
         (dump_text unit run.now.horizon (signals_of run.now.design.circuit nets.now))) }
     ensures err { IfErr result (BreaksOff (W.contents out.old) (W.contents out.new)
         (dump_text unit run.now.horizon (signals_of run.now.design.circuit nets.now))) }
-    ensures told { Told (P.tells run.now.horizon) (IsProgress result run.now.horizon) progress.old progress.new }
+    ensures reported { Reported (P.reports run.now.horizon) (IsProgress result run.now.horizon) progress.old progress.new }
 {
     let mut pace = Pace::sweeps(alloc, &run.design, run.horizon)?;
     dump_by_kernel(alloc, run, nets, unit, &mut pace, out, progress)?;

@@ -11,7 +11,7 @@ ghost use Rattle.runs.specs.Paces.{AllFarther, Covers, GoesOn};
 ghost use Rattle.runs.specs.Windows.{next_width};
 
 use crate::simulation::RunKernel;
-use crate::windows::{FIRST_WIDTH, most_told, next_width, reach};
+use crate::windows::{FIRST_WIDTH, most_sent, next_width, reach};
 use cmb_kernel::KernelFault;
 use design::{Design, Segment, flow_order, segments_of};
 use std::alloc::{AllocError, Global};
@@ -45,7 +45,7 @@ impl Sweeps {
             order,
             segments,
             end: horizon.ticks() + 1,
-            most: most_told(design.nets()),
+            most: most_sent(design.nets()),
             width: FIRST_WIDTH,
         })
     }
@@ -78,8 +78,8 @@ impl Sweeps {
             self.segments.as_slice(),
             tick,
         )?;
-        let told = kernel.counts().changes.saturating_sub(before);
-        self.width = next_width(self.width, told, self.most);
+        let sent = kernel.counts().changes.saturating_sub(before);
+        self.width = next_width(self.width, sent, self.most);
         Ok(())
     }
 }

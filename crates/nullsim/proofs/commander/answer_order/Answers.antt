@@ -5,8 +5,8 @@ use Rattle.nullsim.proofs.CountsLine.{Answered-weaker}
 use Rattle.nullsim.proofs.commander.answer_order.Goals as goal
 
 -- what is the answer over the texts that were read is that to the order
-pub returns-in-Ok-clause-told : goal.returns-in-Ok-clause-told
-returns-in-Ok-clause-told g c =
+pub returns-in-Ok-clause-reported : goal.returns-in-Ok-clause-reported
+returns-in-Ok-clause-reported g c =
     let known = g.T.Texts.known c.args.texts.now in
     let order = c.args.order.now in
     inr (
@@ -18,9 +18,9 @@ returns-in-Ok-clause-told g c =
             out = g.W.Write.contents c.answer_read.new.out;
             err = g.E.Write.contents c.answer_read.new.err;
           })
-          c.answer_read.result c.answer_read.ensures.told,
+          c.answer_read.result c.answer_read.ensures.reported,
     )
 
-pub returns-in-Err-clause-told : goal.returns-in-Err-clause-told
-returns-in-Err-clause-told g c =
+pub returns-in-Err-clause-reported : goal.returns-in-Err-clause-reported
+returns-in-Err-clause-reported g c =
     inl (c.in-Err.unread, c.in-Err.ensures.err, refl, rw (← c.side.ensures, ← c.text_names.ensures) c.report.ensures)

@@ -16,29 +16,29 @@ module _ {A F : Type 0} (result : Result A F) where
   on-err : (fault : F) (P : Type 0) → result ≡ Err fault → OnErr result P → P
   on-err fault P is holds = subst (λ (r : Result A F). OnErr r P) is holds
 
-pub returns-in-Ok-clause-told : goal.returns-in-Ok-clause-told
-returns-in-Ok-clause-told g c =
+pub returns-in-Ok-clause-reported : goal.returns-in-Ok-clause-reported
+returns-in-Ok-clause-reported g c =
     let carried = c.carry_out_heard-said.result.0 in
     inl (
       g.E.Write.contents c.carry_out_heard-said.new.err,
-      on-ok carried c.in-Ok.outcome _ c.in-Ok.is c.carry_out_heard-said.ensures.told,
+      on-ok carried c.in-Ok.outcome _ c.in-Ok.is c.carry_out_heard-said.ensures.reported,
       AnswerNoted-outcome c.args.texts.now c.args.order.now
           (record { readings = None; out = g.W.Write.contents c.args.out.now; err = g.E.Write.contents c.carry_out_heard-said.new.err })
-          (record { readings = None; out = g.W.Write.contents c.carry_out_heard-said.new.out; err = g.E.Write.contents c.tell_noted.new.err })
-          c.in-Ok.outcome c.tell_noted.result
-          (if-ok carried c.in-Ok.outcome _ c.in-Ok.is c.carry_out_heard-said.ensures.ok) c.tell_noted.ensures.told c.tell_noted.ensures.status,
+          (record { readings = None; out = g.W.Write.contents c.carry_out_heard-said.new.out; err = g.E.Write.contents c.report_noted.new.err })
+          c.in-Ok.outcome c.report_noted.result
+          (if-ok carried c.in-Ok.outcome _ c.in-Ok.is c.carry_out_heard-said.ensures.ok) c.report_noted.ensures.reported c.report_noted.ensures.status,
     )
 
-pub returns-clause-told : goal.returns-clause-told
-returns-clause-told g c =
+pub returns-clause-reported : goal.returns-clause-reported
+returns-clause-reported g c =
     let carried = c.carry_out_heard-said.result.0 in
     inr (
       g.E.Write.contents c.carry_out_heard-said.new.err,
-      on-err carried c.in-Err.fault _ c.in-Err.is c.carry_out_heard-said.ensures.told_until,
+      on-err carried c.in-Err.fault _ c.in-Err.is c.carry_out_heard-said.ensures.reported_until,
       (
         c.in-Err.fault,
         if-err carried c.in-Err.fault _ c.in-Err.is c.carry_out_heard-said.ensures.no_read,
         if-err carried c.in-Err.fault _ c.in-Err.is c.carry_out_heard-said.ensures.err,
-        (_, c.report_verbosely.ensures.told),
+        (_, c.report_verbosely.ensures.reported),
       ),
     )

@@ -6,14 +6,14 @@ seen : (words : Option (Bor (List ℕ))) (P : List ℕ → Type 0) → IfSome wo
 seen None P holds = tt
 seen (Some words) P holds = holds
 
-pub returns-in-Ok-clause-told : goal.returns-in-Ok-clause-told
-returns-in-Ok-clause-told g c = inr (c.in-Ok.read, c.in-Ok.ensures.ok, c.in-Ok.ensures.read, c.answer_read.ensures.told)
+pub returns-in-Ok-clause-reported : goal.returns-in-Ok-clause-reported
+returns-in-Ok-clause-reported g c = inr (c.in-Ok.read, c.in-Ok.ensures.ok, c.in-Ok.ensures.read, c.answer_read.ensures.reported)
 
-pub returns-in-Err-clause-told : goal.returns-in-Err-clause-told
-returns-in-Err-clause-told g c =
+pub returns-in-Err-clause-reported : goal.returns-in-Err-clause-reported
+returns-in-Err-clause-reported g c =
     inl (
       c.in-Err.fault,
       c.in-Err.ensures.err,
       refl,
-      (_, seen c.reason.result (λ words. IfSome (g.T.Texts.said c.read.new.texts) (λ all. words ≡ all)) c.reason.ensures, c.report_verbosely.ensures.told),
+      (_, seen c.reason.result (λ words. IfSome (g.T.Texts.said c.read.new.texts) (λ all. words ≡ all)) c.reason.ensures, c.report_verbosely.ensures.reported),
     )

@@ -8,11 +8,11 @@ returns-in_err-waves-clause-err g c =
     let p = err_from_is_err_and c.from_residual.result c.from_residual.ensures.1 in
     rw (p.1, p.2) (BreaksOff-memory _ _)
 
-pub returns-in_err-waves-clause-told : goal.returns-in_err-waves-clause-told
-returns-in_err-waves-clause-told g c =
+pub returns-in_err-waves-clause-reported : goal.returns-in_err-waves-clause-reported
+returns-in_err-waves-clause-reported g c =
     let p = err_from_is_err_and c.from_residual.result c.from_residual.ensures.1 in
-    rw p.1 c.in_err-waves.ensures.told
+    rw p.1 c.in_err-waves.ensures.reported
 
-pub returns-clause-told : goal.returns-clause-told
-returns-clause-told g c =
-    tick_by_tick-behind (g.P.Progress.tells c.args.horizon) c.write_dump.result c.args.horizon c.args.progress.now c.shown_waves.new.progress c.in_ok-waves.ensures.told
+pub returns-clause-reported : goal.returns-clause-reported
+returns-clause-reported g c =
+    tick_by_tick-behind (g.P.Progress.reports c.args.horizon) c.write_dump.result c.args.horizon c.args.progress.now c.shown_waves.new.progress c.in_ok-waves.ensures.reported

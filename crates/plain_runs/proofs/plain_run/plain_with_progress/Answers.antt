@@ -2,7 +2,7 @@ use Rattle.std.proofs.Common.{subst}
 use Rattle.std.proofs.lemmas.Result.{err_from_is_err_and, on_ok_weaker, IfErr-weaker}
 use Rattle.prepared_runs.specs.Source.{design_of_source, seen_source}
 use Rattle.prepared_runs.proofs.CallerLemmas.{dump_of_source-bad, dump_of_source-good, dump_of_source-unknown, RunEndsBy-BreaksOff, RunEndsBy-IsRefusal, IfSome-appended, IsReady-design_of_source, ShowsValues-design_of_source}
-use Rattle.run_progress.specs.Told.{IsTickByTick, Told}
+use Rattle.run_progress.specs.Reported.{IsTickByTick, Reported}
 use Rattle.run_progress.proofs.CallerLemmas.{tick_by_tick-nothing}
 use Rattle.plain_runs.proofs.plain_run.plain_with_progress.Goals as goal
 
@@ -35,20 +35,20 @@ returns-clause-err g c =
     rw (dump_of_source-good (seen_source c.args.source.now) c.args.view.now _ _ c.in_ok-design.ensures.ok c.in_ok-nets.ensures.known)
     (IfErr-weaker c.dump_by_plain_engine.result _ _ (λ fault. RunEndsBy-BreaksOff _ _ _ fault) c.dump_by_plain_engine.ensures.err)
 
-pub returns-in_err-design-clause-told : goal.returns-in_err-design-clause-told
-returns-in_err-design-clause-told g c =
+pub returns-in_err-design-clause-reported : goal.returns-in_err-design-clause-reported
+returns-in_err-design-clause-reported g c =
     let p = err_from_is_err_and c.from_residual.result c.from_residual.ensures.1 in
     let horizon = c.args.view.now.horizon in
-    tick_by_tick-nothing (g.P.Progress.tells horizon) c.from_residual.result _ horizon c.args.progress.now p.1 (g.met.P.Progress.nothing horizon c.args.progress.now)
+    tick_by_tick-nothing (g.P.Progress.reports horizon) c.from_residual.result _ horizon c.args.progress.now p.1 (g.met.P.Progress.nothing horizon c.args.progress.now)
 
-pub returns-in_err-nets-clause-told : goal.returns-in_err-nets-clause-told
-returns-in_err-nets-clause-told g c =
+pub returns-in_err-nets-clause-reported : goal.returns-in_err-nets-clause-reported
+returns-in_err-nets-clause-reported g c =
     let p = err_from_is_err_and c.from_residual-in_err-nets.result c.from_residual-in_err-nets.ensures.1 in
     let horizon = c.args.view.now.horizon in
-    tick_by_tick-nothing (g.P.Progress.tells horizon) c.from_residual-in_err-nets.result _ horizon c.args.progress.now p.1 (g.met.P.Progress.nothing horizon c.args.progress.now)
+    tick_by_tick-nothing (g.P.Progress.reports horizon) c.from_residual-in_err-nets.result _ horizon c.args.progress.now p.1 (g.met.P.Progress.nothing horizon c.args.progress.now)
 
-pub returns-clause-told : goal.returns-clause-told
-returns-clause-told g c =
+pub returns-clause-reported : goal.returns-clause-reported
+returns-clause-reported g c =
     let ready = IsReady-design_of_source (seen_source c.args.source.now) c.args.view.now.horizon _ c.in_ok-design.ensures.ok in
-    subst (λ horizon. Told (g.P.Progress.tells horizon) (IsTickByTick c.dump_by_plain_engine.result horizon) c.args.progress.now c.dump_by_plain_engine.new.progress)
-    ready.horizon c.dump_by_plain_engine.ensures.told
+    subst (λ horizon. Reported (g.P.Progress.reports horizon) (IsTickByTick c.dump_by_plain_engine.result horizon) c.args.progress.now c.dump_by_plain_engine.new.progress)
+    ready.horizon c.dump_by_plain_engine.ensures.reported

@@ -25,6 +25,6 @@ returns-in-Outputs-clause-waves g c =
     (λ copies are. are ∙ map-wave_at design.circuit c.args.horizon c.as_slice.result.now c.args.nets.now (c.as_slice.ensures.value ∙ c.in_ok-waves.ensures.waves) below)
     c.copies.ensures
 
-pub returns-in-Outputs-clause-told : goal.returns-in-Outputs-clause-told
-returns-in-Outputs-clause-told g c =
-    tick_by_tick-behind (g.P.Progress.tells c.args.horizon) c.copies.result c.args.horizon c.args.progress.now c.all_waves.new.progress c.in_ok-waves.ensures.told
+pub returns-in-Outputs-clause-reported : goal.returns-in-Outputs-clause-reported
+returns-in-Outputs-clause-reported g c =
+    tick_by_tick-behind (g.P.Progress.reports c.args.horizon) c.copies.result c.args.horizon c.args.progress.now c.all_waves.new.progress c.in_ok-waves.ensures.reported

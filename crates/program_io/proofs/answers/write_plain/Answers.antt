@@ -33,12 +33,12 @@ returns-clause-ok g c =
     GoesOut-flushed (λ answer. answer ≡ plain_answer (seen_source c.args.source.now) c.args.view.now) _ _ _ _ (GoesOut-dump (λ answer. answer ≡ plain_answer (seen_source c.args.source.now) c.args.view.now)
     (dump_of_source (seen_source c.args.source.now) c.args.view.now) refl _ _ c.in_ok-plain_with_progress.ensures.ok) c.flush.ensures.kept
 
-pub returns-in_err-plain_with_progress-clause-told : goal.returns-in_err-plain_with_progress-clause-told
-returns-in_err-plain_with_progress-clause-told g c =
+pub returns-in_err-plain_with_progress-clause-reported : goal.returns-in_err-plain_with_progress-clause-reported
+returns-in_err-plain_with_progress-clause-reported g c =
     let p = err_from_is_err_and c.from_residual.result c.from_residual.ensures.1 in
-    rw p.1 c.in_err-plain_with_progress.ensures.told
+    rw p.1 c.in_err-plain_with_progress.ensures.reported
 
-pub returns-in_err-flush-clause-told : goal.returns-in_err-flush-clause-told
-returns-in_err-flush-clause-told g c =
-    tick_by_tick-behind (g.P.Progress.tells c.args.view.now.horizon) c.from_residual-in_err-flush.result c.args.view.now.horizon c.args.progress.now
-    c.plain_with_progress.new.progress c.in_ok-plain_with_progress.ensures.told
+pub returns-in_err-flush-clause-reported : goal.returns-in_err-flush-clause-reported
+returns-in_err-flush-clause-reported g c =
+    tick_by_tick-behind (g.P.Progress.reports c.args.view.now.horizon) c.from_residual-in_err-flush.result c.args.view.now.horizon c.args.progress.now
+    c.plain_with_progress.new.progress c.in_ok-plain_with_progress.ensures.reported

@@ -34,12 +34,12 @@ returns-clause-ok g c =
     (GoesOut-flushed (λ answer. answer ≡ run_answer (seen_source c.args.source.now) c.args.view.now c.args.counts) _ _ _ _ (GoesOut-run (λ answer. answer ≡ run_answer (seen_source c.args.source.now) c.args.view.now c.args.counts) c.args.counts
     (simulated (seen_source c.args.source.now) c.args.view.now) refl _ _ _ c.in_ok-outcome.ensures.ok) c.flush.ensures.kept)
 
-pub returns-in_err-outcome-clause-told : goal.returns-in_err-outcome-clause-told
-returns-in_err-outcome-clause-told g c =
+pub returns-in_err-outcome-clause-reported : goal.returns-in_err-outcome-clause-reported
+returns-in_err-outcome-clause-reported g c =
     let p = err_from_is_err_and c.from_residual.result c.from_residual.ensures.1 in
-    rw p.1 c.in_err-outcome.ensures.told
+    rw p.1 c.in_err-outcome.ensures.reported
 
-pub returns-in_err-flush-clause-told : goal.returns-in_err-flush-clause-told
-returns-in_err-flush-clause-told g c =
-    progress-behind (g.P.Progress.tells c.args.view.now.horizon) c.from_residual-in_err-flush.result c.args.view.now.horizon c.args.progress.now
-    c.dump_and_count.new.progress c.in_ok-outcome.ensures.told
+pub returns-in_err-flush-clause-reported : goal.returns-in_err-flush-clause-reported
+returns-in_err-flush-clause-reported g c =
+    progress-behind (g.P.Progress.reports c.args.view.now.horizon) c.from_residual-in_err-flush.result c.args.view.now.horizon c.args.progress.now
+    c.dump_and_count.new.progress c.in_ok-outcome.ensures.reported

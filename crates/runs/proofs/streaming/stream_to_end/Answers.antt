@@ -9,8 +9,8 @@ use Rattle.cmb_kernel.specs.State.{KernelView}
 use Rattle.vcd_dump.specs.declared.fault.DumpFault.TheVariants.{Failed}
 use Rattle.vcd_dump.specs.Spans.{StreamView, begun, parts_of, span_text, stream_at}
 use Rattle.vcd_dump.proofs.CallerLemmas.{stream_at-begun}
-use Rattle.run_progress.specs.Told.{RisesBelow, Told}
-use Rattle.run_progress.proofs.CallerLemmas.{Told-last, Told-next, Told-nothing, Told-wider, progress-nothing}
+use Rattle.run_progress.specs.Reported.{Reported, RisesBelow}
+use Rattle.run_progress.proofs.CallerLemmas.{Reported-last, Reported-next, Reported-nothing, Reported-wider, progress-nothing}
 use Rattle.runs.specs.Drained.{values_of}
 use Rattle.prepared_runs.specs.Ends.{BreaksOff}
 use Rattle.runs.specs.declared.pace.Pace.TheVariants.{Rounds}
@@ -59,7 +59,7 @@ loop-stream-init g c =
       stream = begins_at circuit c.args.nets.now c.args.run.now.horizon c.in_ok-stream.stream c.in_ok-stream.ensures.stream;
       text = subst (λ to. Appends (g.W.Write.contents c.args.out.now) (g.W.Write.contents c.begin.new.out) (text_before c.args.unit c.args.run.now.horizon circuit c.args.nets.now to)) (sym written)
           (subst (Appends (g.W.Write.contents c.args.out.now) (g.W.Write.contents c.begin.new.out)) (text_begins c.args.unit c.args.run.now.horizon circuit c.args.nets.now) c.in_ok-stream.ensures.ok);
-      told = Told-nothing (g.P.Progress.tells c.args.run.now.horizon) _ c.args.progress.now (g.met.P.Progress.nothing c.args.run.now.horizon c.args.progress.now);
+      reported = Reported-nothing (g.P.Progress.reports c.args.run.now.horizon) _ c.args.progress.now (g.met.P.Progress.nothing c.args.run.now.horizon c.args.progress.now);
     }
 
 pub go_on-requires-clause-suits : goal.go_on-requires-clause-suits
@@ -112,7 +112,7 @@ returns-in_err-finish-clause-err g c =
     let went = goes_on c.args.unit c.args.run.now.horizon c.args.run.now.design.circuit c.args.nets.now (g.W.Write.contents c.args.out.now) (g.W.Write.contents c.loop-stream.out) from inv.text (g.W.Write.contents c.write_known.new.out) to (ahead_of inv.streamed.ahead c.least_frontier-known.ensures)
     (subst (λ cs. Appends (g.W.Write.contents c.loop-stream.out) (g.W.Write.contents c.write_known.new.out) (span_text from to (parts_of (values_of cs c.args.nets.now) from to))) circuit c.in_ok-write_known.ensures.ok) in
     let fresh : c.write_known.new.stream.failed ≡ false = ap (λ (s : StreamView). s.failed) next in
-    let first : c.in_err-finish.field-0.0 ≢ Failed = λ same. let told = c.in_err-finish.ensures.only (ap Err same) in (cc) in
+    let first : c.in_err-finish.field-0.0 ≢ Failed = λ same. let fact = c.in_err-finish.ensures.only (ap Err same) in (cc) in
     rw (p.1, p.2)
     (breaks_at_end c.args.unit c.args.run.now.horizon c.args.run.now.design.circuit c.args.nets.now (g.W.Write.contents c.args.out.now) (g.W.Write.contents c.write_known.new.out) to went (g.W.Write.contents c.finish.new.out) c.write_known.new.stream c.in_err-finish.field-0.0 first
     all next c.in_err-finish.ensures.err)
@@ -174,16 +174,16 @@ loop-stream-preserved g c =
           (led inv.streamed drains c.go_on.new.kernel c.in_ok-go_on.ensures.goes) c.requires.circuit c.requires.end c.in_ok-go_on.ensures.suits;
       stream = next ∙ ap (stream_at (values_of c.args.run.now.design.circuit c.args.nets.now) c.args.run.now.horizon) (sym written);
       text = subst (λ at. Appends (g.W.Write.contents c.args.out.now) (g.W.Write.contents c.write_known.new.out) (text_before c.args.unit c.args.run.now.horizon c.args.run.now.design.circuit c.args.nets.now at)) (sym written) went;
-      told =
+      reported =
           let horizon = c.args.run.now.horizon in
           let more = still_more (ap (λ (k : KernelView). k.end) inv.streamed.run ∙ c.requires.end) c.ticks-end.ensures.ticks c.if-known-end.false in
           let same_end : c.write_known.new.kernel.end ≡ c.loop-stream.kernel.end = ap (λ (k : KernelView). k.end) drains.run in
           let same_least = least_same c.loop-stream.kernel c.write_known.new.kernel drains in
           let risen = c.in_ok-go_on.ensures.rises (omega (arith, more, same_end, same_least, least_within c.loop-stream.kernel, c.least_frontier-known.ensures)) in
-          Told-next (g.P.Progress.tells horizon) (g.met.P.Progress.joined horizon) to _ c.args.progress.now c.loop-stream.progress c.tell.new.self
+          Reported-next (g.P.Progress.reports horizon) (g.met.P.Progress.joined horizon) to _ c.args.progress.now c.loop-stream.progress c.report.new.self
           (omega (arith, risen, same_least, c.least_frontier-known.ensures))
-          (subst (λ bound. Told (g.P.Progress.tells horizon) (RisesBelow bound) c.args.progress.now c.loop-stream.progress) (sym c.least_frontier-known.ensures) inv.told)
-          c.tell.ensures;
+          (subst (λ bound. Reported (g.P.Progress.reports horizon) (RisesBelow bound) c.args.progress.now c.loop-stream.progress) (sym c.least_frontier-known.ensures) inv.reported)
+          c.report.ensures;
     }
 
 pub returns-in_err-go_on-clause-err : goal.returns-in_err-go_on-clause-err
@@ -200,57 +200,57 @@ returns-in_err-go_on-clause-err g c =
     (breaks_here c.args.unit c.args.run.now.horizon c.args.run.now.design.circuit c.args.nets.now (g.W.Write.contents c.args.out.now) (g.W.Write.contents c.write_known.new.out) to went
     (omega (arith, end, least_within c.loop-stream.kernel, c.least_frontier-known.ensures)))
 
-pub returns-in_err-hidden-clause-told : goal.returns-in_err-hidden-clause-told
-returns-in_err-hidden-clause-told g c =
+pub returns-in_err-hidden-clause-reported : goal.returns-in_err-hidden-clause-reported
+returns-in_err-hidden-clause-reported g c =
     let p = err_from_is_err_and c.from_residual.result c.from_residual.ensures.1 in
     let horizon = c.args.run.now.horizon in
-    progress-nothing (g.P.Progress.tells horizon) c.from_residual.result _ horizon c.args.progress.now p.1 (g.met.P.Progress.nothing horizon c.args.progress.now)
+    progress-nothing (g.P.Progress.reports horizon) c.from_residual.result _ horizon c.args.progress.now p.1 (g.met.P.Progress.nothing horizon c.args.progress.now)
 
-pub returns-in_err-stream-clause-told : goal.returns-in_err-stream-clause-told
-returns-in_err-stream-clause-told g c =
+pub returns-in_err-stream-clause-reported : goal.returns-in_err-stream-clause-reported
+returns-in_err-stream-clause-reported g c =
     let p = err_from_is_err_and c.from_residual-in_err-stream.result c.from_residual-in_err-stream.ensures.1 in
     let horizon = c.args.run.now.horizon in
-    progress-nothing (g.P.Progress.tells horizon) c.from_residual-in_err-stream.result _ horizon c.args.progress.now p.1 (g.met.P.Progress.nothing horizon c.args.progress.now)
+    progress-nothing (g.P.Progress.reports horizon) c.from_residual-in_err-stream.result _ horizon c.args.progress.now p.1 (g.met.P.Progress.nothing horizon c.args.progress.now)
 
-pub tell-requires : goal.tell-requires
-tell-requires g c =
+pub report-requires : goal.report-requires
+report-requires g c =
     let end = ap (λ (k : KernelView). k.end) c.loop-stream.invariant.streamed.run ∙ c.requires.end in
     omega (arith, end, least_within c.loop-stream.kernel, c.least_frontier-known.ensures)
 
-pub returns-in_err-write_known-clause-told : goal.returns-in_err-write_known-clause-told
-returns-in_err-write_known-clause-told g c =
+pub returns-in_err-write_known-clause-reported : goal.returns-in_err-write_known-clause-reported
+returns-in_err-write_known-clause-reported g c =
     let p = err_from_is_err_and c.from_residual-in_err-write_known.result c.from_residual-in_err-write_known.ensures.1 in
     let horizon = c.args.run.now.horizon in
     let inv = c.loop-stream.invariant in
     let end = ap (λ (k : KernelView). k.end) inv.streamed.run ∙ c.requires.end in
-    rw p.1 (Told-wider (g.P.Progress.tells horizon) _ (horizon + 2) c.args.progress.now c.loop-stream.progress
-    (omega (arith, end, least_within c.loop-stream.kernel)) inv.told)
+    rw p.1 (Reported-wider (g.P.Progress.reports horizon) _ (horizon + 2) c.args.progress.now c.loop-stream.progress
+    (omega (arith, end, least_within c.loop-stream.kernel)) inv.reported)
 
-pub returns-in_err-finish-clause-told : goal.returns-in_err-finish-clause-told
-returns-in_err-finish-clause-told g c =
+pub returns-in_err-finish-clause-reported : goal.returns-in_err-finish-clause-reported
+returns-in_err-finish-clause-reported g c =
     let p = err_from_is_err_and c.from_residual-in_err-finish.result c.from_residual-in_err-finish.ensures.1 in
     let horizon = c.args.run.now.horizon in
     let inv = c.loop-stream.invariant in
     let end = ap (λ (k : KernelView). k.end) inv.streamed.run ∙ c.requires.end in
-    let known = subst (λ bound. Told (g.P.Progress.tells horizon) (RisesBelow bound) c.args.progress.now c.loop-stream.progress) (sym c.least_frontier-known.ensures) inv.told in
-    rw p.1 (Told-next (g.P.Progress.tells horizon) (g.met.P.Progress.joined horizon) c.least_frontier-known.result (horizon + 2) c.args.progress.now
-    c.loop-stream.progress c.tell.new.self (omega (arith, end, least_within c.loop-stream.kernel, c.least_frontier-known.ensures)) known c.tell.ensures)
+    let known = subst (λ bound. Reported (g.P.Progress.reports horizon) (RisesBelow bound) c.args.progress.now c.loop-stream.progress) (sym c.least_frontier-known.ensures) inv.reported in
+    rw p.1 (Reported-next (g.P.Progress.reports horizon) (g.met.P.Progress.joined horizon) c.least_frontier-known.result (horizon + 2) c.args.progress.now
+    c.loop-stream.progress c.report.new.self (omega (arith, end, least_within c.loop-stream.kernel, c.least_frontier-known.ensures)) known c.report.ensures)
 
-pub returns-in_err-go_on-clause-told : goal.returns-in_err-go_on-clause-told
-returns-in_err-go_on-clause-told g c =
+pub returns-in_err-go_on-clause-reported : goal.returns-in_err-go_on-clause-reported
+returns-in_err-go_on-clause-reported g c =
     let p = err_from_is_err_and c.from_residual-in_err-go_on.result c.from_residual-in_err-go_on.ensures.1 in
     let horizon = c.args.run.now.horizon in
     let inv = c.loop-stream.invariant in
     let end = ap (λ (k : KernelView). k.end) inv.streamed.run ∙ c.requires.end in
-    let known = subst (λ bound. Told (g.P.Progress.tells horizon) (RisesBelow bound) c.args.progress.now c.loop-stream.progress) (sym c.least_frontier-known.ensures) inv.told in
-    rw p.1 (Told-next (g.P.Progress.tells horizon) (g.met.P.Progress.joined horizon) c.least_frontier-known.result (horizon + 2) c.args.progress.now
-    c.loop-stream.progress c.tell.new.self (omega (arith, end, least_within c.loop-stream.kernel, c.least_frontier-known.ensures)) known c.tell.ensures)
+    let known = subst (λ bound. Reported (g.P.Progress.reports horizon) (RisesBelow bound) c.args.progress.now c.loop-stream.progress) (sym c.least_frontier-known.ensures) inv.reported in
+    rw p.1 (Reported-next (g.P.Progress.reports horizon) (g.met.P.Progress.joined horizon) c.least_frontier-known.result (horizon + 2) c.args.progress.now
+    c.loop-stream.progress c.report.new.self (omega (arith, end, least_within c.loop-stream.kernel, c.least_frontier-known.ensures)) known c.report.ensures)
 
-pub returns-then-known-end-clause-told : goal.returns-then-known-end-clause-told
-returns-then-known-end-clause-told g c =
+pub returns-then-known-end-clause-reported : goal.returns-then-known-end-clause-reported
+returns-then-known-end-clause-reported g c =
     let horizon = c.args.run.now.horizon in
     let inv = c.loop-stream.invariant in
-    let known = subst (λ bound. Told (g.P.Progress.tells horizon) (RisesBelow bound) c.args.progress.now c.loop-stream.progress) (sym c.least_frontier-known.ensures) inv.told in
+    let known = subst (λ bound. Reported (g.P.Progress.reports horizon) (RisesBelow bound) c.args.progress.now c.loop-stream.progress) (sym c.least_frontier-known.ensures) inv.reported in
     let all : c.least_frontier-known.result ≡ horizon + 1 = omega (arith, c.if-known-end.true, c.ticks-end.ensures.ticks) in
-    Told-last (g.P.Progress.tells horizon) (g.met.P.Progress.joined horizon) (horizon + 1) c.least_frontier-known.result c.args.progress.now
-    c.loop-stream.progress c.tell.new.self all known c.tell.ensures
+    Reported-last (g.P.Progress.reports horizon) (g.met.P.Progress.joined horizon) (horizon + 1) c.least_frontier-known.result c.args.progress.now
+    c.loop-stream.progress c.report.new.self all known c.report.ensures

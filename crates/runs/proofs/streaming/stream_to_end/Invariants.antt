@@ -1,9 +1,9 @@
--- What every net knew before the last step went out and was forgotten; how much that was was told, and more is known now.
+-- What every net knew before the last step went out and was forgotten; how much that was was reported, and more is known now.
 use Rattle.std.proofs.Common.{◌≡◌, ◌+◌, ◌-◌}
 use Rattle.std.specs.Io.KnownBytes.{Appends}
 use Rattle.cmb_kernel.specs.State.{least_frontier}
 use Rattle.vcd_dump.specs.Spans.{stream_at}
-use Rattle.run_progress.specs.Told.{RisesBelow, Told}
+use Rattle.run_progress.specs.Reported.{Reported, RisesBelow}
 use Rattle.runs.specs.Drained.{values_of}
 use Rattle.runs.specs.Paces.{Suits}
 use Rattle.runs.specs.declared.pace.Pace.TheVariants.{Rounds}
@@ -18,7 +18,7 @@ invariant-loop-stream g l = record {
   suits : Suits l.pace l.run.design.circuit (l.run.horizon + 1);
   stream : l.stream ≡ stream_at (values_of l.run.design.circuit l.nets) l.run.horizon l.stream.written;
   text : Appends (g.W.Write.contents l.fn.out) (g.W.Write.contents l.out) (text_before l.fn.unit l.run.horizon l.run.design.circuit l.nets l.stream.written);
-  told : Told (g.P.Progress.tells l.run.horizon) (RisesBelow (least_frontier l.kernel.end l.kernel.state)) l.fn.progress l.progress;
+  reported : Reported (g.P.Progress.reports l.run.horizon) (RisesBelow (least_frontier l.kernel.end l.kernel.state)) l.fn.progress l.progress;
 }
 
 abbrev pub decreases-loop-stream : goal.decreases-loop-stream

@@ -68,7 +68,7 @@ returns-in_err-write_parts-clause-err g c =
     let p = err_from_is_err_and c.from_residual-in_err-write_parts.result c.from_residual-in_err-write_parts.ensures.1 in
     let given = given_is g (goal.at.returns-in_err-write_parts-clause-err g c).In_ok-give_parts in
     let fresh : c.give_parts.new.stream.failed ≡ false = ap (λ (s : StreamView). s.failed) given in
-    let first : c.in_err-write_parts.field-0.0 ≢ Failed = λ same. let told = c.in_err-write_parts.ensures.only (ap Err same) in (cc) in
+    let first : c.in_err-write_parts.field-0.0 ≢ Failed = λ same. let fact = c.in_err-write_parts.ensures.only (ap Err same) in (cc) in
     rw (p.1, p.2)
     (BreaksOff-dump _ _ _ _ first (subst (AppendsPrefix _ _) (text_is g (goal.at.returns-in_err-write_parts-clause-err g c).In_ok-give_parts) c.in_err-write_parts.ensures.err))
 

@@ -8,7 +8,7 @@ use Rattle.runs.proofs.Reports.{simulated-bad, simulated-good, simulated-unknown
 use Rattle.runs.proofs.Completed.{run_completes_on}
 use Rattle.runs.proofs.ConesShown.{CanShow-shown, dump_alone}
 use Rattle.prepared_runs.proofs.CallerLemmas.{RunEndsBy-BreaksOff, RunEndsBy-IsRefusal, ShowsValues-run_of_source, IfSome-appended, ready_of_run}
-use Rattle.run_progress.specs.Told.{IsProgress, Told}
+use Rattle.run_progress.specs.Reported.{IsProgress, Reported}
 use Rattle.run_progress.proofs.CallerLemmas.{progress-nothing}
 use Rattle.runs.proofs.sweep_run.sweep_with_progress.Goals as goal
 
@@ -58,26 +58,26 @@ returns-clause-err g c =
     (IfErr-weaker c.dump_by_sweeps.result _ _
     (λ fault ends. RunEndsBy-BreaksOff _ _ _ fault (subst (λ whole. BreaksOff (g.W.Write.contents c.args.out.now) (g.W.Write.contents c.dump_by_sweeps.new.out) whole fault) text ends)) c.dump_by_sweeps.ensures.err)
 
-pub returns-in_err-run-clause-told : goal.returns-in_err-run-clause-told
-returns-in_err-run-clause-told g c =
+pub returns-in_err-run-clause-reported : goal.returns-in_err-run-clause-reported
+returns-in_err-run-clause-reported g c =
     let p = err_from_is_err_and c.from_residual.result c.from_residual.ensures.1 in
     let horizon = c.args.view.now.horizon in
-    progress-nothing (g.P.Progress.tells horizon) c.from_residual.result _ horizon c.args.progress.now p.1 (g.met.P.Progress.nothing horizon c.args.progress.now)
+    progress-nothing (g.P.Progress.reports horizon) c.from_residual.result _ horizon c.args.progress.now p.1 (g.met.P.Progress.nothing horizon c.args.progress.now)
 
-pub returns-in_err-nets-clause-told : goal.returns-in_err-nets-clause-told
-returns-in_err-nets-clause-told g c =
+pub returns-in_err-nets-clause-reported : goal.returns-in_err-nets-clause-reported
+returns-in_err-nets-clause-reported g c =
     let p = err_from_is_err_and c.from_residual-in_err-nets.result c.from_residual-in_err-nets.ensures.1 in
     let horizon = c.args.view.now.horizon in
-    progress-nothing (g.P.Progress.tells horizon) c.from_residual-in_err-nets.result _ horizon c.args.progress.now p.1 (g.met.P.Progress.nothing horizon c.args.progress.now)
+    progress-nothing (g.P.Progress.reports horizon) c.from_residual-in_err-nets.result _ horizon c.args.progress.now p.1 (g.met.P.Progress.nothing horizon c.args.progress.now)
 
-pub returns-in_err-shown-clause-told : goal.returns-in_err-shown-clause-told
-returns-in_err-shown-clause-told g c =
+pub returns-in_err-shown-clause-reported : goal.returns-in_err-shown-clause-reported
+returns-in_err-shown-clause-reported g c =
     let p = err_from_is_err_and c.from_residual-in_err-shown.result c.from_residual-in_err-shown.ensures.1 in
     let horizon = c.args.view.now.horizon in
-    progress-nothing (g.P.Progress.tells horizon) c.from_residual-in_err-shown.result _ horizon c.args.progress.now p.1 (g.met.P.Progress.nothing horizon c.args.progress.now)
+    progress-nothing (g.P.Progress.reports horizon) c.from_residual-in_err-shown.result _ horizon c.args.progress.now p.1 (g.met.P.Progress.nothing horizon c.args.progress.now)
 
-pub returns-clause-told : goal.returns-clause-told
-returns-clause-told g c =
+pub returns-clause-reported : goal.returns-clause-reported
+returns-clause-reported g c =
     let ready = ready_of_run (seen_source c.args.source.now) c.args.view.now.horizon (seen_run c.in_ok-run.run') c.in_ok-run.ensures.ok in
-    subst (λ horizon. Told (g.P.Progress.tells horizon) (IsProgress c.dump_by_sweeps.result horizon) c.args.progress.now c.dump_by_sweeps.new.progress)
-    (c.in_ok-shown.ensures.same.horizon ∙ ready.horizon) c.dump_by_sweeps.ensures.told
+    subst (λ horizon. Reported (g.P.Progress.reports horizon) (IsProgress c.dump_by_sweeps.result horizon) c.args.progress.now c.dump_by_sweeps.new.progress)
+    (c.in_ok-shown.ensures.same.horizon ∙ ready.horizon) c.dump_by_sweeps.ensures.reported

@@ -3,7 +3,7 @@ use Rattle.std.specs.declared.alloc.Global.{Global}
 use Rattle.std.proofs.lemmas.Result.{IfErr-weaker, IfOk-weaker}
 use Rattle.netlist.specs.Names.{seen_names}
 use Rattle.prepared_runs.specs.Source.{SourceView, seen_source}
-use Rattle.run_progress.specs.Told.{Told}
+use Rattle.run_progress.specs.Reported.{Reported}
 use Rattle.run_pairs.specs.declared.diff_run.DiffTicks.{DiffTicks}
 use Rattle.program_io.specs.declared.program_fault.ProgramFault.{ProgramFault}
 use Rattle.program_io.specs.Answers.{Answer, IsAnswerOfCone, IsAnswerOfDiff}
@@ -14,7 +14,7 @@ use Rattle.orders.specs.declared.order.SourceOptions.{SourceOptions}
 use Rattle.orders.specs.declared.order_texts.OrderTexts.{OrderTexts}
 use Rattle.orders.specs.Options.{source_from}
 use Rattle.orders.specs.OrderAnswer.{IsAnswerTo}
-use Rattle.orders.specs.Progress.{DoneTicks, horizon_told}
+use Rattle.orders.specs.Progress.{DoneTicks, horizon_reported}
 use Rattle.orders.proofs.order.Order.carry_out.Goals as goal
 
 -- the answer over the slices of names that are handed on is that to the order
@@ -35,20 +35,20 @@ module _ (order : Order) (texts : OrderTexts) (names : Vec (Bor (List ℕ)) Glob
       (subst (λ (s : SourceView). IsAnswerOfDiff (source_from first texts.first) s (seen_names slice) ticks answer) same_other
       (subst (λ (s : SourceView). IsAnswerOfDiff s other (seen_names slice) ticks answer) same_one holds)))
 
--- an order that tells of no ticks
-tells-nothing : {S A F : Type 0} (tells : ℕ → S → List ℕ → S → Type 0) → ((horizon : ℕ) (state : S) → tells horizon state [] state) →
-    (order : Order) (state : S) (result : Result A F) → DoneTicks order [] → OnOk result (Told (tells (horizon_told order)) (DoneTicks order) state state)
-tells-nothing tells nothing order state (Ok value) none = ([], nothing (horizon_told order) state, none)
-tells-nothing tells nothing order state (Err fault) none = tt
+-- an order that reports no ticks
+reports-nothing : {S A F : Type 0} (reports : ℕ → S → List ℕ → S → Type 0) → ((horizon : ℕ) (state : S) → reports horizon state [] state) →
+    (order : Order) (state : S) (result : Result A F) → DoneTicks order [] → OnOk result (Reported (reports (horizon_reported order)) (DoneTicks order) state state)
+reports-nothing reports nothing order state (Ok value) none = ([], nothing (horizon_reported order) state, none)
+reports-nothing reports nothing order state (Err fault) none = tt
 
-pub returns-in-Info-clause-told : goal.returns-in-Info-clause-told
-returns-in-Info-clause-told g c =
-    tells-nothing g.P.Progress.tells g.met.P.Progress.nothing c.args.self.now c.args.progress.now c.write_info.result
+pub returns-in-Info-clause-reported : goal.returns-in-Info-clause-reported
+returns-in-Info-clause-reported g c =
+    reports-nothing g.P.Progress.reports g.met.P.Progress.nothing c.args.self.now c.args.progress.now c.write_info.result
     (subst (λ (o : Order). DoneTicks o []) (sym c.in-Info.is) refl)
 
-pub returns-in-Twin-clause-told : goal.returns-in-Twin-clause-told
-returns-in-Twin-clause-told g c =
-    tells-nothing g.P.Progress.tells g.met.P.Progress.nothing c.args.self.now c.args.progress.now c.write_twin.result
+pub returns-in-Twin-clause-reported : goal.returns-in-Twin-clause-reported
+returns-in-Twin-clause-reported g c =
+    reports-nothing g.P.Progress.reports g.met.P.Progress.nothing c.args.self.now c.args.progress.now c.write_twin.result
     (subst (λ (o : Order). DoneTicks o []) (sym c.in-Twin.is) refl)
 
 pub returns-in-Cone-clause-ok : goal.returns-in-Cone-clause-ok

@@ -1,5 +1,5 @@
 use Rattle.run_notes.proofs.Tested.{noted_so_or_so, shows-undriven, shows-unknown}
-use Rattle.run_notes.proofs.laws.notes_tell_of_x.Goals as goal
+use Rattle.run_notes.proofs.laws.notes_report_x.Goals as goal
 
 pub returns-clause-undriven : goal.returns-clause-undriven
 returns-clause-undriven c = λ circuit horizon net tick inside. shows-undriven circuit horizon net tick inside

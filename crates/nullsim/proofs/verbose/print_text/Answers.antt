@@ -1,5 +1,5 @@
 use Rattle.vcd_dump.proofs.CallerLemmas.{AppendsPrefix-either}
-use Rattle.nullsim.proofs.verbose.write_told.Goals as goal
+use Rattle.nullsim.proofs.verbose.print_text.Goals as goal
 
 pub returns : goal.returns
 returns g c =

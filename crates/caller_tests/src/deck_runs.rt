@@ -87,11 +87,11 @@ fn fault_lines(rt: HostRuntime) {
 }
 
 // The room of the writer; the status and the fault line.
-static TOLD: [(usize, u8, &[u8]); 2] = [(190, 0, b""), (40, 3, b"stdout:0: Write\n")];
+static ROOMS: [(usize, u8, &[u8]); 2] = [(190, 0, b""), (40, 3, b"stdout:0: Write\n")];
 
 #[test]
 fn the_program_without_arguments(rt: HostRuntime) {
-    for &(room, wanted, fault) in &TOLD {
+    for &(room, wanted, fault) in &ROOMS {
         let mut input: &[u8] = INVERTER;
         let mut out = Narrow::new(rt.alloc(), room, 7);
         let mut err: Vec<u8> = Vec::new(rt.alloc());

@@ -4,8 +4,8 @@ use Rattle.std.specs.List.{range_with_len}
 use Rattle.logic3.specs.Rising.{Rises}
 
 -- the reports of such numbers led from one state to the other
-abbrev pub Told : {S : Type 0} → (S → List ℕ → S → Type 0) → (List ℕ → Type 0) → S → S → Type 0
-Told tells Such old new = (ticks : List ℕ) × tells old ticks new × Such ticks
+abbrev pub Reported : {S : Type 0} → (S → List ℕ → S → Type 0) → (List ℕ → Type 0) → S → S → Type 0
+Reported reports Such old new = (ticks : List ℕ) × reports old ticks new × Such ticks
 
 -- numbers that rise, and are less than a bound
 pub record RisesBelow (bound : ℕ) (ticks : List ℕ) : Type 0 where

@@ -1,4 +1,4 @@
-use Rattle.nullsim.proofs.telling.carry_out_heard.Given as goal
+use Rattle.nullsim.proofs.carrying.carry_out_heard.Given as goal
 
 -- the writer's own name
 abbrev pub ghosts-carry_out_named : goal.ghosts-carry_out_named

@@ -5,7 +5,7 @@ use Rattle.runs.specs.declared.simulation.Report.{Report}
 use Rattle.runs.specs.Simulated.{dump_in}
 use Rattle.decks.specs.declared.deck_run.DeckFault.{DeckFault}
 use Rattle.decks.specs.DeckRun.{dump_of_deck}
-use Rattle.decks.specs.Tell.{DeckTold}
+use Rattle.decks.specs.Tell.{DeckReported}
 use Rattle.decks.proofs.Decks.{dump_of_deck-cut}
 
 -- the dump of a run that is done
@@ -14,11 +14,11 @@ pub IsOkAnd-dump : (answer : Result (List ℕ × Report) DeckFault) (report : Re
 IsOkAnd-dump (Ok both) report P done = done.0
 IsOkAnd-dump (Err fault) report P done = absurd done
 
--- what was told of the text that was read was told of the deck
-pub DeckTold-read : (bytes : Option (List ℕ)) (text slice : List ℕ) → IfSome bytes (λ all. text ≡ take (longest_text + 1) all) → slice ≡ text →
-    (out out_new err err_new : Option (List ℕ)) (status : ℕ) → DeckTold out out_new err err_new status (dump_of_deck slice) →
-    (deck : List ℕ) × IfSome bytes (λ all. deck ≡ all) × DeckTold out out_new err err_new status (dump_of_deck deck)
-DeckTold-read None text slice read same out out_new err err_new status told = (slice, tt, told)
-DeckTold-read (Some all) text slice read same out out_new err err_new status told =
+-- what was reported of the text that was read was reported of the deck
+pub DeckReported-read : (bytes : Option (List ℕ)) (text slice : List ℕ) → IfSome bytes (λ all. text ≡ take (longest_text + 1) all) → slice ≡ text →
+    (out out_new err err_new : Option (List ℕ)) (status : ℕ) → DeckReported out out_new err err_new status (dump_of_deck slice) →
+    (deck : List ℕ) × IfSome bytes (λ all. deck ≡ all) × DeckReported out out_new err err_new status (dump_of_deck deck)
+DeckReported-read None text slice read same out out_new err err_new status reported = (slice, tt, reported)
+DeckReported-read (Some all) text slice read same out out_new err err_new status reported =
     let cut : dump_of_deck slice ≡ dump_of_deck all = ap dump_of_deck (same ∙ read) ∙ dump_of_deck-cut all in
-    (all, refl, subst (DeckTold out out_new err err_new status) cut told)
+    (all, refl, subst (DeckReported out out_new err err_new status) cut reported)

@@ -1,6 +1,6 @@
 //! An order that reports its progress, and the system's message if its answer can't be written.
 ghost use Rattle.std.specs.Prelude.{◌≡◌, IfErr, IfOk, OnErr, OnOk};
-ghost use Rattle.nullsim.specs.Progress.{TellsProgress};
+ghost use Rattle.nullsim.specs.Progress.{ReportsProgress};
 ghost use Rattle.orders.specs.OrderAnswer.{IsAnswerTo};
 ghost use Rattle.orders.specs.Progress.{BrokenTicks, DoneTicks};
 ghost use Rattle.program_io.specs.Answers.{AnswerEndsBy, GoesOut, IsNoRead};
@@ -28,10 +28,10 @@ pub(crate) fn carry_out<'a, W: Write, E: Write>(
     ensures err { IfErr result
         (AnswerEndsBy (IsAnswerTo order.now texts.now) (W.contents out.old) (W.contents out.new)) }
     ensures no_read { IfErr result IsNoRead }
-    ensures told { OnOk result
-        (TellsProgress progress order.now (DoneTicks order.now) (E.contents err.old) (E.contents err.new)) }
-    ensures told_until { OnErr result
-        (TellsProgress progress order.now (BrokenTicks order.now) (E.contents err.old) (E.contents err.new)) }
+    ensures reported { OnOk result
+        (ReportsProgress progress order.now (DoneTicks order.now) (E.contents err.old) (E.contents err.new)) }
+    ensures reported_until { OnErr result
+        (ReportsProgress progress order.now (BrokenTicks order.now) (E.contents err.old) (E.contents err.new)) }
 {
     if !progress {
         return order.carry_out(alloc, texts, out, &mut Silent);
@@ -59,10 +59,10 @@ pub(crate) fn carry_out_heard<'a, W: Write, E: Write>(
     ensures err { IfErr result.0
         (AnswerEndsBy (IsAnswerTo order.now texts.now) (W.contents out.old) (W.contents out.new)) }
     ensures no_read { IfErr result.0 IsNoRead }
-    ensures told { OnOk result.0
-        (TellsProgress progress order.now (DoneTicks order.now) (E.contents err.old) (E.contents err.new)) }
-    ensures told_until { OnErr result.0
-        (TellsProgress progress order.now (BrokenTicks order.now) (E.contents err.old) (E.contents err.new)) }
+    ensures reported { OnOk result.0
+        (ReportsProgress progress order.now (DoneTicks order.now) (E.contents err.old) (E.contents err.new)) }
+    ensures reported_until { OnErr result.0
+        (ReportsProgress progress order.now (BrokenTicks order.now) (E.contents err.old) (E.contents err.new)) }
 {
     let writer = WithReason::new(alloc, out);
     let (carried, writer) = carry_out_named::<Brand, W, E>(
@@ -90,10 +90,10 @@ fn carry_out_named<'a, 'w, N: WriterName, W: Write, E: Write>(
     ensures err { IfErr result.0 (AnswerEndsBy (IsAnswerTo order.now texts.now)
         (W.contents writer.entry.beneath.now) (W.contents result.1.beneath.now)) }
     ensures no_read { IfErr result.0 IsNoRead }
-    ensures told { OnOk result.0
-        (TellsProgress progress order.now (DoneTicks order.now) (E.contents err.old) (E.contents err.new)) }
-    ensures told_until { OnErr result.0
-        (TellsProgress progress order.now (BrokenTicks order.now) (E.contents err.old) (E.contents err.new)) }
+    ensures reported { OnOk result.0
+        (ReportsProgress progress order.now (DoneTicks order.now) (E.contents err.old) (E.contents err.new)) }
+    ensures reported_until { OnErr result.0
+        (ReportsProgress progress order.now (BrokenTicks order.now) (E.contents err.old) (E.contents err.new)) }
 {
     let mut out: NamedWriter<'w, W, N> = NamedWriter {
         writer,
