@@ -12,8 +12,9 @@ from programs import Ended, run
 HERE = Path(__file__).resolve().parent
 
 
-# So many requests are refused at most, one after another, until a refusal is told.
-MOST = 4
+# At most this number of requests is refused, one after another, until a refusal is reported. Each input of a circuit
+# gives back what its list of stimuli doesn't use, which may be refused without harm; so it is more than these have inputs.
+MOST = 8
 
 
 class Refusal(NamedTuple):

@@ -29,13 +29,13 @@ fn variants(rt: HostRuntime) {
 }
 
 // Two pins, and their AND, OR and XOR.
-static TABLE: [([Value; 2], Value, Value, Value); 6] = [
-    ([Zero, Zero], Zero, Zero, Zero),
-    ([Zero, One], Zero, One, One),
-    ([Unknown, Zero], Zero, Unknown, Unknown),
-    ([One, One], One, One, Zero),
-    ([One, Unknown], Unknown, One, Unknown),
-    ([Unknown, Unknown], Unknown, Unknown, Unknown),
+static TABLE: [(Value, Value, Value, Value, Value); 6] = [
+    (Zero, Zero, Zero, Zero, Zero),
+    (Zero, One, Zero, One, One),
+    (Unknown, Zero, Zero, Unknown, Unknown),
+    (One, One, One, One, Zero),
+    (One, Unknown, Unknown, One, Unknown),
+    (Unknown, Unknown, Unknown, Unknown, Unknown),
 ];
 
 // Two gates of these pins, of which the second is the opposite of the first.
@@ -47,7 +47,7 @@ fn are_opposites(rt: &impl Abort, first: Value, second: Value, wanted: Value) {
 
 #[test]
 fn gates_of_two_pins(rt: HostRuntime) {
-    for &([first, second], and, or, xor) in &TABLE {
+    for &(first, second, and, or, xor) in &TABLE {
         for pins in [[first, second], [second, first]] {
             are_opposites(&rt, gate(And, &pins), gate(Nand, &pins), and);
             are_opposites(&rt, gate(Or, &pins), gate(Nor, &pins), or);

@@ -6,12 +6,12 @@ use cmb_channels::{Fabric, Logs, Queues};
 use cmb_events::Event;
 use cmb_kernel::{Counts, Kernel, KernelFault};
 use design::Design;
-use std::alloc::Global;
+use std::alloc::{AllocError, Global};
 use std::process::Abort;
 use std::test::Fail;
 use timing_text::Horizon;
 
-// The list is refused with this fault, which isn't want of memory.
+// The list is refused with this fault, which isn't `Memory`.
 fn refuses<F: Fabric>(
     rt: &impl Abort,
     kernel: &mut Kernel<F>,
@@ -25,16 +25,26 @@ fn refuses<F: Fabric>(
     assert!(rt; answer == fault);
 }
 
-// Ten million events are looked at to the last one, which names a net that isn't there; a list of one more
-// is refused as it is. Nothing is counted.
-fn limit_of_events<F: Fabric>(rt: &impl Abort, alloc: Global, design: &Design) -> Result<(), Fail> {
-    let mut kernel: Kernel<F> = Kernel::new(alloc, design, Horizon::new(5)?)?;
+// Ten million events are checked to the last one, which names a net that doesn't exist; a list with one more
+// is refused unchecked.
+fn refuses_many<F: Fabric>(
+    rt: &impl Abort,
+    alloc: Global,
+    kernel: &mut Kernel<F>,
+) -> Result<(), AllocError> {
     let mut events = vec![in alloc; Advance(0); 9_999_999]?;
     events.push(Advance(2))?;
     let at_the_end = KernelFault::NoSuchNet { at: 9_999_999 };
-    refuses(rt, &mut kernel, &events, at_the_end);
+    refuses(rt, kernel, &events, at_the_end);
     events.push(Advance(0))?;
-    refuses(rt, &mut kernel, &events, KernelFault::TooManyEvents);
+    refuses(rt, kernel, &events, KernelFault::TooManyEvents);
+    Ok(())
+}
+
+// Nothing is counted of lists that are refused.
+fn limit_of_events<F: Fabric>(rt: &impl Abort, alloc: Global, design: &Design) -> Result<(), Fail> {
+    let mut kernel: Kernel<F> = Kernel::new(alloc, design, Horizon::new(5)?)?;
+    refuses_many(rt, alloc, &mut kernel)?;
     assert!(rt; !kernel.is_failed());
     let none = Counts {
         events: 0,

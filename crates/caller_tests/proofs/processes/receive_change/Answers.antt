@@ -2,8 +2,8 @@ use Rattle.std.proofs.Common.{◌≡◌, false, arith, rules}
 use Rattle.gate_process.proofs.CallerLemmas.{can_hear_change}
 use Rattle.caller_tests.proofs.processes.receive_change.Goals as goal
 
-pub receive-requires-clause-can_hear : goal.receive-requires-clause-can_hear
-receive-requires-clause-can_hear g c =
+pub receive-answer-requires-clause-can_hear : goal.receive-answer-requires-clause-can_hear
+receive-answer-requires-clause-can_hear g c =
     let runs : c.args.process.now.failed ≡ false = search rules in
     let end = c.end-end.ensures.end in
     can_hear_change c.args.process.now.state c.args.place c.received-received.result c.last-last.result c.args.change
