@@ -1,4 +1,4 @@
-"""Wrong bodies as files describe them, and copies of a crate's text in which some of them stand.
+"""Mutants as files describe them, and copies of a crate's text in which some of them stand.
 
 A file `BUG.edit` has the lines
 
@@ -26,7 +26,7 @@ class Replaced(NamedTuple):
     new: str
 
 
-class WrongBody(NamedTuple):
+class Mutant(NamedTuple):
     """A bug, and for each function that the prover has to refuse a goal that stays open there."""
 
     name: str
@@ -34,8 +34,8 @@ class WrongBody(NamedTuple):
     refused: list[tuple[str, str]]
 
 
-def read(file: Path) -> WrongBody:
-    """The wrong body that a file describes. A line that says nothing of the kind is an error."""
+def read(file: Path) -> Mutant:
+    """The mutant that a file describes. A line that says nothing of the kind is an error."""
     replaced: list[Replaced] = []
     refused: list[tuple[str, str]] = []
     edited = old = ""
@@ -52,12 +52,12 @@ def read(file: Path) -> WrongBody:
             replaced.append(Replaced(edited, old, text))
             old = ""
         else:
-            raise ValueError(f"{file}: no line of a wrong body: {line}")
-    return WrongBody(file.stem, replaced, refused)
+            raise ValueError(f"{file}: no line of a mutant: {line}")
+    return Mutant(file.stem, replaced, refused)
 
 
-def planted(crate: Path, body: WrongBody, texts: dict[str, str]) -> dict[str, str] | None:
-    """The texts of files with this wrong body too, or none where one of its texts doesn't stand there just once."""
+def planted(crate: Path, body: Mutant, texts: dict[str, str]) -> dict[str, str] | None:
+    """The texts of files with this mutant too, or none where one of its texts doesn't stand there just once."""
     texts = dict(texts)
     for edited, old, new in body.replaced:
         text = texts[edited] if edited in texts else (crate / edited).read_text(encoding="utf-8")
@@ -77,8 +77,8 @@ def function_at(text: str, old: str) -> str | None:
     return None
 
 
-def stands_in(crate: Path, body: WrongBody) -> set[str] | None:
-    """The functions that a wrong body is in, each with its file; none where it is in something else, or where another
+def stands_in(crate: Path, body: Mutant) -> set[str] | None:
+    """The functions that a mutant is in, each with its file; none where it is in something else, or where another
     function is refused for it."""
     functions = set()
     texts: dict[str, str] = {}
@@ -95,16 +95,16 @@ def stands_in(crate: Path, body: WrongBody) -> set[str] | None:
 
 
 class Batch:
-    """Wrong bodies that stand in one copy of a crate, no two in one function."""
+    """Mutants that stand in one copy of a crate, no two in one function."""
 
     def __init__(self) -> None:
-        self.bodies: list[WrongBody] = []
+        self.bodies: list[Mutant] = []
         self.texts: dict[str, str] = {}
         self.functions: set[str] = set()
         self.is_open = True
 
-    def takes(self, crate: Path, body: WrongBody) -> bool:
-        """Plants a wrong body too, where it has its functions for itself."""
+    def takes(self, crate: Path, body: Mutant) -> bool:
+        """Plants a mutant too, where it has its functions for itself."""
         functions = stands_in(crate, body)
         if not self.is_open or (self.bodies and functions is None) or self.functions & (functions or set()):
             return False
@@ -117,8 +117,8 @@ class Batch:
         return True
 
 
-def batches_of(crate: Path, bodies: list[WrongBody]) -> list[Batch]:
-    """Each wrong body in the first batch that takes it. One that can't be planted at all is an error."""
+def batches_of(crate: Path, bodies: list[Mutant]) -> list[Batch]:
+    """Each mutant in the first batch that takes it. One that can't be planted at all is an error."""
     batches: list[Batch] = []
     for body in bodies:
         if any(batch.takes(crate, body) for batch in batches):

@@ -1,8 +1,8 @@
 #!/usr/bin/env python3
 """The merge gate: `rt ci`, which proves all from nothing, tries the must-fail edits and runs the tests; beside it, the other
-wrong bodies of each crate, as soon as the libraries below it are proved; and at the end faults around the programs.
+mutants of each crate, as soon as the libraries below it are proved; and at the end faults around the programs.
 
-The wrong bodies run at a lower priority, so they take what the chain of proofs leaves idle. How long all took is on
+The mutants run at a lower priority, so they take what the chain of proofs leaves idle. How long all took is on
 standard error, and the last line is 'N passed, M failed', for all together.
 """
 import os
@@ -19,7 +19,7 @@ from pathlib import Path
 
 import crates
 from build import free_memory
-from wrong_bodies import WRONG_BODIES, Answer, printed, tried_in
+from mutants import MUTANTS, Answer, printed, tried_in
 
 # What `rt ci` prints of a crate that is proved.
 PROVED = re.compile(r"rt: (\w+) (?:proved$|is kept)")
@@ -65,12 +65,12 @@ def adopt(crate: str) -> None:
 
 
 class Beside:
-    """The wrong bodies that `rt ci` doesn't try: those of a crate wait until the libraries below it are proved, and of the
+    """The mutants that `rt ci` doesn't try: those of a crate wait until the libraries below it are proved, and of the
     crates that are ready the one with the most goes first."""
 
     def __init__(self, proofs: Part, lanes: ThreadPoolExecutor) -> None:
         self.proofs, self.lanes = proofs, lanes
-        self.left = {crate: sorted((WRONG_BODIES / crate).glob("*.edit")) for crate in crates.libraries()}
+        self.left = {crate: sorted((MUTANTS / crate).glob("*.edit")) for crate in crates.libraries()}
         self.ready: list[tuple[int, str, list[Path]]] = []
         self.proved: set[str] = set()
         self.tasks: list[Future] = []
@@ -90,7 +90,7 @@ class Beside:
                 self.tasks.append(self.lanes.submit(self.try_next))
 
     def try_next(self) -> tuple[str, list[Answer]]:
-        """Tries the wrong bodies of one of the crates that are ready."""
+        """Tries the mutants of one of the crates that are ready."""
         _, crate, files = heappop(self.ready)
         return crate, tried_in(crate, files, self.has_company)
 
@@ -124,7 +124,7 @@ def gate(begun: float) -> Iterator[tuple[int, int]]:
         if failed:
             lanes.shutdown(cancel_futures=True)
             return
-        faults = Part([sys.executable, "faults/check.py"])
+        faults = Part([sys.executable, "system_tests/check.py"])
         for _ in faults.lines():
             pass
         taken("faults", begun)

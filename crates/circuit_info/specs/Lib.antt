@@ -5,3 +5,4 @@ pub mod Levels
 pub mod Loops
 pub mod Climb
 pub mod Text
+pub mod InfoText

@@ -2,6 +2,7 @@
 //! whether gates form a loop; and the text that reports them.
 #![tactic(auto)]
 
+mod bench_info;
 mod counts;
 mod known;
 pub mod laws;
@@ -9,6 +10,7 @@ mod levels;
 mod loops;
 mod text;
 
+pub use bench_info::info;
 pub use counts::{fan_ins, fan_outs, first_greatest, gate_count, part_count};
 pub use levels::{Depths, greatest, levels_of};
 pub use text::info_text;

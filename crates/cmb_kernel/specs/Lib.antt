@@ -5,6 +5,7 @@ pub mod Useful
 pub mod Sound
 pub mod Drains
 pub mod Refusals
+pub mod Faults
 pub mod Calls
 pub mod Running
 pub use Rattle.logic3.specs.Gate

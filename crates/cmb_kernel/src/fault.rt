@@ -1,7 +1,9 @@
-ghost use Rattle.std.specs.Prelude.{◌≡◌};
+ghost use Rattle.std.specs.Prelude.{◌≡◌, Some};
 ghost use Rattle.cmb_kernel.specs.declared.fault.KernelFault.TheVariants as kernel;
+ghost use Rattle.cmb_kernel.specs.Faults.{name_of};
 
 use std::alloc::{AllocError, AllocFailed};
+use std::fmt;
 use thiserror::Error;
 
 /// Why a kernel refuses a call, or fails during one.
@@ -11,20 +13,38 @@ use thiserror::Error;
 #[derive(Clone, Copy, Debug, PartialEq, Eq, Error)]
 pub enum KernelFault {
     /// The event at this place of its list, from 0, names a pin that doesn't exist.
-    #[error("NoSuchPin")]
     NoSuchPin { at: u64 },
     /// The event at this place of its list, from 0, names a net that doesn't exist.
-    #[error("NoSuchNet")]
     NoSuchNet { at: u64 },
     /// The list has more than 10,000,000 events.
-    #[error("TooManyEvents")]
     TooManyEvents,
     /// An allocation failed. A kernel that was running has failed from then on.
-    #[error("Memory")]
     Memory,
     /// The kernel has failed: an earlier call returned [`Memory`](Self::Memory).
-    #[error("Failed")]
     Failed,
+}
+
+impl KernelFault {
+    /// Returns the fault's name, which is its text.
+    pub fn name(&self) -> &'static str
+        ensures { result.now ≡ name_of self.now }
+    {
+        match self {
+            KernelFault::NoSuchPin { .. } => "NoSuchPin",
+            KernelFault::NoSuchNet { .. } => "NoSuchNet",
+            KernelFault::TooManyEvents => "TooManyEvents",
+            KernelFault::Memory => "Memory",
+            KernelFault::Failed => "Failed",
+        }
+    }
+}
+
+impl fmt::Display for KernelFault {
+    ghost output = { λ fault. Some (name_of fault) };
+
+    fn fmt<W: fmt::Write>(&self, f: &mut fmt::Formatter<W>) -> Result<(), fmt::Error> {
+        f.write_str(self.name())
+    }
 }
 
 impl From<AllocError> for KernelFault {

@@ -1,8 +1,9 @@
 //! The subcommand `check`: its options, and its order.
 use crate::help::subcommand_named;
 use crate::options::{ALONE, LENGTH, SOURCE, number_given, source_given};
+use crate::order::Order;
+use crate::source_options::PickOptions;
 use clap::{ArgMatches, Command};
-use orders::{Order, PickOptions};
 use std::alloc::{AllocError, Global};
 
 const ABOUT: &str =

@@ -2,8 +2,8 @@
 use crate::described::{Absent, Described, Takes};
 use crate::help::subcommand_named;
 use crate::options::{BENCH, names_given};
+use crate::order::Order;
 use clap::{ArgMatches, Command};
-use orders::Order;
 use std::alloc::{AllocError, Global};
 
 const ABOUT: &str = "Writes the part of a circuit on which the values of some nets depend";

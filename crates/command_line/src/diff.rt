@@ -5,10 +5,10 @@ use crate::options::{
     FIRST, FIRST_SIDE, LENGTH, SECOND, SECOND_SIDE, names_given, number_given, side_picks,
     source_given,
 };
+use crate::order::Order;
 use clap::{ArgMatches, Command};
-use orders::Order;
-use run_pairs::DiffTicks;
 use std::alloc::{AllocError, Global};
+use wave_diff::DiffTicks;
 
 const ABOUT: &str =
     "Compares nets in two runs and writes a line for each: y same, y only in first, or y differs 7 0 1\n\

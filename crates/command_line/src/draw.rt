@@ -2,8 +2,9 @@
 use crate::described::{Absent, Described, Takes};
 use crate::help::subcommand_named;
 use crate::options::{ALONE, LENGTH, SHOWN, SOURCE, number_given, selection_given, source_given};
+use crate::order::Order;
+use crate::source_options::PickOptions;
 use clap::{ArgMatches, Command};
-use orders::{Order, PickOptions};
 use plain_runs::DiagramView;
 use std::alloc::{AllocError, Global};
 use timing_diagram::Form;

@@ -38,7 +38,11 @@ static RANGES: [(&str, &str); 10] = [
 ///
 /// # Errors
 /// An allocation failed.
-pub fn with_tip(alloc: Global, text: String, words: &[String]) -> Result<String, AllocError> {
+pub(super) fn with_tip(
+    alloc: Global,
+    text: String,
+    words: &[String],
+) -> Result<String, AllocError> {
     let mut text = text;
     if let Some(tip) = tip_for(words) {
         text.push_str("\n  tip: ")?;

@@ -2,8 +2,8 @@
 use crate::described::{Absent, Described, Takes};
 use crate::help::subcommand_named;
 use crate::options::BENCH;
+use crate::order::Order;
 use clap::{ArgMatches, Command};
-use orders::Order;
 use std::alloc::{AllocError, Global};
 
 const ABOUT: &str =

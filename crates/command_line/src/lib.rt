@@ -1,4 +1,5 @@
-//! Parsing of the program's arguments into an order. No contract says what arguments mean; tests do.
+//! Parsing of the program's arguments into an order. No contract says which order
+//! arguments give; tests do.
 #![tactic(auto)]
 
 mod check;
@@ -12,14 +13,17 @@ mod help;
 mod hints;
 mod info;
 mod options;
+mod order;
 mod picks;
 mod plain;
 mod run;
+mod source_options;
 mod stimuli;
 mod trace;
 mod twin;
 mod why;
 mod words;
 
-pub use hints::with_tip;
-pub use words::{Asked, NoOrder, parse_words};
+pub use order::Order;
+pub use source_options::{Files, PickOptions, ReadTexts, SourceOptions};
+pub use words::{Asked, NoOrder, asked_by_words};

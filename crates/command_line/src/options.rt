@@ -1,7 +1,7 @@
 //! The options that several subcommands take, and their values.
 use crate::described::{Absent, Described, Takes};
+use crate::source_options::{PickOptions, SourceOptions};
 use clap::ArgMatches;
-use orders::{PickOptions, SourceOptions};
 use prepared_runs::{DumpView, Selection};
 use std::alloc::{AllocError, Global};
 use vcd_dump::TimeUnit;

@@ -2,9 +2,9 @@
 use crate::described::{Absent, Described, Takes};
 use crate::help::mistake;
 use crate::options::{SCHEDULE, number_given};
+use crate::source_options::PickOptions;
 use clap::error::ErrorKind;
 use clap::{ArgMatches, Error};
-use orders::PickOptions;
 use std::alloc::Global;
 
 const SEED: &str = "The seed of the drawn events: 0 to 18446744073709551615; it affects the\n\

@@ -1,8 +1,9 @@
 //! The subcommand `plain`: its options, and its order.
 use crate::help::subcommand_named;
 use crate::options::{ALONE, LENGTH, REPORTED, SHOWN, SOURCE, UNITS, source_given, view_given};
+use crate::order::Order;
+use crate::source_options::PickOptions;
 use clap::{ArgMatches, Command};
-use orders::{Order, PickOptions};
 use std::alloc::{AllocError, Global};
 
 const ABOUT: &str = "Simulates a circuit tick by tick and writes the dump to standard output";

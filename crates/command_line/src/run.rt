@@ -2,9 +2,9 @@
 use crate::described::{Absent, Described, Takes};
 use crate::help::subcommand_named;
 use crate::options::{ALONE, LENGTH, REPORTED, SHOWN, SOURCE, UNITS, source_given, view_given};
+use crate::order::Order;
 use crate::picks::{PICKED, picks_given};
 use clap::{ArgMatches, Command, Error};
-use orders::Order;
 use std::alloc::{AllocError, Global};
 
 const ABOUT: &str =

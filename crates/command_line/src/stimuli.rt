@@ -3,9 +3,9 @@ use crate::described::{Absent, Described, Takes};
 use crate::drives::{DRIVES, drives_given};
 use crate::help::subcommand_named;
 use crate::options::{BENCH, LENGTH, number_given};
+use crate::order::Order;
 use clap::{ArgMatches, Command, Error};
 use drawn_stimuli::Draws;
-use orders::Order;
 use std::alloc::{AllocError, Global};
 
 const ABOUT: &str =

@@ -1,9 +1,9 @@
 //! The subcommand `trace`: its options, and its order.
 use crate::help::subcommand_named;
 use crate::options::{ALONE, LENGTH, SOURCE, number_given, source_given};
+use crate::order::Order;
 use crate::picks::{PICKED, picks_given};
 use clap::{ArgMatches, Command, Error};
-use orders::Order;
 use std::alloc::{AllocError, Global};
 
 const ABOUT: &str =

@@ -4,8 +4,8 @@ use crate::help::subcommand_named;
 use crate::options::{
     FIRST, FIRST_SIDE, LENGTH, SECOND, SECOND_SIDE, number_given, side_picks, source_given,
 };
+use crate::order::Order;
 use clap::{ArgMatches, Command};
-use orders::Order;
 use std::alloc::{AllocError, Global};
 
 const ABOUT: &str =

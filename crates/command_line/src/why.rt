@@ -2,8 +2,9 @@
 use crate::described::{Absent, Described, Takes};
 use crate::help::subcommand_named;
 use crate::options::{ALONE, SOURCE, number_given, source_given};
+use crate::order::Order;
+use crate::source_options::PickOptions;
 use clap::{ArgMatches, Command};
-use orders::{Order, PickOptions};
 use std::alloc::{AllocError, Global};
 
 const ABOUT: &str =

@@ -1,9 +1,13 @@
-//! Arguments as an order, or why they aren't one.
+//! What arguments ask for, or why they ask for nothing.
+ghost use Rattle.std.specs.Prelude.{◌≡◌, IfErr};
+ghost use Rattle.command_line.specs.Words.{HelpsIfAsked, asks_for_help};
+
 use crate::help::{mistake, program};
+use crate::hints::with_tip;
+use crate::order::Order;
 use crate::{check, cone, diff, draw, explain, info, plain, run, stimuli, trace, twin, why};
 use clap::error::ErrorKind;
 use clap::{ArgMatches, Error};
-use orders::Order;
 use std::alloc::Global;
 
 /// What arguments ask for.
@@ -26,9 +30,9 @@ pub enum Asked<'a> {
 /// Why arguments don't give an order.
 #[derive(Debug, Drop)]
 pub enum NoOrder {
-    /// The text of the help, for arguments that ask for it or begin like one that does, such as `-hx`.
+    /// The text of the help, for arguments that ask for it.
     Help(String),
-    /// The arguments are wrong, as this text says.
+    /// The arguments are wrong, as this text says, with a tip if any.
     Usage(String),
     /// An allocation failed.
     Memory,
@@ -37,24 +41,48 @@ pub enum NoOrder {
 /// Returns what the arguments, without the program's own name, ask for.
 ///
 /// # Errors
-/// `Help` for arguments that `clap` answers with the help, `Usage` with a text that says what is wrong with the
-/// arguments, or `Memory` if an allocation fails.
-pub fn parse_words<'a>(alloc: Global, words: &'a [String]) -> Result<Asked<'a>, NoOrder> {
+/// `Help` with the text of the help, if `help`, `--help` or `-h` asks for it; `Usage` with a text that says
+/// what is wrong with the arguments, and a tip if any; or `Memory` if an allocation fails.
+pub fn asked_by_words<'a>(alloc: Global, words: &'a [String]) -> Result<Asked<'a>, NoOrder>
+    ensures { IfErr result (HelpsIfAsked words.now) }
+{
     match read_asked(alloc, words) {
         Ok(asked) => Ok(asked),
-        Err(error) => Err(no_order(alloc, &error)),
+        Err(error) => Err(no_order(alloc, &error, words)),
     }
 }
 
-fn no_order(alloc: Global, error: &Error) -> NoOrder {
+/// Returns why arguments with this error of `clap` ask for nothing. `clap` also answers some with the help that
+/// don't ask for it, such as `-hx`; these are wrong.
+fn no_order(alloc: Global, error: &Error, words: &[String]) -> NoOrder
+    ensures { HelpsIfAsked words.now result }
+{
     if error.kind() == ErrorKind::OutOfMemory {
         return NoOrder::Memory;
     }
     match format!(in alloc; "{error}") {
         Err(_) => NoOrder::Memory,
-        Ok(text) if error.use_stderr() => NoOrder::Usage(text),
-        Ok(text) => NoOrder::Help(text),
+        Ok(text) if !error.use_stderr() && asks_for_help(words) => NoOrder::Help(text),
+        Ok(text) => usage_error(alloc, text, words),
     }
+}
+
+/// Returns the usage error with this text and a tip, if any.
+fn usage_error(alloc: Global, text: String, words: &[String]) -> NoOrder
+    ensures { HelpsIfAsked words.now result }
+{
+    match with_tip(alloc, text, words) {
+        Ok(text) => NoOrder::Usage(text),
+        Err(_) => NoOrder::Memory,
+    }
+}
+
+fn asks_for_help(words: &[String]) -> bool
+    ensures { result ≡ asks_for_help words.now }
+{
+    words
+        .iter()
+        .any(|word| matches!(word.as_str(), "help" | "--help" | "-h"))
 }
 
 fn read_asked<'a>(alloc: Global, words: &'a [String]) -> Result<Asked<'a>, Error> {

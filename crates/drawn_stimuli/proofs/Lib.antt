@@ -8,3 +8,4 @@ mod InOrder
 mod ReadBack
 mod DrivesCount
 mod Words
+mod StimuliTexts

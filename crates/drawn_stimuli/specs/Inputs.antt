@@ -1,5 +1,5 @@
 -- What drives each input of a netlist, and the faults of drives.
-use Rattle.std.specs.Prelude.{ℕ, ◌+◌, ◌<◌, ◌==◌, nat_lt, not, Bool, true, false, if◌then◌else◌, List, [], ◌∷◌, ◌++◌, length, map, count_by, Option, None, Some, bytes_eq}
+use Rattle.std.specs.Prelude.{◌≡◌, ℕ, ◌+◌, ◌<◌, ◌==◌, nat_lt, not, Bool, true, false, if◌then◌else◌, List, [], ◌∷◌, ◌++◌, length, filter, map, count_by, Option, None, Some, Result, Ok, Err, MatchResult, bytes_eq}
 use Rattle.std.specs.List.{fold}
 use Rattle.std.specs.Option.{is_some, option_map_or, option_or}
 use Rattle.netlist.specs.Netlist.{NetView, NetlistView, net_at}
@@ -61,6 +61,14 @@ first_fault netlist earlier [] = None
 first_fault netlist earlier (driven ∷ drives) =
     option_or (fault_behind netlist earlier driven) (first_fault netlist (earlier ++ driven ∷ []) drives)
 
+-- the result is this fault, or a value if there is none
+abbrev pub FailsBy : {A : Type 0} → Option DriveFault → Result A DriveFault → Type 0
+FailsBy fault result = MatchResult result (λ _. fault ≡ None) (λ other. fault ≡ Some other)
+
+-- the drive of each net, or the first fault
+abbrev pub drives_or_fault : NetlistView → List DriveView → Result (List (Option Drive)) DriveFault
+drives_or_fault netlist drives = option_map_or Err (first_fault netlist [] drives) (Ok (drives_of_nets drives netlist.nets))
+
 -- ---- inputs
 
 -- an input by its name, and where its values come from
@@ -84,6 +92,10 @@ inputs_from drives place (net ∷ nets) =
     let source = source_of (drive_named drives net.name) place in
     if not (is_input net.part) then inputs_from drives place nets
     else record { name = net.name; source = source } ∷ inputs_from drives (if is_drawn source then place + 1 else place) nets
+
+-- the names of the inputs of a netlist, in order
+abbrev pub input_names : NetlistView → List (List ℕ)
+input_names netlist = map (λ (net : NetView). net.name) (filter (λ (net : NetView). is_input net.part) netlist.nets)
 
 -- the inputs of a netlist, in order
 abbrev pub inputs_of : NetlistView → List DriveView → List InputView

@@ -6,3 +6,4 @@ pub mod Signals
 pub mod Inputs
 pub mod Ticks
 pub mod StimulusText
+pub mod Driven

@@ -4,8 +4,9 @@ use Rattle.std.specs.List.{range_with_len}
 use Rattle.std.specs.Option.{option_map_or}
 use Rattle.logic3.specs.declared.change.Change.{Change}
 use Rattle.logic3.specs.declared.value.Value.{Value}
+use Rattle.logic3.specs.declared.value.Value.TheVariants.{Unknown}
 use Rattle.logic3.specs.Value.{value_text}
-use Rattle.logic3.specs.Wave.{change_at}
+use Rattle.logic3.specs.Wave.{change_at, value_after}
 use Rattle.text_lines.specs.Text.{unless_too_long}
 use Rattle.netlist.specs.Netlist.{IsNetlist, NetlistView}
 use Rattle.timing_text.specs.Stimuli.{NamedChange, stimuli_named}
@@ -47,6 +48,10 @@ tick_text rounds inputs tick = flat_map (input_text rounds tick) inputs
 abbrev pub lines_text : Rounds → List InputView → ℕ → List ℕ
 lines_text rounds inputs horizon = flat_map change_line (drawn_changes rounds inputs horizon)
 
+-- these lines as a text, or the fault that it is too long
+abbrev pub lines_or_fault : Rounds → List InputView → ℕ → Result (List ℕ) DriveFault
+lines_or_fault rounds inputs horizon = unless_too_long TooLong Ok (lines_text rounds inputs horizon)
+
 -- the rounds of the inputs that are drawn
 abbrev pub rounds_of : NetlistView → List DriveView → Draws → Rounds
 rounds_of netlist drives draws = record { draws = draws; inputs = drawn_count (inputs_of netlist drives) }
@@ -64,7 +69,7 @@ abbrev pub stimuli_text : NetlistView → List DriveView → Draws → ℕ → R
 stimuli_text netlist drives draws horizon =
     if draws.every == 0 then Err BadEvery
     else option_map_or Err (first_fault netlist [] drives)
-    (unless_too_long TooLong Ok (lines_text (rounds_of netlist drives draws) (inputs_of netlist drives) horizon))
+    (lines_or_fault (rounds_of netlist drives draws) (inputs_of netlist drives) horizon)
 
 -- ---- its content for one input
 
@@ -80,9 +85,21 @@ pub record Drawing : Type 0 where
 abbrev pub inputs_drawn : Drawing → List InputView
 inputs_drawn drawing = inputs_of drawing.netlist drawing.drives
 
+-- their text
+abbrev pub text_drawn : Drawing → Result (List ℕ) DriveFault
+text_drawn drawing = stimuli_text drawing.netlist drawing.drives drawing.draws drawing.horizon
+
+-- the changes that the text contains
+abbrev pub stimuli_drawn : Drawing → List NamedChange
+stimuli_drawn drawing = drawn_stimuli drawing.netlist drawing.drives drawing.draws drawing.horizon
+
 -- what a reader of stimuli finds for an input
 abbrev pub changes_drawn : Drawing → InputView → List Change
-changes_drawn drawing input = stimuli_named (drawn_stimuli drawing.netlist drawing.drives drawing.draws drawing.horizon) input.name
+changes_drawn drawing input = stimuli_named (stimuli_drawn drawing) input.name
+
+-- what the input shows by these changes
+abbrev pub value_read : Drawing → InputView → ℕ → Value
+value_read drawing input tick = value_after Unknown (changes_drawn drawing input) tick
 
 -- what the input is to show
 abbrev pub value_drawn : Drawing → InputView → ℕ → Value

@@ -1,10 +1,9 @@
 //! The inputs of a netlist, and what drives each.
-ghost use Rattle.std.specs.Prelude.{◌≡◌, ◌≢◌, ◌<◌, ◌≤◌, List, [], length, map, replicate, All, MatchOption, MatchResult, None, Some, Ok, Err, IfOk, IfSome, true, false};
-ghost use Rattle.std.specs.Option.{option_map_or};
+ghost use Rattle.std.specs.Prelude.{◌≡◌, ◌≢◌, ◌<◌, ◌≤◌, List, length, map, replicate, All, MatchOption, None, Some, Ok, Err, IfOk, IfSome, true, false};
 ghost use Rattle.std.specs.Result.{result_map_both};
 ghost use Rattle.netlist.specs.Netlist.{net_named, most_nets};
 ghost use Rattle.drawn_stimuli.specs.Signals.{IsSource};
-ghost use Rattle.drawn_stimuli.specs.Inputs.{DriveView, IsDrive, IsInputNet, drives_of_nets, fault_behind, first_fault, form_fault, inputs_of, is_drawn, names_input, seen_drive, seen_input, source_of};
+ghost use Rattle.drawn_stimuli.specs.Inputs.{DriveView, FailsBy, IsDrive, IsInputNet, drives_of_nets, drives_or_fault, fault_behind, form_fault, inputs_of, is_drawn, names_input, seen_drive, seen_input, source_of};
 
 use crate::drive::{Drive, Driven};
 use crate::fault::DriveFault;
@@ -75,8 +74,7 @@ fn net_to_drive(
     ensures drive { IfOk result (λ _. IsDrive driven.now.drive) }
     ensures fault { (earlier : List DriveView) → kept.now ≡ drives_of_nets earlier netlist.now.nets →
         length earlier ≡ place →
-        MatchResult result (λ _. fault_behind netlist.now earlier (seen_drive driven.now) ≡ None)
-        (λ fault. fault_behind netlist.now earlier (seen_drive driven.now) ≡ Some fault) }
+        FailsBy (fault_behind netlist.now earlier (seen_drive driven.now)) result }
 {
     let Some(net) = input_named(netlist, driven.name) else {
         return Err(DriveFault::NotAnInput { place });
@@ -99,8 +97,7 @@ pub(crate) fn drives_by_net(
 ) -> Result<Vec<Option<Drive>>, DriveFault>
     ensures exact { result ≢ Err DriveFault.Memory →
         result_map_both (λ kept. kept.items) (λ fault. fault) result
-        ≡ option_map_or Err (first_fault netlist.now [] (map seen_drive drives.now))
-        (Ok (drives_of_nets (map seen_drive drives.now) netlist.now.nets)) }
+        ≡ drives_or_fault netlist.now (map seen_drive drives.now) }
     ensures drives { IfOk result (λ kept. All (λ drive. IfSome drive IsDrive) kept.items) }
 {
     let mut kept = no_drives(alloc, netlist.nets())?;

@@ -2,15 +2,19 @@
 //! all other inputs.
 #![tactic(auto)]
 
+mod bench_stimuli;
 mod drive;
+mod driven_fault;
 mod fault;
 mod input;
 pub mod laws;
 mod lines;
 mod signals;
-mod stimuli;
+mod text;
 mod ticks;
 
+pub use bench_stimuli::stimuli;
 pub use drive::{Draws, Drive, Driven};
+pub use driven_fault::DrivenFault;
 pub use fault::DriveFault;
-pub use stimuli::stimuli_text;
+pub use text::stimuli_text;

@@ -1,5 +1,5 @@
 -- The explanations of faults.
-use Rattle.std.specs.Prelude.{ℕ, Bool, List, [], ◌++◌, if◌then◌else◌, flat_map, codes, decimal, Option, None, Some}
+use Rattle.std.specs.Prelude.{◌≡◌, ℕ, Bool, List, [], ◌∷◌, ◌++◌, map, if◌then◌else◌, flat_map, codes, decimal, Option, None, Some}
 use Rattle.std.specs.List.{list_any}
 use Rattle.std.specs.Str.{str_eq_ignore_ascii_case}
 use Rattle.explanations.specs.declared.explanation.Explanation.{Explanation}
@@ -88,3 +88,12 @@ names_line table = title_of table.subject ++ codes ":" ++ flat_map name_behind t
 
 abbrev pub all_names : List Table → List ℕ
 all_names tables = flat_map names_line tables
+
+-- ---- the tables of the program
+
+abbrev pub all_subjects : List Subject
+all_subjects = Bench ∷ Delays ∷ Stimuli ∷ Schedule ∷ Deck ∷ Settings ∷ Columns ∷ Drives ∷ Ticks ∷ Names ∷ Program ∷ []
+
+-- one for each subject, in this order
+abbrev pub AreTables : List Table → Type 0
+AreTables tables = map (λ (table : Table). table.subject) tables ≡ all_subjects

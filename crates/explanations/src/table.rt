@@ -1,4 +1,7 @@
 //! The explanations of each subject.
+ghost use Rattle.std.specs.Prelude.{◌≡◌};
+ghost use Rattle.explanations.specs.Explained.{AreTables};
+
 use crate::bench::BENCH;
 use crate::deck::DECK;
 use crate::delays::DELAYS;
@@ -16,8 +19,10 @@ pub struct Table {
     pub explanations: &'static [Explanation],
 }
 
-/// Returns all tables. Their content isn't in a contract, but tested.
-pub fn tables() -> [Table; 11] {
+/// Returns the tables of all subjects, in order. Their explanations aren't in a contract, but tested.
+pub fn tables() -> [Table; 11]
+    ensures { AreTables result }
+{
     [
         table_of(Subject::Bench, &BENCH),
         table_of(Subject::Delays, &DELAYS),
@@ -33,7 +38,9 @@ pub fn tables() -> [Table; 11] {
     ]
 }
 
-fn table_of(subject: Subject, explanations: &'static [Explanation]) -> Table {
+fn table_of(subject: Subject, explanations: &'static [Explanation]) -> Table
+    ensures { result.subject ≡ subject }
+{
     Table {
         subject,
         explanations,

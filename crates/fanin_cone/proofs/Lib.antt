@@ -2,6 +2,7 @@ mod Agreed
 mod Agreeing
 mod AllMarked
 pub mod CallerLemmas
+mod ConeTexts
 mod ConesAlone
 mod DesignNets
 mod Extracted

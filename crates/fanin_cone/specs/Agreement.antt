@@ -55,3 +55,7 @@ abbrev pub ShowTheSame : DesignView → DesignView → ℕ → List ℕ → Type
 ShowTheSame a b horizon name =
     (m n tick : ℕ) → net_named a.netlist name ≡ Some m → net_named b.netlist name ≡ Some n → tick ≤ horizon →
     value_of a.circuit m tick ≡ value_of b.circuit n tick
+
+-- so it is for each name of a set
+abbrev pub ShowTheSameOn : DesignView → DesignView → (List ℕ → Type 0) → ℕ → Type 0
+ShowTheSameOn a b K horizon = (name : List ℕ) → K name → ShowTheSame a b horizon name

@@ -21,6 +21,10 @@ pub data InCone (netlist : NetlistView) (names : List (List ℕ)) : List ℕ →
   pin : (net : NetView) (name : List ℕ) → Contains netlist.nets net → InCone netlist names net.name →
       Contains (pin_names netlist net.pins) name → InCone netlist names name
 
+-- each net is in the cone of these names
+abbrev pub ConeHasAll : NetlistView → List (List ℕ) → Type 0
+ConeHasAll netlist names = (net : ℕ) → net < length netlist.nets → InCone netlist names (name_at netlist net)
+
 -- the numbers of the nets in the cone of these names, rising
 pub record IsConeOf (netlist : NetlistView) (names : List (List ℕ)) (numbers : List ℕ) : Type 0 where
   pub rising : Rises numbers

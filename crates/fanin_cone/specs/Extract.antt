@@ -1,11 +1,13 @@
 -- The nets of some cones as a netlist of their own, and as a design of their own.
-use Rattle.std.specs.Prelude.{◌≡◌, ℕ, List, filter_map, map, position, Option, Some}
+use Rattle.std.specs.Prelude.{◌≡◌, ℕ, ◌<◌, List, length, filter_map, map, position, All, Option, Some}
 use Rattle.std.specs.Option.{is_none}
+use Rattle.logic3.specs.declared.value.Value.{Value}
 use Rattle.netlist.specs.Netlist.{NetlistView, name_at, net_named}
 use Rattle.netlist.specs.Repeats.{distinct}
 use Rattle.netlist.specs.Pick.{picked}
 use Rattle.design.specs.Circuit.{Net}
 use Rattle.design.specs.Design.{DesignView, IsDesign}
+use Rattle.design.specs.Equations.{value_of}
 use Rattle.design.specs.PickedDesign.{picked_design}
 use Rattle.fanin_cone.specs.Cone.{IsConeOf}
 use Rattle.fanin_cone.specs.Agreement.{net_of, HasSameTiming}
@@ -31,6 +33,18 @@ pub record IsDesignOfExtract (whole extract : DesignView) (names : List (List �
   pub second : IsDesign extract
   pub nets : IsExtract whole.netlist names extract.netlist
   pub timing : KeepsTiming whole extract horizon
+
+-- the numbers are those of nets
+abbrev pub AreNets : DesignView → List ℕ → Type 0
+AreNets design nets = All (λ net. net < length design.netlist.nets) nets
+
+-- the names of these nets
+abbrev pub names_in : DesignView → List ℕ → List (List ℕ)
+names_in design nets = map (name_at design.netlist) nets
+
+-- what these nets show at each tick
+abbrev pub signals_in : DesignView → List ℕ → List (ℕ → Value)
+signals_in design nets = map (value_of design.circuit) nets
 
 -- the nets in the cones of these nets, with their timing and stimuli, in their old order, and these nets as the outputs, in this
 -- order

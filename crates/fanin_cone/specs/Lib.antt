@@ -14,3 +14,4 @@ pub mod Cone
 pub mod Walk
 pub mod Agreement
 pub mod Extract
+pub mod ConeText

@@ -2,7 +2,7 @@
 ghost use Rattle.std.specs.Prelude.{◌≡◌, ◌≢◌, ℕ, ◌<◌, ◌↔◌, length, map, All, AllPairs, IfOk, IfSome, IsNone};
 ghost use Rattle.std.specs.List.{list_all};
 ghost use Rattle.netlist.specs.Netlist.{name_at};
-ghost use Rattle.fanin_cone.specs.Cone.{InCone};
+ghost use Rattle.fanin_cone.specs.Cone.{ConeHasAll};
 ghost use Rattle.fanin_cone.specs.Extract.{IsDesignOfCones};
 
 use crate::cones::{marked_cone, marked_nets};
@@ -29,8 +29,8 @@ pub fn cones_alone(
     requires nets { All (λ net. net < length design.now.netlist.nets) nets.now }
     requires once { AllPairs (λ (earlier later : ℕ). earlier ≢ later) nets.now }
     ensures alone { IfOk result (λ part. IfSome part (IsDesignOfCones design.now nets.now)) }
-    ensures all { IfOk result (λ part. IsNone part ↔ ((net : ℕ) → net < length design.now.netlist.nets →
-        InCone design.now.netlist (map (name_at design.now.netlist) nets.now) (name_at design.now.netlist net))) }
+    ensures all { IfOk result (λ part. IsNone part ↔
+        ConeHasAll design.now.netlist (map (name_at design.now.netlist) nets.now)) }
 {
     prove!(0 < design.nets());
     let marks = marked_cone(alloc, design.netlist(), nets)?;

@@ -1,11 +1,10 @@
 //! Facts about cones and agreement alone. A set of names is given by a test here.
-ghost use Rattle.std.specs.Prelude.{◌≡◌, ℕ, ◌<◌, ◌↔◌, ◌∷◌, [], Bool, List, length, map, All, Contains};
-ghost use Rattle.netlist.specs.Netlist.{NetlistView, name_at};
+ghost use Rattle.std.specs.Prelude.{◌≡◌, ℕ, ◌↔◌, ◌∷◌, [], Bool, List, All, Contains};
+ghost use Rattle.netlist.specs.Netlist.{NetlistView};
 ghost use Rattle.design.specs.Design.{DesignView};
-ghost use Rattle.design.specs.Equations.{value_of};
 ghost use Rattle.fanin_cone.specs.Cone.{Passes, IsClosed, InCone};
-ghost use Rattle.fanin_cone.specs.Agreement.{HasNet, AgreesOn, DesignsAgree, ShowTheSame};
-ghost use Rattle.fanin_cone.specs.Extract.{IsDesignOfCones, IsDesignOfExtract};
+ghost use Rattle.fanin_cone.specs.Agreement.{HasNet, AgreesOn, DesignsAgree, ShowTheSame, ShowTheSameOn};
+ghost use Rattle.fanin_cone.specs.Extract.{AreNets, IsDesignOfCones, IsDesignOfExtract, names_in, signals_in};
 
 /// The cone of some names is the least closed set that contains them, and the union of the cones of
 /// each of them.
@@ -24,10 +23,10 @@ pub fn least_closed()
 pub fn agreeing_designs_show_the_same()
     ensures closed { (a b : DesignView) (K : List ℕ → Bool) (horizon : ℕ) →
         IsClosed a.netlist (Passes K) → DesignsAgree a b (Passes K) horizon →
-        (name : List ℕ) → Passes K name → ShowTheSame a b horizon name }
+        ShowTheSameOn a b (Passes K) horizon }
     ensures cone { (a b : DesignView) (names : List (List ℕ)) (horizon : ℕ) →
         DesignsAgree a b (InCone a.netlist names) horizon →
-        (name : List ℕ) → InCone a.netlist names name → ShowTheSame a b horizon name }
+        ShowTheSameOn a b (InCone a.netlist names) horizon }
 {}
 
 /// If two designs agree, up to some tick, on the cone that some names have in the first one, these
@@ -53,12 +52,12 @@ pub fn extracted_nets_show_the_same()
 /// every tick what they show in the whole.
 pub fn cones_alone_show_the_same()
     ensures extract { (whole part : DesignView) (nets : List ℕ) (horizon : ℕ) →
-        All (λ net. net < length whole.netlist.nets) nets → IsDesignOfCones whole nets part →
-        IsDesignOfExtract whole part (map (name_at whole.netlist) nets) horizon }
+        AreNets whole nets → IsDesignOfCones whole nets part →
+        IsDesignOfExtract whole part (names_in whole nets) horizon }
     ensures names { (whole part : DesignView) (nets : List ℕ) →
-        All (λ net. net < length whole.netlist.nets) nets → IsDesignOfCones whole nets part →
-        map (name_at part.netlist) part.netlist.outputs ≡ map (name_at whole.netlist) nets }
+        AreNets whole nets → IsDesignOfCones whole nets part →
+        names_in part part.netlist.outputs ≡ names_in whole nets }
     ensures values { (whole part : DesignView) (nets : List ℕ) →
-        All (λ net. net < length whole.netlist.nets) nets → IsDesignOfCones whole nets part →
-        map (value_of part.circuit) part.netlist.outputs ≡ map (value_of whole.circuit) nets }
+        AreNets whole nets → IsDesignOfCones whole nets part →
+        signals_in part part.netlist.outputs ≡ signals_in whole nets }
 {}

@@ -4,6 +4,7 @@
 
 mod agreement;
 mod alone;
+mod bench_cones;
 mod cones;
 mod extraction;
 mod fault;
@@ -11,6 +12,7 @@ pub mod laws;
 
 pub use agreement::agree;
 pub use alone::cones_alone;
+pub use bench_cones::cone_text;
 pub use cones::{cone, outside};
 pub use extraction::{extract, net_numbers};
-pub use fault::ConeFault;
+pub use fault::{ConeFault, ConeTextFault};

@@ -1,9 +1,11 @@
 -- What is true of a process, and of one that receives true messages.
-use Rattle.std.specs.Prelude.{◌≡◌, ◌≢◌, ℕ, ◌+◌, ◌<◌, ◌≤◌, true, List, length, slice_get, Some}
+use Rattle.std.specs.Prelude.{◌≡◌, ◌≢◌, ℕ, ◌+◌, ◌<◌, ◌≤◌, true, List, [], length, slice_get, slice_index_or, Some}
 use Rattle.logic3.specs.declared.value.Value.{Value}
+use Rattle.logic3.specs.declared.value.Value.TheVariants.{Unknown}
 use Rattle.logic3.specs.declared.change.Change.{Change}
+use Rattle.netlist.specs.declared.part.Part.TheVariants.{Input}
 use Rattle.netlist.specs.Part.{takes_pins}
-use Rattle.design.specs.Circuit.{Net, IsTimed}
+use Rattle.design.specs.Circuit.{Net, Circuit, IsTimed}
 use Rattle.timing_text.specs.Ranges.{most_ticks}
 use Rattle.design.specs.Samples.{asked_tick}
 use Rattle.design.specs.Equations.{equation, pin_signals}
@@ -45,6 +47,17 @@ pub record HearsTruth (signals : ℕ → ℕ → Value) (number : ℕ) (process 
   pub pin : slice_get process.net.pins place ≡ Some source
   pub so_far : slice_get process.received place ≡ Some received
   pub tells : Tells (signals source) received.frontier to messages
+
+-- the net with a number; past the last net, the result doesn't matter
+abbrev pub net_at : Circuit → ℕ → Net
+net_at circuit number = slice_index_or circuit number (record {
+  name = [];
+  part = Input;
+  pins = [];
+  wires = [];
+  timing = record { delay = 0; period = 0; phase = 0; initial = Unknown };
+  stimuli = [];
+})
 
 -- a net with its timing in the ranges, and as many pins as its part takes
 pub record IsNet (net : Net) : Type 0 where

@@ -15,7 +15,7 @@ ghost use Rattle.gate_process.specs.Truth.{IsNet};
 use crate::cursor::{Cursor, read_at};
 use crate::received::{Received, seen_at};
 use design::{Design, asked_tick, first_asker};
-use logic3::{Change, Summary, Value};
+use logic3::{Summary, Value};
 use netlist::Part;
 use std::marker::Model;
 use timing_text::Timing;
@@ -27,40 +27,23 @@ pub struct Look {
     pub until: u64,
 }
 
-/// The net of a process, as its design holds it.
+/// The net of a process: its number, and the design that has all else.
 #[derive(Debug, Drop)]
 pub struct OwnNet<'d> {
-    name: &'d [u8],
-    part: Part,
-    pins: &'d [u32],
-    wires: &'d [u32],
-    timing: Timing,
-    stimuli: &'d [Change],
+    design: &'d Design,
+    net: u32,
 }
 
 impl<'d> Model for OwnNet<'d> {
+    ghost use Rattle.std.specs.Prelude.{◌<◌, length};
     ghost use Rattle.design.specs.Circuit.{Net};
-    ghost use Rattle.gate_process.specs.Truth.{IsNet};
+    ghost use Rattle.gate_process.specs.Truth.{IsNet, net_at};
 
     ghost Value = { Net };
 
-    ghost view = { λ n. record {
-      name = n.name.now;
-      part = n.part;
-      pins = n.pins.now;
-      wires = n.wires.now;
-      timing = n.timing;
-      stimuli = n.stimuli.now;
-    } };
+    ghost view = { λ n. net_at n.design.now.circuit n.net };
 
-    ghost invariant = { λ n. IsNet (record {
-      name = n.name.now;
-      part = n.part;
-      pins = n.pins.now;
-      wires = n.wires.now;
-      timing = n.timing;
-      stimuli = n.stimuli.now;
-    }) };
+    ghost invariant = { λ n. (n.net < length n.design.now.circuit) × IsNet (net_at n.design.now.circuit n.net) };
 }
 
 impl<'d> OwnNet<'d> {
@@ -72,14 +55,22 @@ impl<'d> OwnNet<'d> {
         // Called for its contract: the design is well formed.
         let nets = design.nets();
         prove!(net < nets);
-        OwnNet {
-            name: design.name(net),
-            part: design.part(net),
-            pins: design.pins_of(net),
-            wires: design.wires_of(net),
-            timing: design.timing(net),
-            stimuli: design.stimuli(net),
-        }
+        OwnNet { design, net }
+    }
+
+    /// Returns what drives the net.
+    fn part(&self) -> Part
+        ensures part { result ≡ self.now.part }
+        ensures well_formed { IsNet self.now }
+    {
+        self.design.part(self.net)
+    }
+
+    /// Returns when the net reads its pins.
+    fn timing(&self) -> Timing
+        ensures { result ≡ self.now.timing }
+    {
+        self.design.timing(self.net)
     }
 
     /// Returns the number of pins of the net.
@@ -87,7 +78,7 @@ impl<'d> OwnNet<'d> {
         ensures count { result ≡ length self.now.pins }
         ensures well_formed { IsNet self.now }
     {
-        self.pins.len()
+        self.design.pins_of(self.net).len()
     }
 
     /// Returns the delay of the wire to each pin, in ticks, in order.
@@ -95,7 +86,7 @@ impl<'d> OwnNet<'d> {
         ensures wires { result.now ≡ self.now.wires }
         ensures well_formed { IsNet self.now }
     {
-        self.wires
+        self.design.wires_of(self.net)
     }
 
     /// Returns a tick such that the net, from this frontier on, asks for no earlier tick of the source of the
@@ -105,8 +96,8 @@ impl<'d> OwnNet<'d> {
         ensures { result ≡ oldest_asked self.now place frontier }
     {
         frontier
-            .saturating_sub(self.timing.delay)
-            .saturating_sub(u64::from(self.wires[place]))
+            .saturating_sub(self.timing().delay)
+            .saturating_sub(u64::from(self.wires()[place]))
     }
 
     /// Returns how far the net can be computed if all its pins, as it sees them, are known up to `safe`.
@@ -115,7 +106,7 @@ impl<'d> OwnNet<'d> {
         requires safe { safe ≤ most_ticks + 1 + most_delay }
         ensures { result ≡ frontier_of self.now end safe }
     {
-        match first_asker(self.part, self.timing, safe) {
+        match first_asker(self.part(), self.timing(), safe) {
             Some(first) => end.min(first),
             None => end,
         }
@@ -125,7 +116,7 @@ impl<'d> OwnNet<'d> {
     pub fn most(&self, end: u64, sure: u64) -> u64
         ensures { result ≡ most_of_part self.now.part end sure }
     {
-        match self.part {
+        match self.part() {
             Part::Gate(_) => end,
             _ => sure,
         }
@@ -135,7 +126,7 @@ impl<'d> OwnNet<'d> {
     pub fn stimuli(&self) -> Cursor<'_>
         ensures { result ≡ record { before = Unknown; changes = self.now.stimuli } }
     {
-        Cursor::stimuli(self.stimuli)
+        Cursor::stimuli(self.design.stimuli(self.net))
     }
 
     /// Returns what the net shows at a tick over what it reads, and the tick up to which that value stays, at
@@ -157,7 +148,7 @@ impl<'d> OwnNet<'d> {
         let Some(at) = self.read_tick(tick) else {
             // Before it reads anything, it waits for tick 0.
             return Look {
-                value: self.timing.initial,
+                value: self.timing().initial,
                 until: self.until(0, limit),
             };
         };
@@ -176,8 +167,8 @@ impl<'d> OwnNet<'d> {
         ensures { result ≡ equation self.now (signals_of (seen_pins self.now.wires received.now)) tick }
     {
         match self.read_tick(tick) {
-            Some(at) => self.made_of(&seen_at(received, self.wires, at)),
-            None => self.timing.initial,
+            Some(at) => self.made_of(&seen_at(received, self.wires(), at)),
+            None => self.timing().initial,
         }
     }
 
@@ -186,9 +177,9 @@ impl<'d> OwnNet<'d> {
         ensures tick { result ≡ read_tick self.now.part self.now.timing tick }
         ensures well_formed { IsNet self.now }
     {
-        match self.part {
+        match self.part() {
             Part::Input => Some(tick),
-            part => asked_tick(part, self.timing, tick),
+            part => asked_tick(part, self.timing(), tick),
         }
     }
 
@@ -197,7 +188,7 @@ impl<'d> OwnNet<'d> {
         ensures { (values : List Value) → pins.now ≡ summary_of values → length values ≡ reads self.now →
             result ≡ made_of self.now.part values }
     {
-        match self.part {
+        match self.part() {
             Part::Gate(kind) => pins.gate(kind),
             _ => pins.only(),
         }
@@ -210,7 +201,7 @@ impl<'d> OwnNet<'d> {
         requires end { limit ≤ most_ticks + 1 }
         ensures { result ≡ option_map_or (min limit) (first_asker self.now change) change }
     {
-        match first_asker(self.part, self.timing, change) {
+        match first_asker(self.part(), self.timing(), change) {
             Some(first) => limit.min(first),
             None => change,
         }

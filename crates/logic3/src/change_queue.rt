@@ -5,7 +5,7 @@ use std::alloc::{AllocError, Global};
 use std::marker::Model;
 
 /// The number of changes for which an empty queue may keep memory.
-const FEW: usize = 16;
+const FEW: usize = 8;
 
 /// A list of changes that grows at the end and is dropped from the front.
 ///

@@ -4,10 +4,12 @@ use crate::faults::reported;
 use crate::whole_runs::{
     CONE, INFO, MEMORY_LINE, NO_DIFFERENCE, OSCILLATOR, SAME, TWINS, answered, ended,
 };
-use command_line::parse_words;
 use engine_probes::{Follower, Teller};
-use nullsim::{Asked, Order, ReadFault, Texts, answer_order, asked_by_words, command, read_text};
-use run_progress::Silent;
+use nullsim::{
+    Asked, Order, ReadFault, Texts, answer_order, asked_by_words, command, read_text, read_texts,
+    write_answer,
+};
+use prepared_runs::Silent;
 use std::alloc::{AllocError, Global};
 use std::io::{self, Error, ErrorKind, Write};
 use worked_examples::dumps::OSCILLATOR_DUMP;
@@ -105,7 +107,6 @@ fn orders<W: Write>(
     words: &[String],
     text: &'static [u8],
 ) -> Option<()> {
-    reported(teller, "parse_words", parse_words(alloc, words))?;
     match reported(teller, "asked_by_words", asked_by_words(alloc, words))? {
         Asked::Order { order, .. } => {
             carried_out(alloc, teller, &order, text)?;
@@ -123,9 +124,9 @@ fn carried_out<W: Write>(
 ) -> Option<()> {
     let mut shelf = Shelf { alloc };
     let mut out = Follower::of(text);
-    let texts = reported(teller, "Order::read", order.read(alloc, &mut shelf))?;
-    let answer = order.carry_out(alloc, &texts, &mut out, &mut Silent);
-    ended(teller, "Order::carry_out", answer, &out)
+    let texts = reported(teller, "read_texts", read_texts(alloc, order, &mut shelf))?;
+    let answer = write_answer(alloc, order, &texts, &mut out, &mut Silent);
+    ended(teller, "write_answer", answer, &out)
 }
 
 fn reported_orders<W: Write>(

@@ -2,12 +2,12 @@
 ghost use Rattle.std.specs.Prelude.{◌≡◌, IfSome, Ok};
 
 use bench_text::BenchFault;
-use decks::DeckFault;
 use engine_probes::Teller;
+use fanin_cone::ConeTextFault;
+use kernel_runs::{DiffFault, TwinFault};
 use nullsim::NoOrder;
-use prepared_runs::SimFault;
+use prepared_runs::{DeckFault, SimFault};
 use program_io::{ProgramFault, ReadFault};
-use run_pairs::{DiffFault, TwinFault};
 use std::alloc::AllocError;
 use std::io::Write;
 
@@ -46,6 +46,12 @@ impl Fault for AllocError {
 impl Fault for BenchFault {
     fn is_memory(&self) -> bool {
         matches!(self, BenchFault::Memory)
+    }
+}
+
+impl Fault for ConeTextFault {
+    fn is_memory(&self) -> bool {
+        matches!(self, ConeTextFault::Memory)
     }
 }
 

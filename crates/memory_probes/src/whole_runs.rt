@@ -1,17 +1,17 @@
 //! Whole runs: a prefix of the text has been written.
 use crate::faults::{Fault, reported};
-use circuit_texts::{cone_text, info};
-use decks::{answer_deck, deck, tell};
+use circuit_info::info;
 use engine_probes::{Follower, Teller};
-use plain_runs::{plain, plain_with_progress};
-use prepared_runs::{DumpView, Picks, Selection, Show, Source, View};
-use program_io::{
-    read_text, write_check, write_cone, write_diff, write_info, write_plain, write_run, write_twin,
+use fanin_cone::cone_text;
+use kernel_runs::{
+    DiffTicks, check, diff, simulate, simulate_with_progress, sweep, sweep_with_progress, twin,
 };
-use run_notes::notes_text;
-use run_pairs::{DiffTicks, diff, twin};
-use run_progress::{Percents, Silent};
-use runs::{check, simulate, simulate_with_progress, sweep, sweep_with_progress};
+use plain_runs::{notes_text, plain, plain_with_progress};
+use prepared_runs::{DumpView, Percents, Picks, Selection, Show, Silent, Source, View};
+use program_io::{
+    answer_deck, deck, read_text, tell, write_check, write_cone, write_diff, write_info,
+    write_plain, write_run, write_twin,
+};
 use std::alloc::{AllocError, Global};
 use std::io::Write;
 use vcd_dump::TimeUnit;
@@ -153,13 +153,13 @@ fn dumps<W: Write>(
 ) -> Option<()> {
     let mut out = Follower::of(dump);
     let answer = simulate(alloc, source, view, &mut out);
-    ended(teller, "runs::simulate", answer, &out)?;
+    ended(teller, "kernel_runs::simulate", answer, &out)?;
     let mut out = Follower::of(dump);
     let answer = sweep(alloc, source, view, &mut out);
-    ended(teller, "runs::sweep", answer, &out)?;
+    ended(teller, "kernel_runs::sweep", answer, &out)?;
     let mut out = Follower::of(dump);
     let answer = plain(alloc, source, view, &mut out);
-    ended(teller, "runs::plain", answer, &out)
+    ended(teller, "plain_runs::plain", answer, &out)
 }
 
 fn named_dumps<W: Write>(
@@ -171,13 +171,13 @@ fn named_dumps<W: Write>(
 ) -> Option<()> {
     let mut out = Follower::of(dump);
     let answer = simulate_with_progress(alloc, source, view, &mut out, &mut Silent);
-    ended(teller, "runs::simulate_with_progress", answer, &out)?;
+    ended(teller, "kernel_runs::simulate_with_progress", answer, &out)?;
     let mut out = Follower::of(dump);
     let answer = sweep_with_progress(alloc, source, view, &mut out, &mut Silent);
-    ended(teller, "runs::sweep_with_progress", answer, &out)?;
+    ended(teller, "kernel_runs::sweep_with_progress", answer, &out)?;
     let mut out = Follower::of(dump);
     let answer = plain_with_progress(alloc, source, view, &mut out, &mut Silent);
-    ended(teller, "runs::plain_with_progress", answer, &out)
+    ended(teller, "plain_runs::plain_with_progress", answer, &out)
 }
 
 /// The oscillator by the plain engine. If an allocation fails, the line of percentages ends early.
@@ -193,12 +193,12 @@ fn progress<W: Write>(alloc: Global, teller: &mut Teller<W>) -> Option<()> {
     percents.end();
     match answer {
         Ok(()) => teller.fine(
-            "runs::plain_with_progress",
+            "plain_runs::plain_with_progress",
             out.is_whole() && err.is_whole(),
         ),
         Err(fault) => {
             let reported = fault.is_memory() && out.follows();
-            teller.refused("runs::plain_with_progress", reported);
+            teller.refused("plain_runs::plain_with_progress", reported);
             None
         }
     }
@@ -223,16 +223,16 @@ fn written_dumps<W: Write>(
 
 fn comparisons<W: Write>(alloc: Global, teller: &mut Teller<W>) -> Option<()> {
     let answer = twin(alloc, &OSCILLATOR, &OSCILLATOR, b"y", 12);
-    reported(teller, "runs::twin", answer)?;
-    reported(teller, "runs::check", check(alloc, &OSCILLATOR, 12))?;
+    reported(teller, "kernel_runs::twin", answer)?;
+    reported(teller, "kernel_runs::check", check(alloc, &OSCILLATOR, 12))?;
     let text = cone_text(alloc, OSCILLATOR.bench, &[b"y".as_slice()]);
-    reported(teller, "runs::cone_text", text)?;
-    reported(teller, "runs::info", info(alloc, OSCILLATOR.bench))?;
+    reported(teller, "fanin_cone::cone_text", text)?;
+    reported(teller, "circuit_info::info", info(alloc, OSCILLATOR.bench))?;
     let answer = diff(alloc, &OSCILLATOR, &OSCILLATOR, &[], COUNTING);
-    reported(teller, "runs::diff", answer)?;
+    reported(teller, "kernel_runs::diff", answer)?;
     reported(
         teller,
-        "run_notes::notes_text",
+        "plain_runs::notes_text",
         notes_text(alloc, &OSCILLATOR, 12),
     )?;
     Some(())
@@ -260,14 +260,14 @@ fn written_comparisons<W: Write>(alloc: Global, teller: &mut Teller<W>) -> Optio
 fn decks<W: Write>(alloc: Global, teller: &mut Teller<W>) -> Option<()> {
     let mut out = Follower::of(OSCILLATOR_DUMP);
     let answer = deck(alloc, DECK, &mut out);
-    ended(teller, "decks::deck", answer, &out)?;
+    ended(teller, "program_io::deck", answer, &out)?;
     let (mut out, mut err) = (Follower::of(OSCILLATOR_DUMP), Follower::of(MEMORY_LINE));
     let status = answer_deck(alloc, DECK, &mut out, &mut err);
-    answered(teller, "decks::answer_deck", status, &out, &err)?;
+    answered(teller, "program_io::answer_deck", status, &out, &err)?;
     let (mut out, mut err) = (Follower::of(OSCILLATOR_DUMP), Follower::of(MEMORY_LINE));
     let mut input = DECK;
     let status = tell(alloc, &mut input, &mut out, &mut err);
-    answered(teller, "decks::tell", status, &out, &err)
+    answered(teller, "program_io::tell", status, &out, &err)
 }
 
 /// Reports a call that returns a status: 0 if its text has been written and nothing was reported, and 4 if a

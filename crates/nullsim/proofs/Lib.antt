@@ -1,3 +1,4 @@
 mod CountsLine
 mod Firsts
 mod Noting
+mod Written

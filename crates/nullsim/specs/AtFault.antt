@@ -1,5 +1,5 @@
 -- Which argument a fault is for: a number that is out of its range, or the name of a net.
-use Rattle.std.specs.Prelude.{ℕ, ◌&&◌, Bool, List, [], ◌∷◌, slice_get, option_and_then, option_map, Option, None, Some, Result, Ok, Err}
+use Rattle.std.specs.Prelude.{ℕ, ◌&&◌, Bool, List, slice_get, option_and_then, option_map, Option, None, Some, Result, Ok, Err}
 use Rattle.std.specs.List.{find}
 use Rattle.std.specs.Option.{is_none}
 use Rattle.netlist.specs.Names.{seen_names}
@@ -18,51 +18,19 @@ use Rattle.wave_diff.specs.declared.fault.ComparedFault.{ComparedFault}
 use Rattle.wave_diff.specs.declared.fault.ComparedFault.TheVariants as compared
 use Rattle.prepared_runs.specs.declared.fault.SimFault.{SimFault}
 use Rattle.prepared_runs.specs.declared.fault.SimFault.TheVariants as sim
-use Rattle.prepared_runs.specs.declared.view.Selection.{Selection}
-use Rattle.prepared_runs.specs.declared.view.Selection.TheVariants.{Named}
 use Rattle.plain_runs.specs.declared.diagram_run.DiagramView.{DiagramView}
-use Rattle.run_pairs.specs.declared.diff_run.DiffTicks.{DiffTicks}
-use Rattle.run_pairs.specs.declared.twin_run.Side.{Side}
-use Rattle.run_pairs.specs.declared.twin_run.Side.TheVariants.{First, Second}
+use Rattle.wave_diff.specs.declared.diff_ticks.DiffTicks.{DiffTicks}
+use Rattle.wave_diff.specs.declared.comparison.Side.{Side}
 use Rattle.program_io.specs.declared.program_fault.ProgramFault.{ProgramFault}
 use Rattle.program_io.specs.declared.program_fault.ProgramFault.TheVariants as program
-use Rattle.orders.specs.declared.order.Order.{Order}
-use Rattle.orders.specs.declared.order.Order.TheVariants.{Run, Plain, Draw, Trace, Why, Stimuli, Info, Cone, Diff, Twin, Check}
-use Rattle.orders.specs.declared.order.SourceOptions.{SourceOptions}
-use Rattle.orders.specs.declared.order_texts.OrderTexts.{OrderTexts}
-use Rattle.orders.specs.Options.{texts_on}
+use Rattle.command_line.specs.declared.order.Order.{Order}
+use Rattle.command_line.specs.declared.order.Order.TheVariants.{Draw, Stimuli, Diff}
+use Rattle.command_line.specs.declared.source_options.SourceOptions.{SourceOptions}
+use Rattle.program_io.specs.declared.order_texts.OrderTexts.{OrderTexts}
+use Rattle.command_line.specs.Orders.{last_tick, names_asked, options_on}
+use Rattle.program_io.specs.Options.{texts_on}
 
 -- ---- what an order gives
-
--- the options of its run on a side
-abbrev pub options_on : Order → Side → Option SourceOptions
-options_on (Run options view counts) side = Some options
-options_on (Plain options view) side = Some options
-options_on (Draw options view) side = Some options
-options_on (Trace options horizon) side = Some options
-options_on (Why options net tick) side = Some options
-options_on (Check options horizon) side = Some options
-options_on (Diff first second names ticks) First = Some first
-options_on (Diff first second names ticks) Second = Some second
-options_on (Twin first second net horizon) First = Some first
-options_on (Twin first second net horizon) Second = Some second
-options_on (Stimuli bench drives draws horizon) side = None
-options_on (Info bench) side = None
-options_on (Cone bench names) side = None
-
--- its last tick
-abbrev pub last_tick : Order → Option ℕ
-last_tick (Run options view counts) = Some view.horizon
-last_tick (Plain options view) = Some view.horizon
-last_tick (Draw options view) = Some view.horizon
-last_tick (Trace options horizon) = Some horizon
-last_tick (Why options net tick) = Some tick
-last_tick (Check options horizon) = Some horizon
-last_tick (Diff first second names ticks) = Some ticks.horizon
-last_tick (Twin first second net horizon) = Some horizon
-last_tick (Stimuli bench drives draws horizon) = Some horizon
-last_tick (Info bench) = None
-last_tick (Cone bench names) = None
 
 -- the diagram that it draws, the ticks that it compares, what it draws for inputs
 abbrev pub diagram_in : Order → Option DiagramView
@@ -81,21 +49,6 @@ draws_in other = None
 abbrev pub input_driven : Order → ℕ → Option (List ℕ)
 input_driven (Stimuli bench drives draws horizon) place = option_map (λ (driven : Driven). driven.name.now) (slice_get drives.items place)
 input_driven other place = None
-
--- the nets that it names
-abbrev pub names_shown : Selection → List (List ℕ)
-names_shown (Named names) = seen_names names.items
-names_shown other = []
-
-abbrev pub names_asked : Order → List (List ℕ)
-names_asked (Run options view counts) = names_shown view.show
-names_asked (Plain options view) = names_shown view.show
-names_asked (Draw options view) = names_shown view.show
-names_asked (Why options net tick) = net.now ∷ []
-names_asked (Cone bench names) = seen_names names.items
-names_asked (Diff first second names ticks) = seen_names names.items
-names_asked (Twin first second net horizon) = net.now ∷ []
-names_asked other = []
 
 -- ---- the number at fault
 

@@ -1,7 +1,9 @@
 pub mod Asked
 pub mod AtFault
 pub mod Command
+pub mod Ends
 pub mod Noted
+pub mod Parts
 pub mod Progress
 pub mod Verbose
 pub mod Version

@@ -1,34 +1,35 @@
 -- The notes on the run of an order that is done.
-use Rattle.std.specs.Prelude.{◌≡◌, ℕ, ◌==◌, if◌then◌else◌, List, [], ◌++◌, codes, Option, None, Some, Result, Ok, Err}
+use Rattle.std.specs.Prelude.{◌≡◌, ℕ, ◌==◌, if◌then◌else◌, List, [], ◌++◌, codes, option_and_then, option_map, Option, None, Some, Result, Ok, Err}
 use Rattle.std.specs.Io.KnownBytes.{Appends}
-use Rattle.vcd_dump.specs.Bytes.{AppendsPrefix}
 use Rattle.prepared_runs.specs.declared.fault.SimFault.{SimFault}
 use Rattle.prepared_runs.specs.Events.{nothing}
 use Rattle.prepared_runs.specs.Source.{SourceView}
-use Rattle.run_notes.specs.Noted.{notes_of_source}
+use Rattle.plain_runs.specs.Noted.{notes_of_source}
+use Rattle.program_io.specs.declared.exit.Exit.{Exit}
 use Rattle.program_io.specs.Ends.{ForAnswer}
-use Rattle.orders.specs.declared.order.Order.{Order}
-use Rattle.orders.specs.declared.order.Order.TheVariants.{Run, Plain, Draw, Trace, Check}
-use Rattle.orders.specs.declared.order.PickOptions.{PickOptions}
-use Rattle.orders.specs.declared.order.PickOptions.TheVariants as picked
-use Rattle.orders.specs.declared.order.SourceOptions.{SourceOptions}
-use Rattle.orders.specs.declared.order_texts.OrderTexts.{OrderTexts}
-use Rattle.orders.specs.declared.source_texts.SourceTexts.{SourceTexts}
-use Rattle.orders.specs.Options.{source_from}
-use Rattle.orders.specs.OrderAnswer.{IsAnswerTo}
+use Rattle.command_line.specs.declared.order.Order.{Order}
+use Rattle.command_line.specs.declared.order.Order.TheVariants.{Why, Diff, Twin}
+use Rattle.command_line.specs.declared.source_options.PickOptions.{PickOptions}
+use Rattle.command_line.specs.declared.source_options.PickOptions.TheVariants as picked
+use Rattle.command_line.specs.declared.source_options.SourceOptions.{SourceOptions}
+use Rattle.program_io.specs.declared.order_texts.OrderTexts.{OrderTexts}
+use Rattle.command_line.specs.Sources.{ReadTexts}
+use Rattle.command_line.specs.Sources.{source_from}
+use Rattle.command_line.specs.Orders.{last_tick, options_on}
+use Rattle.wave_diff.specs.declared.comparison.Side.TheVariants.{First}
+use Rattle.program_io.specs.OrderAnswer.{IsAnswerTo}
 use Rattle.nullsim.specs.Command.{Streams, outcome_text, status_of_outcome}
+use Rattle.nullsim.specs.Parts.{AreWritten}
 
--- the run of an order for one run to a horizon
-abbrev pub run_of : Order → Option (SourceOptions × ℕ)
-run_of (Run options view counts) = Some (options, view.horizon)
-run_of (Plain options view) = Some (options, view.horizon)
-run_of (Draw options view) = Some (options, view.horizon)
-run_of (Trace options horizon) = Some (options, horizon)
-run_of (Check options horizon) = Some (options, horizon)
-run_of other = None
+-- the run on which there are notes: that of an order for one run to a horizon, but for `why`
+abbrev pub noted_run : Order → Option (SourceOptions × ℕ)
+noted_run (Why options net tick) = None
+noted_run (Diff first second names ticks) = None
+noted_run (Twin first second net horizon) = None
+noted_run order = option_and_then (λ options. option_map (λ tick. (options, tick)) (last_tick order)) (options_on order First)
 
 -- the run of these options and texts; no events are picked
-abbrev pub noted_source : SourceOptions → SourceTexts → SourceView
+abbrev pub noted_source : SourceOptions → ReadTexts → SourceView
 noted_source options texts = record (source_from options texts) { picks = nothing }
 
 -- a text, or the empty text in place of a fault
@@ -51,14 +52,11 @@ run_notes texts (Some run) = text_or_none (notes_of_source (noted_source run.0 t
 
 -- the notes on an order's run, by its texts
 abbrev pub order_notes : OrderTexts → Order → List ℕ
-order_notes texts order = run_notes texts (run_of order)
+order_notes texts order = run_notes texts (noted_run order)
 
--- a text was written and another after it, or a prefix of each
-abbrev pub AppendsParts : Option (List ℕ) → Option (List ℕ) → List ℕ → List ℕ → Type 0
-AppendsParts old new text more = (mid : Option (List ℕ)) × AppendsPrefix old mid text × AppendsPrefix mid new more
-
--- the answer over these texts was written, and what is printed with it, followed by the notes on its run
-abbrev pub AnswerNoted : OrderTexts → Order → Streams → Streams → ℕ → Type 0
-AnswerNoted texts order old new status =
+-- the answer over these texts was written, and what is printed with it, followed by the notes on its run, or a prefix of each
+abbrev pub AnswerNoted : OrderTexts → Order → Streams → Streams → Exit → Type 0
+AnswerNoted texts order old new exit =
     ForAnswer (IsAnswerTo order texts) (λ answer. Appends old.out new.out answer.text
-    × AppendsParts old.err new.err (outcome_text answer.outcome) (order_notes texts order) × (status ≡ status_of_outcome answer.outcome))
+    × AreWritten old.err new.err (outcome_text answer.outcome) (order_notes texts order) exit.written
+    × (exit.status ≡ status_of_outcome answer.outcome))

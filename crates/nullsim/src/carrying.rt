@@ -1,19 +1,19 @@
 //! An order that reports its progress, and the system's message if its answer can't be written.
 ghost use Rattle.std.specs.Prelude.{◌≡◌, IfErr, IfOk, OnErr, OnOk};
 ghost use Rattle.nullsim.specs.Progress.{ReportsProgress};
-ghost use Rattle.orders.specs.OrderAnswer.{IsAnswerTo};
-ghost use Rattle.orders.specs.Progress.{BrokenTicks, DoneTicks};
+ghost use Rattle.program_io.specs.OrderAnswer.{IsAnswerTo};
+ghost use Rattle.program_io.specs.Progress.{BrokenTicks, DoneTicks};
 ghost use Rattle.program_io.specs.Answers.{AnswerEndsBy, GoesOut, IsNoRead};
 
 use crate::reasons::{NamedWriter, WithReason, WriterName};
-use orders::{Order, OrderTexts};
-use program_io::{Outcome, ProgramFault};
-use run_progress::{Percents, Silent};
+use command_line::Order;
+use prepared_runs::{Percents, Silent};
+use program_io::{OrderTexts, Outcome, ProgramFault, write_answer};
 use std::alloc::Global;
-use std::io::Write;
+use std::io::{Error, Write};
 use std::marker::{Brand, PhantomData};
 
-/// Carries out an order over the texts of its files, as [`Order::carry_out`] does. With `progress`, a run whose
+/// Carries out an order over the texts of its files, as [`write_answer`] does. With `progress`, a run whose
 /// dump is written reports its progress on `err`, in percent, and ends that line.
 pub(crate) fn carry_out<'a, W: Write, E: Write>(
     alloc: Global,
@@ -34,18 +34,17 @@ pub(crate) fn carry_out<'a, W: Write, E: Write>(
         (ReportsProgress progress order.now (BrokenTicks order.now) (E.contents err.old) (E.contents err.new)) }
 {
     if !progress {
-        return order.carry_out(alloc, texts, out, &mut Silent);
+        return write_answer(alloc, order, texts, out, &mut Silent);
     }
     let mut percents = Percents::new(err);
-    let carried = order.carry_out(alloc, texts, out, &mut percents);
+    let carried = write_answer(alloc, order, texts, out, &mut percents);
     let err = percents.end();
     // No effect at run time. The proof reads what `err` holds from this use of it.
     let _ = &*err;
     carried
 }
 
-/// Carries out an order as [`carry_out`] does. Also returns the system's message on a write that failed, if
-/// any.
+/// Carries out an order as [`carry_out`] does. Also returns the last failure of a write or a flush, if any.
 pub(crate) fn carry_out_heard<'a, W: Write, E: Write>(
     alloc: Global,
     order: &Order<'a>,
@@ -53,7 +52,7 @@ pub(crate) fn carry_out_heard<'a, W: Write, E: Write>(
     progress: bool,
     out: &mut W,
     err: &mut E,
-) -> (Result<Outcome, ProgramFault<'a>>, Option<String>)
+) -> (Result<Outcome, ProgramFault<'a>>, Option<Error>)
     ensures ok { IfOk result.0
         (GoesOut (IsAnswerTo order.now texts.now) (W.contents out.old) (W.contents out.new)) }
     ensures err { IfErr result.0
@@ -64,14 +63,14 @@ pub(crate) fn carry_out_heard<'a, W: Write, E: Write>(
     ensures reported_until { OnErr result.0
         (ReportsProgress progress order.now (BrokenTicks order.now) (E.contents err.old) (E.contents err.new)) }
 {
-    let writer = WithReason::new(alloc, out);
+    let writer = WithReason::new(out);
     let (carried, writer) = carry_out_named::<Brand, W, E>(
         alloc, order, texts, progress, writer, err,
     );
-    let (out, said) = writer.end();
+    let (out, failed) = writer.end();
     // No effect at run time. The proof reads what `out` holds from this use of it.
     let _ = &*out;
-    (carried, said)
+    (carried, failed)
 }
 
 /// Does the same over such a writer, and returns the writer too.

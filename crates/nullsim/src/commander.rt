@@ -1,27 +1,30 @@
 //! The program with arguments.
-ghost use Rattle.std.specs.Prelude.{◌≡◌, ◌≢◌, None, IfErr, OnErr, OnOk, IsTrue};
+ghost use Rattle.std.specs.Prelude.{◌≡◌, ◌≢◌, IfErr, OnErr, OnOk, IsTrue};
 ghost use Rattle.std.specs.Io.KnownBytes.{Appends, Keeps};
 ghost use Rattle.vcd_dump.specs.Bytes.{AppendsPrefix};
 ghost use Rattle.vcd_dump.specs.Faults.{IsFailedWrite};
 ghost use Rattle.event_trace.specs.Lines.{counts_line};
 ghost use Rattle.explanations.specs.Explained.{all_names, explained};
-ghost use Rattle.orders.specs.OrderAnswer.{IsAnswerTo};
-ghost use Rattle.nullsim.specs.Asked.{CommandEnds, OrderEnds};
+ghost use Rattle.program_io.specs.Report.{IsWritten, WithStatus};
+ghost use Rattle.program_io.specs.OrderAnswer.{IsAnswerTo};
+ghost use Rattle.nullsim.specs.Asked.{CommandEnds, OrderEnds, WordsEnd};
 ghost use Rattle.nullsim.specs.Command.{Explains, TextGiven, TextMade, VersionGiven, line_of_numbers, outcome_text, status_of_outcome};
+ghost use Rattle.nullsim.specs.Ends.{Ends, EndsBy, Writes};
 ghost use Rattle.nullsim.specs.Progress.{Answered, OrderReported};
 ghost use Rattle.nullsim.specs.Version.{asks_for_version};
 
 use crate::carrying::carry_out;
-use crate::verbose::answer_verbosely;
+use crate::verbose::exit_verbosely;
 use crate::version::{asks_for_version, give_version};
-use crate::words::asked_by_words;
 use cmb_kernel::Counts;
-use command_line::{Asked, NoOrder};
+use command_line::{Asked, NoOrder, Order, asked_by_words};
 use explanations::{Table, explanation_text, names_text, tables};
 use itoa::Buffer;
-use orders::{Order, OrderTexts, Texts};
+use prepared_runs::SECTIONS;
 use program_io::status::{DIFFERENT, DONE, WRONG_WORDS};
-use program_io::{Outcome, ProgramFault, SECTIONS, report, write_pieces, write_text};
+use program_io::{
+    Exit, OrderTexts, Outcome, ProgramFault, Texts, read_texts, report, write_pieces, write_text,
+};
 use std::alloc::Global;
 use std::io::Write;
 use vcd_dump::{DumpFault, write_all_bytes};
@@ -42,51 +45,85 @@ pub fn command<T: Texts, W: Write, E: Write>(
     out: &mut W,
     err: &mut E,
 ) -> u8
-    ensures ends { CommandEnds words.now (T.said texts.new) (T.known texts.old)
-        (record { readings = T.readings texts.old; out = W.contents out.old; err = E.contents err.old })
-        (record { readings = T.readings texts.new; out = W.contents out.new; err = E.contents err.new }) result }
-    ensures version { IsTrue (asks_for_version words.now) → VersionGiven
-        (record { readings = T.readings texts.old; out = W.contents out.old; err = E.contents err.old })
-        (record { readings = T.readings texts.new; out = W.contents out.new; err = E.contents err.new }) result }
+    ensures ends { WithStatus result (EndsBy T.known T.said T.readings W.contents E.contents (CommandEnds words.now)
+        texts.old texts.new out.old out.new err.old err.new) }
+    ensures version { IsTrue (asks_for_version words.now) → WithStatus result
+        (Ends T.readings W.contents E.contents VersionGiven texts.old texts.new out.old out.new err.old err.new) }
     ensures usage { result ≡ 2 → (texts.new ≡ texts.old)
+        × Keeps (W.contents out.old) (W.contents out.new) }
+{
+    exit_of_command(alloc, words, texts, out, err).status
+}
+
+/// Does the same, and returns whether what is printed on `err` was written too.
+fn exit_of_command<T: Texts, W: Write, E: Write>(
+    alloc: Global,
+    words: &[String],
+    texts: &mut T,
+    out: &mut W,
+    err: &mut E,
+) -> Exit
+    ensures ends { EndsBy T.known T.said T.readings W.contents E.contents (CommandEnds words.now)
+        texts.old texts.new out.old out.new err.old err.new result }
+    ensures version { IsTrue (asks_for_version words.now) →
+        Ends T.readings W.contents E.contents VersionGiven texts.old texts.new out.old out.new err.old err.new result }
+    ensures usage { result.status ≡ 2 → (texts.new ≡ texts.old)
         × Keeps (W.contents out.old) (W.contents out.new) }
 {
     if asks_for_version(words) {
         return give_version(out, err);
     }
-    match asked_by_words(alloc, words) {
+    let asked = asked_by_words(alloc, words);
+    exit_of_asked(alloc, asked, &tables(), texts, out, err)
+}
+
+/// Carries out what arguments ask for, by these tables, or prints the help or what is wrong with them.
+fn exit_of_asked<T: Texts, W: Write, E: Write>(
+    alloc: Global,
+    asked: Result<Asked<'_>, NoOrder>,
+    tables: &[Table],
+    texts: &mut T,
+    out: &mut W,
+    err: &mut E,
+) -> Exit
+    ensures ends { EndsBy T.known T.said T.readings W.contents E.contents (WordsEnd tables.now asked.entry)
+        texts.old texts.new out.old out.new err.old err.new result }
+    ensures usage { result.status ≡ 2 → (texts.new ≡ texts.old)
+        × Keeps (W.contents out.old) (W.contents out.new) }
+{
+    match asked {
         Ok(
             Asked::Order {
                 order,
                 verbose,
                 progress,
             },
-        ) => answer_as_asked(alloc, &order, verbose, progress, texts, out, err),
-        Ok(Asked::Explanation { name }) => print_fault(alloc, &tables(), name, out, err),
-        Ok(Asked::FaultNames) => print_names(alloc, &tables(), out, err),
+        ) => exit_as_asked(alloc, &order, tables, verbose, progress, texts, out, err),
+        Ok(Asked::Explanation { name }) => print_fault(alloc, tables, name, out, err),
+        Ok(Asked::FaultNames) => print_names(alloc, tables, out, err),
         Err(no_order) => explain(no_order, out, err),
     }
 }
 
-/// Carries out an order, verbosely or not, and returns the exit status.
-fn answer_as_asked<T: Texts, W: Write, E: Write>(
+/// Carries out an order, verbosely by these tables or not, and returns the exit.
+fn exit_as_asked<T: Texts, W: Write, E: Write>(
     alloc: Global,
     order: &Order<'_>,
+    tables: &[Table],
     verbose: bool,
     progress: bool,
     texts: &mut T,
     out: &mut W,
     err: &mut E,
-) -> u8
-    ensures reported { OrderEnds verbose progress (T.said texts.new) (T.known texts.old) order.now
-        (record { readings = T.readings texts.old; out = W.contents out.old; err = E.contents err.old })
-        (record { readings = T.readings texts.new; out = W.contents out.new; err = E.contents err.new }) result }
-    ensures no_usage { result ≢ 2 }
+) -> Exit
+    ensures reported { EndsBy T.known T.said T.readings W.contents E.contents
+        (OrderEnds tables.now verbose progress order.now) texts.old texts.new out.old out.new err.old err.new result }
+    ensures no_usage { result.status ≢ 2 }
 {
     if verbose {
-        answer_verbosely(alloc, order, &tables(), progress, texts, out, err)
+        exit_verbosely(alloc, order, tables, progress, texts, out, err)
     } else {
-        answer_order(alloc, order, progress, texts, out, err)
+        exit_of_order(alloc, order, progress, texts, out, err)
     }
 }
 
@@ -105,12 +142,27 @@ pub fn answer_order<T: Texts, W: Write, E: Write>(
     out: &mut W,
     err: &mut E,
 ) -> u8
-    ensures reported { OrderReported progress (T.known texts.old) order.now
-        (record { readings = T.readings texts.old; out = W.contents out.old; err = E.contents err.old })
-        (record { readings = T.readings texts.new; out = W.contents out.new; err = E.contents err.new }) result }
+    ensures reported { WithStatus result (Ends T.readings W.contents E.contents
+        (OrderReported progress (T.known texts.old) order.now) texts.old texts.new out.old out.new err.old err.new) }
     ensures no_usage { result ≢ 2 }
 {
-    match order.read(alloc, texts) {
+    exit_of_order(alloc, order, progress, texts, out, err).status
+}
+
+/// Does the same, and returns whether what is printed on `err` was written too.
+fn exit_of_order<T: Texts, W: Write, E: Write>(
+    alloc: Global,
+    order: &Order<'_>,
+    progress: bool,
+    texts: &mut T,
+    out: &mut W,
+    err: &mut E,
+) -> Exit
+    ensures reported { Ends T.readings W.contents E.contents (OrderReported progress (T.known texts.old) order.now)
+        texts.old texts.new out.old out.new err.old err.new result }
+    ensures no_usage { result.status ≢ 2 }
+{
+    match read_texts(alloc, order, texts) {
         Ok(read) => answer_read(alloc, order, progress, &read, out, err),
         Err(unread) => report(err, unread, order.text_names(unread.side())),
     }
@@ -124,11 +176,10 @@ fn answer_read<W: Write, E: Write>(
     texts: &OrderTexts,
     out: &mut W,
     err: &mut E,
-) -> u8
-    ensures reported { Answered (IsAnswerTo order.now texts.now) progress order.now
-        (record { readings = None; out = W.contents out.old; err = E.contents err.old })
-        (record { readings = None; out = W.contents out.new; err = E.contents err.new }) result }
-    ensures no_usage { result ≢ 2 }
+) -> Exit
+    ensures reported { Writes W.contents E.contents (Answered (IsAnswerTo order.now texts.now) progress order.now)
+        out.old out.new err.old err.new result }
+    ensures no_usage { result.status ≢ 2 }
 {
     match carry_out(alloc, order, texts, progress, out, err) {
         Ok(outcome) => report_outcome(err, outcome),
@@ -136,19 +187,19 @@ fn answer_read<W: Write, E: Write>(
     }
 }
 
-/// Writes what is printed with an answer, or a prefix of it if the writer fails, and returns the exit status.
-/// Allocates no memory.
-pub(crate) fn report_outcome<E: Write>(err: &mut E, outcome: Outcome) -> u8
-    ensures status { result ≡ status_of_outcome outcome }
-    ensures reported { AppendsPrefix (E.contents err.old) (E.contents err.new) (outcome_text outcome) }
+/// Writes what is printed with an answer, or a prefix of it if the writer fails, and returns the exit. Allocates
+/// no memory.
+pub(crate) fn report_outcome<E: Write>(err: &mut E, outcome: Outcome) -> Exit
+    ensures status { result.status ≡ status_of_outcome outcome }
+    ensures reported { IsWritten (E.contents err.old) (E.contents err.new) (outcome_text outcome) result.written }
 {
     match outcome {
-        Outcome::Done => DONE,
-        Outcome::Counted(counts) => {
-            let _ = write_counts_line(err, counts);
-            DONE
-        }
-        Outcome::Differing => DIFFERENT,
+        Outcome::Done => Exit::silent(DONE),
+        Outcome::Counted(counts) => Exit {
+            status: DONE,
+            written: write_counts_line(err, counts),
+        },
+        Outcome::Differing => Exit::silent(DIFFERENT),
     }
 }
 
@@ -156,7 +207,7 @@ pub(crate) fn report_outcome<E: Write>(err: &mut E, outcome: Outcome) -> u8
 ///
 /// # Errors
 /// `Write` or `WroteNothing`; a prefix of the line has then been written.
-pub fn write_counts_line<E: Write>(err: &mut E, counts: Counts) -> Result<(), DumpFault>
+fn write_counts_line<E: Write>(err: &mut E, counts: Counts) -> Result<(), DumpFault>
     ensures ok { OnOk result (Appends (E.contents err.old) (E.contents err.new) (counts_line counts)) }
     ensures err { OnErr result (AppendsPrefix (E.contents err.old) (E.contents err.new) (counts_line counts)) }
     ensures fault { IfErr result IsFailedWrite }
@@ -200,17 +251,17 @@ fn write_numbers<'a, E: Write>(
     write_pieces(err, &pieces)
 }
 
-/// Writes the explanations of the faults with this name, and flushes once; returns the exit status.
+/// Writes the explanations of the faults with this name, and flushes once; returns the exit.
 fn print_fault<W: Write, E: Write>(
     alloc: Global,
     tables: &[Table],
     name: &str,
     out: &mut W,
     err: &mut E,
-) -> u8
+) -> Exit
     ensures reported { TextMade (explained tables.now name.now) (W.contents out.old) (W.contents out.new)
         (E.contents err.old) (E.contents err.new) result }
-    ensures no_usage { result ≢ 2 }
+    ensures no_usage { result.status ≢ 2 }
 {
     match explanation_text(alloc, tables, name) {
         Ok(text) => give_text(text.as_str(), out, err),
@@ -218,11 +269,16 @@ fn print_fault<W: Write, E: Write>(
     }
 }
 
-/// Writes the names of all faults, and flushes once; returns the exit status.
-fn print_names<W: Write, E: Write>(alloc: Global, tables: &[Table], out: &mut W, err: &mut E) -> u8
+/// Writes the names of all faults, and flushes once; returns the exit.
+fn print_names<W: Write, E: Write>(
+    alloc: Global,
+    tables: &[Table],
+    out: &mut W,
+    err: &mut E,
+) -> Exit
     ensures reported { TextMade (all_names tables.now) (W.contents out.old) (W.contents out.new)
         (E.contents err.old) (E.contents err.new) result }
-    ensures no_usage { result ≢ 2 }
+    ensures no_usage { result.status ≢ 2 }
 {
     match names_text(alloc, tables) {
         Ok(text) => give_text(text.as_str(), out, err),
@@ -230,29 +286,29 @@ fn print_names<W: Write, E: Write>(alloc: Global, tables: &[Table], out: &mut W,
     }
 }
 
-/// Writes the help, or what is wrong with the arguments; returns the exit status.
-fn explain<W: Write, E: Write>(no_order: NoOrder, out: &mut W, err: &mut E) -> u8
+/// Writes the help, or what is wrong with the arguments; returns the exit.
+fn explain<W: Write, E: Write>(no_order: NoOrder, out: &mut W, err: &mut E) -> Exit
     ensures { Explains (W.contents out.old) (W.contents out.new)
         (E.contents err.old) (E.contents err.new) no_order result }
 {
     match no_order {
         NoOrder::Help(text) => give_text(text.as_str(), out, err),
-        NoOrder::Usage(text) => {
-            let _ = write_all_bytes(err, text.as_str().as_bytes());
-            WRONG_WORDS
-        }
+        NoOrder::Usage(text) => Exit {
+            status: WRONG_WORDS,
+            written: write_all_bytes(err, text.as_str().as_bytes()),
+        },
         NoOrder::Memory => report(err, ProgramFault::Memory, SECTIONS),
     }
 }
 
-/// Writes a requested text, and flushes once; returns the exit status.
-pub(crate) fn give_text<W: Write, E: Write>(text: &str, out: &mut W, err: &mut E) -> u8
+/// Writes a requested text, and flushes once; returns the exit.
+pub(crate) fn give_text<W: Write, E: Write>(text: &str, out: &mut W, err: &mut E) -> Exit
     ensures given { TextGiven text.now (W.contents out.old) (W.contents out.new)
         (E.contents err.old) (E.contents err.new) result }
-    ensures no_usage { result ≢ 2 }
+    ensures no_usage { result.status ≢ 2 }
 {
     match write_text(out, text.as_bytes()) {
-        Ok(()) => DONE,
+        Ok(()) => Exit::silent(DONE),
         Err(fault) => report(err, fault, SECTIONS),
     }
 }

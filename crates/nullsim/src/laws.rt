@@ -4,7 +4,7 @@ ghost use Rattle.vcd_dump.specs.declared.unit.TimeUnit.{TimeUnit};
 ghost use Rattle.vcd_dump.specs.Dump.{heading, line};
 ghost use Rattle.nullsim.specs.Version.{version};
 
-pub use runs::laws::isolation;
+pub use kernel_runs::laws::isolation;
 
 /// The first line of each dump has the program's version.
 pub fn dumps_print_the_version()

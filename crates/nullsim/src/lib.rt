@@ -7,23 +7,29 @@ pub mod laws;
 mod names;
 mod notes;
 mod numbers;
+mod parts;
 mod reasons;
 mod verbose;
 mod version;
-mod words;
 
-pub use circuit_texts::{cone_text, info};
-pub use command_line::{Asked, NoOrder};
-pub use commander::{answer_order, command, write_counts_line};
-pub use deck_text::{DeckTextFault, Sections, read_sections};
-pub use decks::{DeckFault, answer_deck, deck, tell};
-pub use orders::{Order, OrderTexts, PickOptions, SourceOptions, SourceTexts, Texts};
+pub use circuit_info::info;
+pub use command_line::{
+    Asked, NoOrder, Order, PickOptions, ReadTexts, SourceOptions, asked_by_words,
+};
+pub use commander::{answer_order, command};
+pub use fanin_cone::{ConeTextFault, cone_text};
+pub use kernel_runs::{
+    CheckAnswer, DiffAnswer, DiffFault, DiffTicks, Report, Side, TwinAnswer, TwinFault, check,
+    diff, simulate, simulate_with_progress, twin,
+};
 pub use plain_runs::{DiagramFault, DiagramView, diagram, plain, plain_with_progress};
-pub use prepared_runs::{DumpView, Picks, Selection, Show, SimFault, Source, View};
-pub use program_io::{Outcome, ProgramFault, ReadFault, read_text};
-pub use run_pairs::{DiffAnswer, DiffFault, DiffTicks, Side, TwinAnswer, TwinFault, diff, twin};
-pub use run_progress::{Progress, Silent};
-pub use runs::{CheckAnswer, Report, check, simulate, simulate_with_progress};
+pub use prepared_runs::{
+    DeckFault, DumpView, Picks, Progress, RunTexts, Sections, Selection, Show, Silent, SimFault,
+    Source, View, read_sections,
+};
+pub use program_io::{
+    OrderTexts, Outcome, ProgramFault, ReadFault, Texts, answer_deck, deck, read_text, read_texts,
+    tell, write_answer,
+};
 pub use vcd_dump::TimeUnit;
 pub use verbose::answer_verbosely;
-pub use words::asked_by_words;

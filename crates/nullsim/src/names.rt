@@ -2,17 +2,16 @@
 ghost use Rattle.std.specs.Prelude.{◌≡◌, option_and_then, option_map, IfOk};
 ghost use Rattle.std.specs.List.{find};
 ghost use Rattle.netlist.specs.Names.{seen_names};
-ghost use Rattle.nullsim.specs.AtFault.{first_in_neither, in_neither, input_driven, name_at_fault, name_in_run, names_asked, names_shown, netlist_in, place_of_drive, unknown_asked};
+ghost use Rattle.nullsim.specs.AtFault.{first_in_neither, in_neither, input_driven, name_at_fault, name_in_run, netlist_in, place_of_drive, unknown_asked};
 
 use bench_text::{BenchFault, read};
+use command_line::Order;
 use drawn_stimuli::DriveFault;
 use netlist::Netlist;
-use orders::{Order, OrderTexts};
-use prepared_runs::{Selection, SimFault};
-use program_io::ProgramFault;
-use run_pairs::Side;
+use prepared_runs::SimFault;
+use program_io::{OrderTexts, ProgramFault};
 use std::alloc::{AllocError, Global};
-use std::slice::from_ref;
+use wave_diff::Side;
 
 /// Returns the name at fault, if an argument gave it: the first name that no net of the circuit has (for
 /// `diff`, of either circuit), if the circuit's text is accepted; or the name of the input whose drive is
@@ -65,13 +64,13 @@ fn unknown_asked<'o>(
 {
     match order {
         Order::Diff { names, .. } => {
-            let one = netlist_in(alloc, texts.on(Side::First).bench())?;
-            let other = netlist_in(alloc, texts.on(Side::Second).bench())?;
+            let one = netlist_in(alloc, texts.first.bench.as_slice())?;
+            let other = netlist_in(alloc, texts.second.bench.as_slice())?;
             Ok(first_in_neither(names.as_slice(), &one, &other))
         }
         _ => {
-            let netlist = netlist_in(alloc, texts.on(side).bench())?;
-            Ok(first_in_neither(names_asked(order), &netlist, &netlist))
+            let netlist = netlist_in(alloc, texts.on(side).bench.as_slice())?;
+            Ok(first_in_neither(order.names(), &netlist, &netlist))
         }
     }
 }
@@ -105,31 +104,6 @@ fn first_unknown<'a>(names: &[&'a [u8]], one: &Netlist, other: &Netlist) -> Opti
     ensures { option_map (λ name. name.now) result ≡ find (in_neither one.now other.now) (seen_names names.now) }
 {
     names.iter().copied().find(|name| one.find(name).is_none() && other.find(name).is_none())
-}
-
-/// Returns the nets that an order names.
-fn names_asked<'o, 'a>(order: &'o Order<'a>) -> &'o [&'a [u8]]
-    ensures { seen_names result.now ≡ names_asked order.now }
-{
-    match order {
-        Order::Run { view, .. } => names_shown(&view.show),
-        Order::Plain { view, .. } => names_shown(&view.show),
-        Order::Draw { view, .. } => names_shown(&view.show),
-        Order::Why { net, .. } => from_ref(net),
-        Order::Cone { names, .. } => names.as_slice(),
-        Order::Diff { names, .. } => names.as_slice(),
-        Order::Twin { net, .. } => from_ref(net),
-        _ => &[],
-    }
-}
-
-fn names_shown<'o, 'a>(show: &'o Selection<'a>) -> &'o [&'a [u8]]
-    ensures { seen_names result.now ≡ names_shown show.now }
-{
-    match show {
-        Selection::Named(names) => names.as_slice(),
-        Selection::All | Selection::Outputs => &[],
-    }
 }
 
 /// Returns the place of the drive at fault.

@@ -1,16 +1,15 @@
 //! The number at fault among the arguments.
 ghost use Rattle.std.specs.Prelude.{◌≡◌, option_map};
-ghost use Rattle.nullsim.specs.AtFault.{diagram_in, draws_in, last_tick, number_at_fault, number_in_run, number_of_columns, number_of_draws, number_of_setting, number_of_ticks, options_on, ticks_in};
+ghost use Rattle.nullsim.specs.AtFault.{diagram_in, draws_in, number_at_fault, number_in_run, number_of_columns, number_of_draws, number_of_setting, number_of_ticks, ticks_in};
 
+use command_line::Order;
 use drawn_stimuli::{Draws, DriveFault};
-use orders::{Order, SourceOptions};
 use plain_runs::DiagramView;
 use prepared_runs::SimFault;
 use program_io::ProgramFault;
-use run_pairs::{DiffTicks, Side};
 use timing_diagram::ColumnsFault;
 use timing_text::OptionFault;
-use wave_diff::ComparedFault;
+use wave_diff::{ComparedFault, DiffTicks, Side};
 
 /// Returns the number at fault, if an argument gave it.
 pub(crate) fn number_at_fault(order: &Order<'_>, fault: ProgramFault<'_>) -> Option<u64>
@@ -38,9 +37,9 @@ fn number_of_setting(order: &Order<'_>, side: Side, fault: OptionFault) -> Optio
     ensures { result ≡ number_of_setting order.now side fault }
 {
     match fault {
-        OptionFault::BadDelay => Some(options_on(order, side)?.delay),
-        OptionFault::BadPeriod => Some(options_on(order, side)?.period),
-        OptionFault::BadHorizon => last_tick(order),
+        OptionFault::BadDelay => Some(order.options(side)?.delay),
+        OptionFault::BadPeriod => Some(order.options(side)?.period),
+        OptionFault::BadHorizon => order.last_tick(),
     }
 }
 
@@ -69,43 +68,6 @@ fn number_of_draws(fault: DriveFault, draws: Draws) -> Option<u64>
     match fault {
         DriveFault::BadEvery => Some(draws.every),
         _ => None,
-    }
-}
-
-/// Returns the options of an order's run on a side.
-fn options_on<'o, 'a>(order: &'o Order<'a>, side: Side) -> Option<SourceOptions<'a>>
-    ensures { result ≡ options_on order.now side }
-{
-    match (order, side) {
-        (Order::Run { source, .. }, _) => Some(*source),
-        (Order::Plain { source, .. }, _) => Some(*source),
-        (Order::Draw { source, .. }, _) => Some(*source),
-        (Order::Trace { source, .. }, _) => Some(*source),
-        (Order::Why { source, .. }, _) => Some(*source),
-        (Order::Check { source, .. }, _) => Some(*source),
-        (Order::Diff { first, .. }, Side::First) => Some(*first),
-        (Order::Diff { second, .. }, Side::Second) => Some(*second),
-        (Order::Twin { first, .. }, Side::First) => Some(*first),
-        (Order::Twin { second, .. }, Side::Second) => Some(*second),
-        _ => None,
-    }
-}
-
-/// Returns the last tick that an order gives.
-fn last_tick(order: &Order<'_>) -> Option<u64>
-    ensures { result ≡ last_tick order.now }
-{
-    match order {
-        Order::Run { view, .. } => Some(view.horizon),
-        Order::Plain { view, .. } => Some(view.horizon),
-        Order::Draw { view, .. } => Some(view.horizon),
-        Order::Trace { horizon, .. } => Some(*horizon),
-        Order::Why { tick, .. } => Some(*tick),
-        Order::Check { horizon, .. } => Some(*horizon),
-        Order::Diff { ticks, .. } => Some(ticks.horizon),
-        Order::Twin { horizon, .. } => Some(*horizon),
-        Order::Stimuli { horizon, .. } => Some(*horizon),
-        Order::Info { .. } | Order::Cone { .. } => None,
     }
 }
 

@@ -1,5 +1,5 @@
 //! The system's message on a write that failed.
-ghost use Rattle.std.specs.Prelude.{◌≡◌, None};
+ghost use Rattle.std.specs.Prelude.{◌≡◌, None, Some, IfErr, OnOk};
 ghost use Rattle.std.specs.Io.{WritesAtMost};
 ghost use Rattle.std.specs.Io.KnownBytes.{Keeps, WriteAppends};
 
@@ -7,36 +7,42 @@ use std::alloc::Global;
 use std::io::{self, Error, Write};
 use std::marker::{Brand, PhantomData};
 
-/// A writer that passes everything on to a borrowed writer and keeps the system's message on each failure, such
-/// as `No space left on device (os error 28)`, unless an allocation for it fails.
+/// Returns the system's message on a failure, such as `No space left on device (os error 28)`, or `None` if there
+/// is no failure or an allocation fails.
+pub(crate) fn said_of(alloc: Global, failed: Option<Error>) -> Option<String>
+    ensures { failed ≡ None → result ≡ None }
+{
+    let error = failed?;
+    format!(in alloc; "{error}").ok()
+}
+
+/// A writer that passes everything on to a borrowed writer and keeps the last failure.
 #[derive(Drop)]
 pub(crate) struct WithReason<'w, W> {
-    alloc: Global,
     beneath: &'w mut W,
-    said: Option<String>,
+    failed: Option<Error>,
 }
 
 impl<'w, W: Write> WithReason<'w, W> {
     /// Returns a writer over the borrowed one, without a failure so far.
-    pub(crate) fn new(alloc: Global, beneath: &'w mut W) -> WithReason<'w, W>
+    pub(crate) fn new(beneath: &'w mut W) -> WithReason<'w, W>
         ensures same_writer { result.beneath.ghost_name ≡ beneath.entry.ghost_name }
         ensures bytes { result.beneath.now ≡ beneath.old }
-        ensures said { result.said ≡ None }
+        ensures failed { result.failed ≡ None }
     {
         WithReason {
-            alloc,
             beneath,
-            said: None,
+            failed: None,
         }
     }
 
-    /// Returns the borrowed writer, and the system's message on the last failure, if any.
-    pub(crate) fn end(self) -> (&'w mut W, Option<String>)
+    /// Returns the borrowed writer, and the last failure, if any.
+    pub(crate) fn end(self) -> (&'w mut W, Option<Error>)
         ensures same_writer { result.0.ghost_name ≡ self.entry.beneath.ghost_name }
         ensures bytes { result.0.now ≡ self.entry.beneath.now }
-        ensures said { result.1 ≡ self.entry.said }
+        ensures failed { result.1 ≡ self.entry.failed }
     {
-        (self.beneath, self.said)
+        (self.beneath, self.failed)
     }
 
     fn write_beneath(&mut self, buf: &[u8]) -> io::Result<usize>
@@ -44,6 +50,8 @@ impl<'w, W: Write> WithReason<'w, W> {
         ensures bound { WritesAtMost result buf.now }
         ensures bytes { WriteAppends (W.contents self.old.beneath.now) (W.contents self.new.beneath.now)
             result buf.now }
+        ensures ok { OnOk result (self.new.failed ≡ self.old.failed) }
+        ensures err { IfErr result (λ error. self.new.failed ≡ Some error) }
     {
         match self.beneath.write(buf) {
             Ok(n) => Ok(n),
@@ -54,6 +62,8 @@ impl<'w, W: Write> WithReason<'w, W> {
     fn flush_beneath(&mut self) -> io::Result<()>
         ensures same_writer { self.new.beneath.ghost_name ≡ self.old.beneath.ghost_name }
         ensures bytes { Keeps (W.contents self.old.beneath.now) (W.contents self.new.beneath.now) }
+        ensures ok { OnOk result (self.new.failed ≡ self.old.failed) }
+        ensures err { IfErr result (λ error. self.new.failed ≡ Some error) }
     {
         match self.beneath.flush() {
             Ok(()) => Ok(()),
@@ -61,13 +71,14 @@ impl<'w, W: Write> WithReason<'w, W> {
         }
     }
 
-    /// Keeps the system's message on a failure, and returns the failure.
+    /// Keeps a failure in place of the one before, and returns it.
     fn heard(&mut self, error: Error) -> Error
         ensures same_writer { self.new.beneath.ghost_name ≡ self.old.beneath.ghost_name }
         ensures bytes { self.new.beneath.now ≡ self.old.beneath.now }
+        ensures failed { self.new.failed ≡ Some error }
         ensures same { result ≡ error }
     {
-        self.said = format!(in self.alloc; "{error}").ok();
+        self.failed = Some(error);
         error
     }
 }

@@ -1,28 +1,31 @@
 //! An order whose fault is explained.
-ghost use Rattle.std.specs.Prelude.{◌≡◌, ◌≢◌, None, option_and_then, option_map, IfOk};
-ghost use Rattle.vcd_dump.specs.Bytes.{AppendsPrefix};
+ghost use Rattle.std.specs.Prelude.{◌≡◌, ◌≢◌, option_and_then, IfOk};
+ghost use Rattle.program_io.specs.Report.{IsWritten, WithStatus};
 ghost use Rattle.nullsim.specs.AtFault.{name_at_fault};
-ghost use Rattle.nullsim.specs.Progress.{AnsweredVerbosely, OrderReportedVerbosely};
-ghost use Rattle.nullsim.specs.Verbose.{ReportsVerbosely, explanation, reason_of, subject_of, subject_of_run, text_at_fault, text_in_run};
+ghost use Rattle.nullsim.specs.Ends.{EndsBy, Writes};
+ghost use Rattle.nullsim.specs.Progress.{AnsweredVerbosely, OrderExplained};
+ghost use Rattle.nullsim.specs.Verbose.{ReportsVerbosely, explanation, if_given, reason_of, subject_of, subject_of_run, text_at_fault, text_in_run};
 
 use crate::carrying::carry_out_heard;
 use crate::names::name_at_fault;
 use crate::notes::report_noted;
 use crate::numbers::number_at_fault;
+use crate::parts::followed;
+use crate::reasons::said_of;
+use command_line::{Order, ReadTexts};
 use explanations::{AtHand, Subject, Table, fault_text};
-use orders::{Order, OrderTexts, SourceTexts, Texts};
 use prepared_runs::SimFault;
-use program_io::{ProgramFault, report};
+use program_io::{Exit, OrderTexts, ProgramFault, Texts, read_texts, report};
 use std::alloc::{AllocError, Global};
 use std::io::Write;
-use vcd_dump::write_all_bytes;
+use vcd_dump::{DumpFault, write_all_bytes};
 
 /// Carries out an order and returns the exit status, as [`answer_order`](crate::answer_order) does.
 ///
 /// An explanation follows the line of a fault on `err`: the line of the text and the word at fault, the name or
 /// the number at fault in the order, the system's message on a failed read, as the texts know it, or on a
 /// failed write, the meaning, and what is needed instead. Without a fault, the notes on the run are written
-/// there, as [`notes_text`](run_notes::notes_text) returns them. If an allocation for either fails, it is left
+/// there, as [`notes_text`](plain_runs::notes_text) returns them. If an allocation for either fails, it is left
 /// out.
 pub fn answer_verbosely<T: Texts, W: Write, E: Write>(
     alloc: Global,
@@ -33,12 +36,28 @@ pub fn answer_verbosely<T: Texts, W: Write, E: Write>(
     out: &mut W,
     err: &mut E,
 ) -> u8
-    ensures reported { OrderReportedVerbosely progress tables.now (T.said texts.new) (T.known texts.old) order.now
-        (record { readings = T.readings texts.old; out = W.contents out.old; err = E.contents err.old })
-        (record { readings = T.readings texts.new; out = W.contents out.new; err = E.contents err.new }) result }
+    ensures reported { WithStatus result (EndsBy T.known T.said T.readings W.contents E.contents
+        (OrderExplained progress tables.now order.now) texts.old texts.new out.old out.new err.old err.new) }
     ensures no_usage { result ≢ 2 }
 {
-    match order.read(alloc, texts) {
+    exit_verbosely(alloc, order, tables, progress, texts, out, err).status
+}
+
+/// Does the same, and returns whether what is printed on `err` was written too.
+pub(crate) fn exit_verbosely<T: Texts, W: Write, E: Write>(
+    alloc: Global,
+    order: &Order<'_>,
+    tables: &[Table],
+    progress: bool,
+    texts: &mut T,
+    out: &mut W,
+    err: &mut E,
+) -> Exit
+    ensures reported { EndsBy T.known T.said T.readings W.contents E.contents
+        (OrderExplained progress tables.now order.now) texts.old texts.new out.old out.new err.old err.new result }
+    ensures no_usage { result.status ≢ 2 }
+{
+    match read_texts(alloc, order, texts) {
         Ok(read) => answer_read(alloc, order, tables, progress, &read, out, err),
         Err(fault) => report_verbosely(alloc, tables, order, fault, None, texts.reason(), err),
     }
@@ -53,16 +72,16 @@ fn answer_read<W: Write, E: Write>(
     texts: &OrderTexts,
     out: &mut W,
     err: &mut E,
-) -> u8
-    ensures reported { AnsweredVerbosely tables.now texts.now progress order.now
-        (record { readings = None; out = W.contents out.old; err = E.contents err.old })
-        (record { readings = None; out = W.contents out.new; err = E.contents err.new }) result }
-    ensures no_usage { result ≢ 2 }
+) -> Exit
+    ensures reported { Writes W.contents E.contents (AnsweredVerbosely tables.now texts.now progress order.now)
+        out.old out.new err.old err.new result }
+    ensures no_usage { result.status ≢ 2 }
 {
-    let (carried, said) = carry_out_heard(alloc, order, texts, progress, out, err);
+    let (carried, failed) = carry_out_heard(alloc, order, texts, progress, out, err);
     match carried {
         Ok(outcome) => report_noted(alloc, order, texts, outcome, err),
         Err(fault) => {
+            let said = said_of(alloc, failed);
             let said = said.as_ref().map(|said| said.as_bytes());
             report_verbosely(alloc, tables, order, fault, Some(texts), said, err)
         }
@@ -70,7 +89,7 @@ fn answer_read<W: Write, E: Write>(
 }
 
 /// Writes the line of an order's fault, followed by its explanation from the texts that were read and the
-/// system's message; returns the exit status.
+/// system's message; returns the exit.
 fn report_verbosely<E: Write>(
     alloc: Global,
     tables: &[Table],
@@ -79,18 +98,20 @@ fn report_verbosely<E: Write>(
     texts: Option<&OrderTexts>,
     said: Option<&[u8]>,
     err: &mut E,
-) -> u8
-    ensures reported { ReportsVerbosely tables.now (option_map (λ texts. texts.now) texts.entry) order.now fault.entry
-        (E.contents err.old) (E.contents err.new) result (option_map (λ said. said.now) said.entry) }
-    ensures no_usage { result ≢ 2 }
+) -> Exit
+    ensures reported { ReportsVerbosely tables.now (if_given texts.entry) order.now fault.entry
+        (E.contents err.old) (E.contents err.new) result (if_given said.entry) }
+    ensures no_usage { result.status ≢ 2 }
 {
-    let status = report(err, fault, order.text_names(fault.side()));
-    explain_fault(alloc, tables, order, fault, texts, said, err);
-    status
+    let reported = report(err, fault, order.text_names(fault.side()));
+    let explained = explain_fault(alloc, tables, order, fault, texts, said, err);
+    followed(reported, explained)
 }
 
-/// Writes the explanation of an order's fault, or a prefix of it if the writer fails; nothing if an allocation
-/// fails.
+/// Writes the explanation of an order's fault.
+///
+/// # Errors
+/// `Write` or `WroteNothing`, after a prefix of the explanation; `Memory` if an allocation fails, before any.
 fn explain_fault<E: Write>(
     alloc: Global,
     tables: &[Table],
@@ -99,15 +120,13 @@ fn explain_fault<E: Write>(
     texts: Option<&OrderTexts>,
     said: Option<&[u8]>,
     err: &mut E,
-)
-    ensures { AppendsPrefix (E.contents err.old) (E.contents err.new) (explanation tables.now
-        (record { texts = option_map (λ texts. texts.now) texts.entry; said = option_map (λ said. said.now) said.entry })
-        order.now fault.entry) }
+) -> Result<(), DumpFault>
+    ensures { IsWritten (E.contents err.old) (E.contents err.new) (explanation tables.now
+        (record { texts = if_given texts.entry; said = if_given said.entry })
+        order.now fault.entry) result }
 {
-    match explanation(alloc, tables, order, fault, texts, said) {
-        Ok(text) => print_text(err, text.as_slice()),
-        Err(_) => {}
-    }
+    let text = explanation(alloc, tables, order, fault, texts, said)?;
+    write_all_bytes(err, text.as_slice())
 }
 
 /// Returns the explanation of an order's fault.
@@ -120,7 +139,7 @@ fn explanation<'a>(
     said: Option<&'a [u8]>,
 ) -> Result<Vec<u8>, AllocError>
     ensures { IfOk result (λ text. text.items ≡ explanation tables.now
-        (record { texts = option_map (λ texts. texts.now) texts.entry; said = option_map (λ said. said.now) said.entry })
+        (record { texts = if_given texts.entry; said = if_given said.entry })
         order.now fault.entry) }
 {
     let at_hand = AtHand {
@@ -137,14 +156,14 @@ fn explanation<'a>(
 
 /// Returns the text at fault, if the texts were read.
 fn text_if_read<'a>(fault: ProgramFault<'_>, texts: Option<&'a OrderTexts>) -> Option<&'a [u8]>
-    ensures { option_map (λ text. text.now) result
-        ≡ option_and_then (text_at_fault fault.entry) (option_map (λ texts. texts.now) texts.entry) }
+    ensures { if_given result
+        ≡ option_and_then (text_at_fault fault.entry) (if_given texts.entry) }
 {
     text_at_fault(fault, texts?)
 }
 
 fn text_at_fault<'a>(fault: ProgramFault<'_>, texts: &'a OrderTexts) -> Option<&'a [u8]>
-    ensures { option_map (λ text. text.now) result ≡ text_at_fault fault.entry texts.now }
+    ensures { if_given result ≡ text_at_fault fault.entry texts.now }
 {
     match fault {
         ProgramFault::Run { side, fault } => text_in_run(fault, texts.on(side)),
@@ -152,14 +171,14 @@ fn text_at_fault<'a>(fault: ProgramFault<'_>, texts: &'a OrderTexts) -> Option<&
     }
 }
 
-fn text_in_run(fault: SimFault, texts: &SourceTexts) -> Option<&[u8]>
-    ensures { option_map (λ text. text.now) result ≡ text_in_run texts.now fault }
+fn text_in_run(fault: SimFault, texts: &ReadTexts) -> Option<&[u8]>
+    ensures { if_given result ≡ text_in_run texts.now fault }
 {
     match fault {
-        SimFault::Bench(_) => Some(texts.bench()),
-        SimFault::Timing(_) => Some(texts.delays()),
-        SimFault::Stimulus(_) => Some(texts.stimuli()),
-        SimFault::Schedule(_) => Some(texts.schedule()),
+        SimFault::Bench(_) => Some(texts.bench.as_slice()),
+        SimFault::Timing(_) => Some(texts.delays.as_slice()),
+        SimFault::Stimulus(_) => Some(texts.stimuli.as_slice()),
+        SimFault::Schedule(_) => Some(texts.schedule.as_slice()),
         _ => None,
     }
 }
@@ -171,8 +190,8 @@ fn name_if_read<'o>(
     fault: ProgramFault<'_>,
     texts: Option<&OrderTexts>,
 ) -> Result<Option<&'o [u8]>, AllocError>
-    ensures { IfOk result (λ name. option_map (λ name. name.now) name
-        ≡ option_and_then (name_at_fault order.now fault.entry) (option_map (λ texts. texts.now) texts.entry)) }
+    ensures { IfOk result (λ name. if_given name
+        ≡ option_and_then (name_at_fault order.now fault.entry) (if_given texts.entry)) }
 {
     match texts {
         Some(texts) => name_at_fault(alloc, order, fault, texts),
@@ -182,7 +201,7 @@ fn name_if_read<'o>(
 
 /// Returns the system's message on a fault, if any.
 fn reason_of<'a>(fault: ProgramFault<'_>, said: Option<&'a [u8]>) -> Option<&'a [u8]>
-    ensures { option_map (λ reason. reason.now) result ≡ reason_of (option_map (λ said. said.now) said.entry) fault.entry }
+    ensures { if_given result ≡ reason_of (if_given said.entry) fault.entry }
 {
     match fault {
         ProgramFault::Read(_) | ProgramFault::Output(_) | ProgramFault::Flush => said,
@@ -193,12 +212,6 @@ fn reason_of<'a>(fault: ProgramFault<'_>, said: Option<&'a [u8]>) -> Option<&'a 
         | ProgramFault::Compared(_)
         | ProgramFault::Memory => None,
     }
-}
-
-pub(crate) fn print_text<E: Write>(err: &mut E, text: &[u8])
-    ensures { AppendsPrefix (E.contents err.old) (E.contents err.new) text.now }
-{
-    let _ = write_all_bytes(err, text);
 }
 
 /// Returns the subject of a fault.

@@ -4,6 +4,7 @@ ghost use Rattle.nullsim.specs.Command.{TextGiven};
 ghost use Rattle.nullsim.specs.Version.{asks_for_version, has_version_word, version_line};
 
 use crate::commander::give_text;
+use program_io::Exit;
 use std::io::Write;
 
 /// The line with the version that each dump has in its `$version`.
@@ -24,8 +25,8 @@ fn has_version_word(words: &[String]) -> bool
         .any(|word| matches!(word.as_str(), "--version" | "-V"))
 }
 
-/// Writes the version; returns the exit status.
-pub(crate) fn give_version<W: Write, E: Write>(out: &mut W, err: &mut E) -> u8
+/// Writes the version; returns the exit.
+pub(crate) fn give_version<W: Write, E: Write>(out: &mut W, err: &mut E) -> Exit
     ensures { TextGiven version_line (W.contents out.old) (W.contents out.new)
         (E.contents err.old) (E.contents err.new) result }
 {

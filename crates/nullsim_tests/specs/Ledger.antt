@@ -3,7 +3,7 @@ use Rattle.std.specs.Prelude.{ℕ, map, option_map, Option}
 use Rattle.std.specs.declared.vec.Vec.{Vec}
 use Rattle.std.specs.declared.alloc.Global.{Global}
 use Rattle.program_io.specs.declared.input.ReadFault.{ReadFault}
-use Rattle.orders.specs.Readings.{KnownReadings, Reading}
+use Rattle.program_io.specs.Readings.{KnownReadings, Reading}
 
 -- a name, and why its text couldn't be read, if it couldn't
 abbrev pub Note : Type 0

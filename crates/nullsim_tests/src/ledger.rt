@@ -1,6 +1,6 @@
 //! The files that an order reads, in sequence: texts that record the requests to them.
 ghost use Rattle.std.specs.Prelude.{[], ◌∷◌};
-ghost use Rattle.orders.specs.Readings.{AddsReadings};
+ghost use Rattle.program_io.specs.Readings.{AddsReadings};
 ghost use Rattle.nullsim_tests.specs.Ledger.{seen_notes};
 ghost use Rattle.nullsim_tests.specs.Shelf.{text_under};
 

@@ -130,6 +130,33 @@ fn faulty_writers(rt: HostRuntime) -> Result<(), Fail> {
     Ok(())
 }
 
+// The other commands, with texts that are shorter than the room for them.
+static OTHERS: [&str; 8] = [
+    "draw --bench inv.bench --stimuli inv.stim --horizon 5",
+    "trace --bench inv.bench --stimuli inv.stim --horizon 5",
+    "why --bench inv.bench --stimuli inv.stim --net y --at 5",
+    "stimuli --bench inv.bench --horizon 5",
+    "info --bench inv.bench",
+    "diff --first inv.bench --second inv.bench --horizon 5",
+    "explain BadLine",
+    "explain",
+];
+
+// Each flushes its text once, and reports a flush that fails.
+#[test]
+fn other_commands_flush(rt: HostRuntime) -> Result<(), Fail> {
+    for &line in &OTHERS {
+        for (flush_fails, status, message) in [(false, 0, ""), (true, 3, NOT_WRITTEN)] {
+            let mut out = Narrow::new(rt.alloc(), 9999, 999);
+            out.flush_fails = flush_fails;
+            let mut err = Narrow::new(rt.alloc(), 99, 99);
+            ends(&rt, rt.alloc(), line, &mut out, &mut err, status, message)?;
+            assert_eq!(rt; out.flushes, 1, "at {line}");
+        }
+    }
+    Ok(())
+}
+
 // Each command, and the number of its writes.
 static CALLS: [(Line, u32); 6] = [
     (PLAIN, 3),

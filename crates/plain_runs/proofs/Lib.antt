@@ -1,2 +1,6 @@
+mod Answer
 mod Causes
 mod Diagrams
+mod Listed
+mod Tested
+mod Throughout

@@ -12,8 +12,7 @@ ghost use Rattle.prepared_runs.specs.declared.fault.SimFault.TheVariants.{Memory
 use crate::diagram_fault::DiagramFault;
 use crate::plain_run::shown_waves;
 use design::Design;
-use prepared_runs::{Selection, SimFault, Source, prepare, shown_nets};
-use run_progress::Silent;
+use prepared_runs::{Selection, Silent, SimFault, Source, prepare, shown_nets};
 use std::alloc::Global;
 use std::io::Write;
 use timing_diagram::{Columns, Form, draw};

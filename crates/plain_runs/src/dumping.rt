@@ -7,9 +7,7 @@ ghost use Rattle.prepared_runs.specs.Ends.{BreaksOff};
 ghost use Rattle.prepared_runs.specs.Shown.{waves_up_to};
 
 use design::Design;
-use fanin_cone::net_numbers;
 use logic3::Waveform;
-use netlist::without_repeats;
 use prepared_runs::{DumpView, SimFault};
 use std::alloc::Global;
 use std::io::Write;

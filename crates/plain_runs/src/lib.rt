@@ -1,13 +1,18 @@
-//! Runs by the plain engine: their dumps, timing diagrams, and causes of values.
+//! Runs by the plain engine: their dumps, timing diagrams, causes of values, and notes on them.
 #![tactic(auto)]
 
 mod diagram_fault;
 mod diagram_run;
 mod dumping;
+pub mod laws;
+mod notes;
 mod plain_run;
+mod remark;
+mod text;
 mod why_run;
 
 pub use diagram_fault::DiagramFault;
 pub use diagram_run::{DiagramView, diagram};
+pub use notes::notes_text;
 pub use plain_run::{plain, plain_with_progress};
 pub use why_run::why;

@@ -1,13 +1,13 @@
 //! A run by the plain engine.
-ghost use Rattle.std.specs.Prelude.{◌≡◌, ◌+◌, ◌<◌, [], map, length, All, Some, IfOk, IfErr, IfSome, OnOk, IsOkAnd, Err};
+ghost use Rattle.std.specs.Prelude.{◌≡◌, ◌+◌, ◌<◌, map, length, All, IfOk, IfErr, OnOk, IsOkAnd, Err};
 ghost use Rattle.std.specs.Io.KnownBytes.{Appends};
 ghost use Rattle.design.specs.Design.{IsDesign};
 ghost use Rattle.design.specs.Equations.{waves_of};
-ghost use Rattle.run_progress.specs.Reported.{IsTickByTick, Reported};
-ghost use Rattle.prepared_runs.specs.Source.{design_of_source, dump_of_design, dump_of_source, seen_source, shown_nets, MayWantMemory};
+ghost use Rattle.prepared_runs.specs.Reported.{IsTickByTick, Reported};
+ghost use Rattle.prepared_runs.specs.Source.{dump_of_design, dump_of_source, seen_source, shown_nets, MayWantMemory};
 ghost use Rattle.prepared_runs.specs.Ends.{BreaksOff, RunEndsBy};
 ghost use Rattle.prepared_runs.specs.Shown.{wave_at, waves_up_to};
-ghost use Rattle.prepared_runs.specs.Viewed.{ShowsValues};
+ghost use Rattle.plain_runs.specs.Shows.{ShowsSource};
 ghost use Rattle.prepared_runs.specs.Views.{dump_view};
 ghost use Rattle.prepared_runs.specs.declared.fault.SimFault.TheVariants.{Memory};
 
@@ -15,8 +15,9 @@ use crate::dumping::write_dump;
 use design::Design;
 use design::plain::{advance, unknown_waves};
 use logic3::Waveform;
-use prepared_runs::{DumpView, Selection, SimFault, Source, View, prepare, shown_nets};
-use run_progress::{Progress, Silent};
+use prepared_runs::{
+    DumpView, Progress, Selection, Silent, SimFault, Source, View, prepare, shown_nets,
+};
 use std::alloc::{AllocError, Global};
 use std::io::Write;
 use timing_text::Horizon;
@@ -37,9 +38,8 @@ pub fn plain<W: Write>(
 ) -> Result<(), SimFault>
     ensures ok { OnOk result (IsOkAnd (dump_of_source (seen_source source.now) (dump_view view.now))
         (Appends (W.contents out.old) (W.contents out.new))) }
-    ensures shows { OnOk result (W.contents out.old ≡ Some [] → IfSome (W.contents out.new) (λ text.
-        IsOkAnd (design_of_source (seen_source source.now) view.now.horizon)
-        (λ ready. ShowsValues (dump_view view.now) ready.1 text))) }
+    ensures shows { OnOk result (ShowsSource (seen_source source.now) (dump_view view.now)
+        (W.contents out.old) (W.contents out.new)) }
     ensures err { IfErr result (RunEndsBy (dump_of_source (seen_source source.now) (dump_view view.now))
         (W.contents out.old) (W.contents out.new)) }
     ensures memory { result ≡ Err Memory → MayWantMemory (seen_source source.now) view.now.horizon }
@@ -62,9 +62,8 @@ pub fn plain_with_progress<W: Write, P: Progress>(
 ) -> Result<(), SimFault>
     ensures ok { OnOk result (IsOkAnd (dump_of_source (seen_source source.now) view.now)
         (Appends (W.contents out.old) (W.contents out.new))) }
-    ensures shows { OnOk result (W.contents out.old ≡ Some [] → IfSome (W.contents out.new) (λ text.
-        IsOkAnd (design_of_source (seen_source source.now) view.now.horizon)
-        (λ ready. ShowsValues view.now ready.1 text))) }
+    ensures shows { OnOk result (ShowsSource (seen_source source.now) view.now
+        (W.contents out.old) (W.contents out.new)) }
     ensures err { IfErr result (RunEndsBy (dump_of_source (seen_source source.now) view.now)
         (W.contents out.old) (W.contents out.new)) }
     ensures memory { result ≡ Err Memory → MayWantMemory (seen_source source.now) view.now.horizon }

@@ -5,3 +5,5 @@ pub use Rattle.prepared_runs.proofs.Runs.{ShowsValues-run_of_source, ready_of_ru
 pub use Rattle.prepared_runs.proofs.ShownNets.{All-before, All-shown_nets, All-within, AllPairs-shown_nets, below_circuit, few-shown_nets, map-wave_at, named, waves_of-all}
 pub use Rattle.prepared_runs.proofs.Signals.{dump_of_design-nets, dump_of_design-waves, traces-map}
 pub use Rattle.prepared_runs.proofs.Viewed.{IfSome-appended, IsReady-design_of_source, ShowsValues-design_of_source, ShowsValues-dump_of_source, name_is}
+pub use Rattle.prepared_runs.proofs.Endings.{AppendsPrefix-progress}
+pub use Rattle.prepared_runs.proofs.Reporting.{Reported-more, Reported-weaker, RisesFrom, progress-behind, progress-nothing, progress_from-nothing, reports-next, rises_last, rises_next, rises_nothing, rises_stopped, tick_by_tick-behind, tick_by_tick-nothing, tick_by_tick-stopped}

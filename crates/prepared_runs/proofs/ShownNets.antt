@@ -1,13 +1,8 @@
 -- The nets that a dump shows, and their waveforms, are such as the dump asks for; the net of a name is one.
-use Rattle.std.proofs.Common.{◌≡◌, ◌≢◌, ℕ, ◌+◌, ◌<◌, ◌≤◌, true, List, [], ◌∷◌, length, filter_map, map, get_or, Option, None, Some, Ok, All, AllPairs, Contains, refl, sym, ap, subst, ◌∙◌, arith}
+use Rattle.std.proofs.Common.{◌≡◌, ◌≢◌, ℕ, ◌+◌, ◌<◌, ◌≤◌, true, List, [], ◌∷◌, length, filter_map, map, get_or, Option, None, Some, Ok, All, AllPairs, refl, sym, ap, ◌∙◌, arith}
 use Rattle.std.specs.List.{cons_option, range_with_len}
 use Rattle.std.specs.Option.{is_none, ok_or}
 use Rattle.std.proofs.lemmas.List.Elements.{All-cons, All-head, All-nil, All-tail, All-map, Contains-get_or}
-use Rattle.std.proofs.lemmas.Bool.{eqb-true}
-use Rattle.std.proofs.lemmas.Bool.Decides.{Decides-eqb}
-use Rattle.std.proofs.lemmas.Map.Made.{IsDistinct-from_AllPairs}
-use Rattle.std.proofs.lemmas.Map.Steps.{length-le_from_distinct_below}
-use Rattle.std.proofs.lemmas.Map.Views.{Contains-from_any}
 use Rattle.std.proofs.lemmas.List.FromFn.{length-range_with_len, get_or-range_with_len, get_or-map-range_with_len}
 use Rattle.logic3.specs.declared.value.Value.{Value}
 use Rattle.logic3.specs.declared.value.Value.TheVariants.{Unknown}
@@ -23,6 +18,7 @@ use Rattle.design.specs.Equations.{value_of, waves_of}
 use Rattle.design.proofs.CallerLemmas.{length-circuit}
 use Rattle.fanin_cone.specs.Extract.{first_unknown}
 use Rattle.fanin_cone.proofs.CallerLemmas.{filter_map-known, first_unknown-known}
+use Rattle.vcd_dump.proofs.CallerLemmas.{few_below}
 use Rattle.prepared_runs.specs.declared.view.Selection.{Selection}
 use Rattle.prepared_runs.specs.declared.view.Selection.TheVariants as show
 use Rattle.prepared_runs.specs.declared.fault.SimFault.TheVariants.{UnknownNet}
@@ -78,14 +74,6 @@ pub AllPairs-shown_nets : (kind : Selection) (design : DesignView) → IsDesign 
 AllPairs-shown_nets show.All design formed = λ i j d less inside. all_apart (length design.netlist.nets) i j d less inside
 AllPairs-shown_nets show.Outputs design formed = formed.netlist.outputs_once
 AllPairs-shown_nets (show.Named names) design formed = AllPairs-distinct (filter_map (net_named design.netlist) (seen_names names.items))
-
--- nets below a number, each once, are no more
-pub few_below : (n : ℕ) (nets : List ℕ) → All (λ net. net < n) nets → AllPairs (λ (earlier later : ℕ). earlier ≢ later) nets → length nets ≤ n
-few_below n nets below apart =
-    length-le_from_distinct_below nets n (IsDistinct-from_AllPairs Decides-eqb nets apart) (λ q found. there q (Contains-from_any eqb-true q nets found))
-  where
-    there : (q : ℕ) → Contains nets q → q < n
-    there q (k, inside, is) = subst (λ net. net < n) is (below k q inside)
 
 -- no more nets are shown than there are
 pub few-shown_nets : (kind : Selection) (design : DesignView) → IsDesign design → length (shown_nets kind design.netlist) ≤ length design.circuit

@@ -27,14 +27,14 @@ use Rattle.design.specs.Equations.{value_of}
 use Rattle.timing_text.specs.Options.{options_of, horizon_of}
 use Rattle.design.proofs.CallerLemmas.{IsDesign-design_of, length-circuit}
 use Rattle.vcd_dump.specs.Traces.{name_of}
-use Rattle.vcd_dump.proofs.CallerLemmas.{shown_value-dump_text}
+use Rattle.vcd_dump.proofs.CallerLemmas.{few_below, shown_value-dump_text}
 use Rattle.prepared_runs.specs.declared.fault.SimFault.{SimFault}
 use Rattle.prepared_runs.specs.declared.fault.SimFault.TheVariants.{Setting, UnknownNet}
 use Rattle.prepared_runs.specs.declared.view.DumpView.{DumpView}
 use Rattle.prepared_runs.specs.Faults.{sim_of_bench, sim_of_build}
 use Rattle.prepared_runs.specs.Source.{SourceView, design_of_source, dump_of_source, if_known, knows_shown, or_fault, shown_nets, signals_of, dump_of_design}
 use Rattle.prepared_runs.specs.Viewed.{ShowsValues}
-use Rattle.prepared_runs.proofs.ShownNets.{few_below, All-shown_nets, AllPairs-shown_nets}
+use Rattle.prepared_runs.proofs.ShownNets.{All-shown_nets, AllPairs-shown_nets}
 
 -- ---- names of nets
 

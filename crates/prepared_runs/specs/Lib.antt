@@ -7,3 +7,10 @@ pub mod Shown
 pub mod Source
 pub mod Viewed
 pub mod Views
+pub mod Percents
+pub mod Reported
+pub mod Showing
+pub mod Deck
+pub mod DeckFaults
+pub mod Seen
+pub mod RunTexts

@@ -4,7 +4,6 @@ ghost use Rattle.prepared_runs.specs.Faults.{line_of, name_of, sim_of_bench, sim
 
 use bench_text::BenchFault;
 use cmb_events::ScheduleFault;
-use cmb_kernel::KernelFault;
 use design::BuildFault;
 use fanin_cone::ConeFault;
 use std::alloc::AllocError;
@@ -122,16 +121,6 @@ impl From<ScheduleFault> for SimFault {
             ScheduleFault::Memory => SimFault::Memory,
             other => SimFault::Schedule(other),
         }
-    }
-}
-
-/// A run's kernel can only run out of memory: a schedule doesn't have too many events, and each names a pin
-/// or a net that exists.
-impl From<KernelFault> for SimFault {
-    ghost from_gives = { λ _ e. e ≡ sim.Memory };
-
-    fn from(_fault: KernelFault) -> SimFault {
-        SimFault::Memory
     }
 }
 

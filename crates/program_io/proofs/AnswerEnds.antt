@@ -5,26 +5,29 @@ use Rattle.std.specs.Result.{result_map_both}
 use Rattle.std.proofs.KnownBytes.{Appends-kept, Keeps-refl}
 use Rattle.bench_text.specs.declared.fault.BenchFault.{BenchFault}
 use Rattle.bench_text.specs.declared.fault.BenchFault.TheVariants as bench
-use Rattle.circuit_texts.specs.declared.driven_fault.DrivenFault.{DrivenFault}
-use Rattle.circuit_texts.specs.declared.driven_fault.DrivenFault.TheVariants as driven
+use Rattle.drawn_stimuli.specs.declared.driven_fault.DrivenFault.{DrivenFault}
+use Rattle.drawn_stimuli.specs.declared.driven_fault.DrivenFault.TheVariants as driven
+use Rattle.fanin_cone.specs.declared.fault.ConeTextFault.{ConeTextFault}
+use Rattle.fanin_cone.specs.declared.fault.ConeTextFault.TheVariants as cone
 use Rattle.plain_runs.specs.declared.diagram_fault.DiagramFault.{DiagramFault}
 use Rattle.plain_runs.specs.declared.diagram_fault.DiagramFault.TheVariants as diagram
 use Rattle.plain_runs.specs.Drawn.{DiagramEndsBy}
 use Rattle.prepared_runs.specs.declared.fault.SimFault.{SimFault}
 use Rattle.prepared_runs.specs.declared.fault.SimFault.TheVariants.{Dump, Memory}
-use Rattle.runs.specs.declared.simulation.Report.{Report}
-use Rattle.run_pairs.specs.declared.diff_fault.DiffFault.{DiffFault}
-use Rattle.run_pairs.specs.declared.diff_fault.DiffFault.TheVariants as diff
-use Rattle.run_pairs.specs.declared.twin_run.Side.{Side}
-use Rattle.run_pairs.specs.declared.twin_run.Side.TheVariants.{First}
-use Rattle.run_pairs.specs.declared.twin_run.TwinFault.{TwinFault}
-use Rattle.run_pairs.specs.Diffs.{IsDiff, IsDiffRefusal, Pair, on_run}
+use Rattle.kernel_runs.specs.declared.simulation.Report.{Report}
+use Rattle.kernel_runs.specs.declared.diff_fault.DiffFault.{DiffFault}
+use Rattle.kernel_runs.specs.declared.diff_fault.DiffFault.TheVariants as diff
+use Rattle.wave_diff.specs.declared.comparison.Side.{Side}
+use Rattle.wave_diff.specs.declared.comparison.Side.TheVariants.{First}
+use Rattle.kernel_runs.specs.declared.twin_run.TwinFault.{TwinFault}
+use Rattle.kernel_runs.specs.Diffs.{IsDiff, IsDiffRefusal, Pair, on_run}
 use Rattle.prepared_runs.specs.Ends.{IsRefusal, RunEndsBy}
-use Rattle.runs.specs.declared.check_run.CheckAnswer.{CheckAnswer}
-use Rattle.run_pairs.specs.declared.twin_run.TwinAnswer.{TwinAnswer}
-use Rattle.runs.specs.Checked.{checked}
+use Rattle.prepared_runs.specs.Faults.{sim_of_bench}
+use Rattle.kernel_runs.specs.declared.check_run.CheckAnswer.{CheckAnswer}
+use Rattle.kernel_runs.specs.declared.twin_run.TwinAnswer.{TwinAnswer}
+use Rattle.kernel_runs.specs.Checked.{checked}
 use Rattle.prepared_runs.specs.Prepared.{RunView}
-use Rattle.run_pairs.specs.Twins.{IsComparison, IsTwinRefusal, Twins, on}
+use Rattle.kernel_runs.specs.Twins.{IsComparison, IsTwinRefusal, Twins, on}
 use Rattle.program_io.specs.AnswerText.{check_text, twin_text}
 use Rattle.vcd_dump.specs.declared.fault.DumpFault.{DumpFault}
 use Rattle.program_io.specs.declared.outcome.Outcome.{Outcome}
@@ -34,17 +37,10 @@ use Rattle.program_io.specs.declared.program_fault.ProgramFault.TheVariants.{Flu
 use Rattle.program_io.specs.declared.program_fault.ProgramFault.TheVariants as program
 use Rattle.program_io.specs.Ends.{WriteEndsBy}
 use Rattle.program_io.specs.Answers.{Answer, AnswerEndsBy, GoesOut, IsDiffAnswer, IsNoRead, IsTwinAnswer, answered, compared, counted, just, with_counts}
-use Rattle.program_io.specs.ProgramFaults.{fault_of_bench, fault_of_diagram, fault_of_diff, fault_of_driven, fault_of_run, fault_of_twin}
+use Rattle.program_io.specs.ProgramFaults.{fault_of_bench, fault_of_cone, fault_of_diagram, fault_of_diff, fault_of_driven, fault_of_run, fault_of_twin}
 
 module _ (P : Result Answer ProgramFault → Type 0) where
   -- ---- before a byte is written
-
-  -- a fault of the only run, which is the answer unless memory was wanting
-  pub AnswerEndsBy-unwritten : (held : Option (List ℕ)) (fault : SimFault) → ((broken : DumpFault) → fault ≢ Dump broken) →
-      (fault ≢ Memory → P (Err (fault_of_run First fault))) → AnswerEndsBy P held held (fault_of_run First fault)
-  AnswerEndsBy-unwritten held (Dump broken) unwritten refused = absurd (unwritten broken refl)
-  AnswerEndsBy-unwritten held Memory unwritten refused = inl (Keeps-refl held)
-  AnswerEndsBy-unwritten held _ unwritten refused = (refused (λ e. (cc)), Keeps-refl held)
 
   -- a fault of one of two runs, which is the answer unless memory was wanting
   pub AnswerEndsBy-twin : {A : Type 0} (held : Option (List ℕ)) (made : Result A TwinFault) (fault : TwinFault) →
@@ -72,6 +68,13 @@ module _ (P : Result Answer ProgramFault → Type 0) where
       AnswerEndsBy P held held (fault_of_bench fault)
   AnswerEndsBy-bench held bench.Memory refused = inl (Keeps-refl held)
   AnswerEndsBy-bench held _ refused = (refused (λ e. (cc)), Keeps-refl held)
+
+  -- so is one of the text of cones
+  pub AnswerEndsBy-cone : (held : Option (List ℕ)) (fault : ConeTextFault) → (fault ≢ cone.Memory → P (Err (fault_of_cone fault))) →
+      AnswerEndsBy P held held (fault_of_cone fault)
+  AnswerEndsBy-cone held cone.Memory refused = inl (Keeps-refl held)
+  AnswerEndsBy-cone held cone.UnknownNet refused = (refused (λ e. (cc)), Keeps-refl held)
+  AnswerEndsBy-cone held (cone.Bench fault) refused = AnswerEndsBy-bench held fault (λ other. refused (λ e. (cc)))
 
   -- so is one of a stimulus text
   pub AnswerEndsBy-driven : (held : Option (List ℕ)) (fault : DrivenFault) → (fault ≢ driven.Memory → P (Err (fault_of_driven fault))) →
@@ -175,6 +178,11 @@ fault_of_diff-no_read (diff.Run fault) = fault_of_run-no_read fault.side fault.f
 pub fault_of_diagram-no_read : (fault : DiagramFault) → IsNoRead (fault_of_diagram fault)
 fault_of_diagram-no_read (diagram.Columns fault) = tt
 fault_of_diagram-no_read (diagram.Run fault) = fault_of_run-no_read First fault
+
+pub fault_of_cone-no_read : (fault : ConeTextFault) → IsNoRead (fault_of_cone fault)
+fault_of_cone-no_read (cone.Bench fault) = fault_of_run-no_read First (sim_of_bench fault)
+fault_of_cone-no_read cone.UnknownNet = tt
+fault_of_cone-no_read cone.Memory = tt
 
 pub fault_of_driven-no_read : (fault : DrivenFault) → IsNoRead (fault_of_driven fault)
 fault_of_driven-no_read (driven.Setting fault) = tt

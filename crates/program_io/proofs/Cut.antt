@@ -27,19 +27,19 @@ use Rattle.prepared_runs.specs.declared.view.DumpView.{DumpView}
 use Rattle.plain_runs.specs.declared.diagram_run.DiagramView.{DiagramView}
 use Rattle.drawn_stimuli.specs.declared.drive.Draws.{Draws}
 use Rattle.drawn_stimuli.specs.Inputs.{DriveView}
-use Rattle.run_pairs.specs.declared.diff_run.DiffTicks.{DiffTicks}
-use Rattle.run_pairs.specs.Diffs.{pair_of}
+use Rattle.wave_diff.specs.declared.diff_ticks.DiffTicks.{DiffTicks}
+use Rattle.kernel_runs.specs.Diffs.{pair_of}
 use Rattle.plain_runs.specs.Drawn.{diagram_of_source}
-use Rattle.circuit_texts.specs.Driven.{stimuli_of_drives}
+use Rattle.drawn_stimuli.specs.Driven.{stimuli_of_drives}
 use Rattle.plain_runs.specs.Explained.{why_of_source}
-use Rattle.runs.specs.Traced.{trace_of_source}
+use Rattle.kernel_runs.specs.Traced.{trace_of_source}
 use Rattle.prepared_runs.specs.Events.{PicksView, events_of_picks}
 use Rattle.prepared_runs.specs.Events as picks
 use Rattle.prepared_runs.specs.Faults.{sim_of_bench, sim_of_build, sim_of_schedule}
 use Rattle.prepared_runs.specs.Source.{SourceView, design_of_source, dump_of_source, or_fault}
 use Rattle.prepared_runs.specs.Prepared.{RunView, run_of_source}
-use Rattle.runs.specs.Simulated.{simulated}
-use Rattle.run_pairs.specs.Twins.{twins_of}
+use Rattle.kernel_runs.specs.Simulated.{simulated}
+use Rattle.kernel_runs.specs.Twins.{twins_of}
 
 -- the bytes that are read of a text
 abbrev pub cut : List ℕ → List ℕ

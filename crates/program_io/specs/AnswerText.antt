@@ -3,8 +3,8 @@ use Rattle.std.specs.Prelude.{ℕ, true, false, Bool, List, ◌++◌, flat_map, 
 use Rattle.logic3.specs.declared.change.Change.{Change}
 use Rattle.logic3.specs.Value.{value_text}
 use Rattle.vcd_dump.specs.Dump.{line}
-use Rattle.runs.specs.declared.check_run.CheckAnswer.{CheckAnswer}
-use Rattle.run_pairs.specs.declared.twin_run.TwinAnswer.{TwinAnswer}
+use Rattle.kernel_runs.specs.declared.check_run.CheckAnswer.{CheckAnswer}
+use Rattle.kernel_runs.specs.declared.twin_run.TwinAnswer.{TwinAnswer}
 
 -- a line `nets N`
 abbrev pub number_line : List ℕ → ℕ → List ℕ

@@ -1,39 +1,40 @@
 -- The answers to texts: what is written for a run, a cone, a comparison or a check, and how that ends.
-use Rattle.std.specs.Prelude.{◌≡◌, ℕ, Bool, List, true, false, Option, Result, Ok, Err}
+use Rattle.std.specs.Prelude.{◌≡◌, ℕ, Bool, List, true, false, Option, Result, Ok, Err, IsOkAnd}
 use Rattle.std.specs.Result.{result_map_both}
 use Rattle.std.specs.Io.KnownBytes.{Appends}
 use Rattle.bench_text.specs.declared.fault.BenchFault.{BenchFault}
 use Rattle.cmb_kernel.specs.declared.counts.Counts.{Counts}
 use Rattle.plain_runs.specs.declared.diagram_run.DiagramView.{DiagramView}
 use Rattle.prepared_runs.specs.declared.fault.SimFault.{SimFault}
-use Rattle.runs.specs.declared.simulation.Report.{Report}
-use Rattle.run_pairs.specs.declared.twin_run.Side.TheVariants.{First}
-use Rattle.run_pairs.specs.declared.twin_run.TwinAnswer.{TwinAnswer}
-use Rattle.run_pairs.specs.declared.twin_run.TwinFault.{TwinFault}
+use Rattle.kernel_runs.specs.declared.simulation.Report.{Report}
+use Rattle.wave_diff.specs.declared.comparison.Side.TheVariants.{First}
+use Rattle.kernel_runs.specs.declared.twin_run.TwinAnswer.{TwinAnswer}
+use Rattle.kernel_runs.specs.declared.twin_run.TwinFault.{TwinFault}
 use Rattle.prepared_runs.specs.declared.view.DumpView.{DumpView}
-use Rattle.runs.specs.Checked.{checked}
-use Rattle.circuit_texts.specs.ConeText.{IsConeAnswer}
+use Rattle.kernel_runs.specs.Checked.{checked}
+use Rattle.fanin_cone.specs.declared.fault.ConeTextFault.{ConeTextFault}
+use Rattle.fanin_cone.specs.ConeText.{IsConeAnswer}
 use Rattle.drawn_stimuli.specs.declared.drive.Draws.{Draws}
 use Rattle.drawn_stimuli.specs.Inputs.{DriveView}
 use Rattle.plain_runs.specs.Drawn.{diagram_of_source}
-use Rattle.circuit_texts.specs.Driven.{stimuli_of_drives}
-use Rattle.run_pairs.specs.declared.diff_fault.DiffFault.{DiffFault}
-use Rattle.run_pairs.specs.declared.diff_run.DiffTicks.{DiffTicks}
-use Rattle.run_pairs.specs.Diffs.{IsDiff, Pair, pair_of}
+use Rattle.drawn_stimuli.specs.Driven.{stimuli_of_drives}
+use Rattle.kernel_runs.specs.declared.diff_fault.DiffFault.{DiffFault}
+use Rattle.wave_diff.specs.declared.diff_ticks.DiffTicks.{DiffTicks}
+use Rattle.kernel_runs.specs.Diffs.{IsDiff, Pair, pair_of}
 use Rattle.plain_runs.specs.Explained.{why_of_source}
-use Rattle.circuit_texts.specs.InfoText.{IsInfoAnswer}
-use Rattle.runs.specs.Traced.{trace_of_source}
+use Rattle.circuit_info.specs.InfoText.{IsInfoAnswer}
+use Rattle.kernel_runs.specs.Traced.{trace_of_source}
 use Rattle.prepared_runs.specs.Prepared.{run_of_source}
-use Rattle.runs.specs.Simulated.{simulated}
+use Rattle.kernel_runs.specs.Simulated.{simulated}
 use Rattle.prepared_runs.specs.Source.{SourceView, dump_of_source}
-use Rattle.run_pairs.specs.Twins.{IsComparison, Twins, twins_of}
+use Rattle.kernel_runs.specs.Twins.{IsComparison, Twins, twins_of}
 use Rattle.program_io.specs.declared.outcome.Outcome.{Outcome}
 use Rattle.program_io.specs.declared.outcome.Outcome.TheVariants.{Done, Counted, Differing}
 use Rattle.program_io.specs.declared.program_fault.ProgramFault.{ProgramFault}
 use Rattle.program_io.specs.declared.program_fault.ProgramFault.TheVariants.{Read}
 use Rattle.program_io.specs.AnswerText.{check_text, twin_text}
 use Rattle.program_io.specs.Ends.{ForAnswer, ProgramEndsBy}
-use Rattle.program_io.specs.ProgramFaults.{fault_of_bench, fault_of_diagram, fault_of_diff, fault_of_driven, fault_of_run, fault_of_twin}
+use Rattle.program_io.specs.ProgramFaults.{fault_of_bench, fault_of_cone, fault_of_diagram, fault_of_diff, fault_of_driven, fault_of_run, fault_of_twin}
 
 -- what is written, and its outcome
 pub record Answer : Type 0 where
@@ -52,6 +53,10 @@ counted false total = Done
 -- the dump of a run, and its counts at the end if they are requested
 abbrev pub with_counts : Bool → List ℕ × Report → Answer
 with_counts counts done = record { text = done.0; outcome = counted counts (done.1).total }
+
+-- the dump of a run was written, and that is its outcome
+abbrev pub DumpsAndCounts : Bool → Result (List ℕ × Report) SimFault → Option (List ℕ) → Option (List ℕ) → Outcome → Type 0
+DumpsAndCounts counts run old new outcome = IsOkAnd run (λ done. Appends old new done.0 × (outcome ≡ counted counts (done.1).total))
 
 -- the answer of the only run
 abbrev pub answered : {A : Type 0} → (A → Answer) → Result A SimFault → Result Answer ProgramFault
@@ -89,7 +94,7 @@ check_answer source horizon = answered (λ run. just (check_text (checked run)))
 
 -- a netlist of the nets in the cones of these names
 abbrev pub IsAnswerOfCone : List ℕ → List (List ℕ) → Result Answer ProgramFault → Type 0
-IsAnswerOfCone bench names answer = (found : Result (List ℕ) SimFault) × IsConeAnswer bench names found × (answer ≡ answered just found)
+IsAnswerOfCone bench names answer = (found : Result (List ℕ) ConeTextFault) × IsConeAnswer bench names found × (answer ≡ result_map_both just fault_of_cone found)
 
 -- the description of a circuit
 abbrev pub IsAnswerOfInfo : List ℕ → Result Answer ProgramFault → Type 0

@@ -6,3 +6,9 @@ pub mod ProgramFaults
 pub mod Reading
 pub mod Report
 pub mod Status
+pub mod DeckRun
+pub mod Tell
+pub mod Options
+pub mod OrderAnswer
+pub mod Progress
+pub mod Readings

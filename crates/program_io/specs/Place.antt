@@ -4,29 +4,10 @@ use Rattle.vcd_dump.specs.Dump.{line}
 use Rattle.prepared_runs.specs.declared.fault.SimFault.{SimFault}
 use Rattle.prepared_runs.specs.declared.fault.SimFault.TheVariants.{Setting, Bench, Timing, Stimulus, Schedule, UnknownNet, Dump}
 use Rattle.prepared_runs.specs.declared.fault.SimFault.TheVariants as sim
-use Rattle.program_io.specs.declared.place.TextNames.{TextNames}
+use Rattle.prepared_runs.specs.RunTexts.{Names}
 use Rattle.program_io.specs.declared.program_fault.ProgramFault.{ProgramFault}
 use Rattle.program_io.specs.declared.program_fault.ProgramFault.TheVariants.{Read, Deck, Run, Columns, Drives, Compared, Output, Memory, Flush}
 use Rattle.program_io.specs.ProgramFaults.{line_of, name_of}
-
--- the names of the texts of a run
-pub record Names : Type 0 where
-  pub bench : List ℕ
-  pub delays : List ℕ
-  pub stimuli : List ℕ
-  pub schedule : List ℕ
-
-abbrev pub called : TextNames → Names
-called names = record {
-  bench = names.bench.now;
-  delays = names.delays.now;
-  stimuli = names.stimuli.now;
-  schedule = names.schedule.now;
-}
-
--- the sections of a deck, named by the words of their markers
-abbrev pub section_names : Names
-section_names = record { bench = codes "bench"; delays = codes "delays"; stimuli = codes "stimuli"; schedule = codes "schedule" }
 
 -- the name of the text for which a run is refused, or what else is at fault
 abbrev pub run_place : Names → SimFault → List ℕ

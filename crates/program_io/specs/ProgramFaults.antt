@@ -1,7 +1,9 @@
 -- The name and the line of a fault of the program, and how a fault of a layer becomes one of the program.
 use Rattle.std.specs.Prelude.{ℕ, List, codes}
 use denote.Ref.{Bor}
-use Rattle.deck_text.specs.Faults as of_deck
+use Rattle.prepared_runs.specs.declared.deck_fault.DeckFault.{DeckFault}
+use Rattle.prepared_runs.specs.declared.deck_fault.DeckFault.TheVariants as deck
+use Rattle.prepared_runs.specs.DeckFaults as of_deck
 use Rattle.drawn_stimuli.specs.Faults as of_drives
 use Rattle.timing_diagram.specs.Faults as of_columns
 use Rattle.vcd_dump.specs.Faults as of_dump
@@ -11,15 +13,17 @@ use Rattle.prepared_runs.specs.Faults as of_sim
 use Rattle.prepared_runs.specs.Faults.{sim_of_bench}
 use Rattle.prepared_runs.specs.declared.fault.SimFault.{SimFault}
 use Rattle.prepared_runs.specs.declared.fault.SimFault.TheVariants as sim
-use Rattle.circuit_texts.specs.declared.driven_fault.DrivenFault.{DrivenFault}
-use Rattle.circuit_texts.specs.declared.driven_fault.DrivenFault.TheVariants as driven
+use Rattle.drawn_stimuli.specs.declared.driven_fault.DrivenFault.{DrivenFault}
+use Rattle.drawn_stimuli.specs.declared.driven_fault.DrivenFault.TheVariants as driven
+use Rattle.fanin_cone.specs.declared.fault.ConeTextFault.{ConeTextFault}
+use Rattle.fanin_cone.specs.declared.fault.ConeTextFault.TheVariants as cone
 use Rattle.plain_runs.specs.declared.diagram_fault.DiagramFault.{DiagramFault}
 use Rattle.plain_runs.specs.declared.diagram_fault.DiagramFault.TheVariants as diagram
-use Rattle.run_pairs.specs.declared.diff_fault.DiffFault.{DiffFault}
-use Rattle.run_pairs.specs.declared.diff_fault.DiffFault.TheVariants as diff
-use Rattle.run_pairs.specs.declared.twin_run.Side.{Side}
-use Rattle.run_pairs.specs.declared.twin_run.Side.TheVariants.{First}
-use Rattle.run_pairs.specs.declared.twin_run.TwinFault.{TwinFault}
+use Rattle.kernel_runs.specs.declared.diff_fault.DiffFault.{DiffFault}
+use Rattle.kernel_runs.specs.declared.diff_fault.DiffFault.TheVariants as diff
+use Rattle.wave_diff.specs.declared.comparison.Side.{Side}
+use Rattle.wave_diff.specs.declared.comparison.Side.TheVariants.{First}
+use Rattle.kernel_runs.specs.declared.twin_run.TwinFault.{TwinFault}
 use Rattle.program_io.specs.declared.input.ReadFault.{ReadFault}
 use Rattle.program_io.specs.declared.input.ReadFault.TheVariants as read
 use Rattle.program_io.specs.declared.program_fault.ProgramFault.{ProgramFault}
@@ -64,6 +68,17 @@ fault_of_twin fault = fault_of_run fault.side fault.fault
 -- a fault of the only netlist
 abbrev pub fault_of_bench : BenchFault → ProgramFault
 fault_of_bench fault = fault_of_run First (sim_of_bench fault)
+
+-- a fault of a deck
+abbrev pub fault_of_deck : DeckFault → ProgramFault
+fault_of_deck (deck.Sim fault) = fault_of_run First fault
+fault_of_deck fault = Deck fault
+
+-- a fault of the text of cones
+abbrev pub fault_of_cone : ConeTextFault → ProgramFault
+fault_of_cone (cone.Bench fault) = fault_of_bench fault
+fault_of_cone cone.UnknownNet = Run First sim.UnknownNet
+fault_of_cone cone.Memory = Memory
 
 -- a fault of a timing diagram, of a stimulus text, and of a comparison net by net
 abbrev pub fault_of_diagram : DiagramFault → ProgramFault

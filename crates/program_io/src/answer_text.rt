@@ -2,9 +2,8 @@
 ghost use Rattle.std.specs.Prelude.{◌≡◌, ◌++◌, flat_map, string_bytes, IfOk, OnOk};
 ghost use Rattle.program_io.specs.AnswerText.{check_text, side_line, twin_text};
 
+use kernel_runs::{CheckAnswer, TwinAnswer};
 use logic3::Waveform;
-use run_pairs::TwinAnswer;
-use runs::CheckAnswer;
 use std::alloc::{AllocError, Global};
 use std::fmt::Write;
 

@@ -1,25 +1,25 @@
 //! Writing the answers to texts.
-ghost use Rattle.std.specs.Prelude.{◌≡◌, map, IfErr, IfOk, IsOkAnd};
-ghost use Rattle.std.specs.Io.KnownBytes.{Appends};
+ghost use Rattle.std.specs.Prelude.{◌≡◌, map, IfErr, IfOk};
 ghost use Rattle.netlist.specs.Names.{seen_names};
 ghost use Rattle.drawn_stimuli.specs.Inputs.{seen_drive};
 ghost use Rattle.prepared_runs.specs.Ends.{RunEndsBy};
-ghost use Rattle.runs.specs.Simulated.{dump_in, simulated};
+ghost use Rattle.kernel_runs.specs.Simulated.{dump_in, simulated};
 ghost use Rattle.prepared_runs.specs.Source.{seen_source};
-ghost use Rattle.run_progress.specs.Reported.{IsProgress, IsTickByTick, Reported};
-ghost use Rattle.program_io.specs.Answers.{AnswerEndsBy, GoesOut, IsAnswerOfCone, IsAnswerOfDiff, IsAnswerOfInfo, IsAnswerOfTwin, IsNoRead, check_answer, counted, diagram_answer, outcome_of, plain_answer, run_answer, stimuli_answer, trace_answer, why_answer};
+ghost use Rattle.prepared_runs.specs.Reported.{IsProgress, IsTickByTick, Reported};
+ghost use Rattle.program_io.specs.Answers.{AnswerEndsBy, DumpsAndCounts, GoesOut, IsAnswerOfCone, IsAnswerOfDiff, IsAnswerOfInfo, IsAnswerOfTwin, IsNoRead, check_answer, diagram_answer, outcome_of, plain_answer, run_answer, stimuli_answer, trace_answer, why_answer};
 
 use crate::answer_text::{check_text, twin_text};
 use crate::outcome::Outcome;
 use crate::output::{flush, write_text};
 use crate::program_fault::ProgramFault;
-use circuit_texts::{cone_text, info, stimuli};
-use drawn_stimuli::{Draws, Driven};
+use circuit_info::info;
+use drawn_stimuli::{Draws, Driven, stimuli};
+use fanin_cone::cone_text;
+use kernel_runs::{
+    DiffTicks, check, diff, simulate_with_progress, sweep_with_progress, trace, twin,
+};
 use plain_runs::{DiagramView, diagram, plain_with_progress, why};
-use prepared_runs::{DumpView, SimFault, Source};
-use run_pairs::{DiffTicks, diff, twin};
-use run_progress::Progress;
-use runs::{check, simulate_with_progress, sweep_with_progress, trace};
+use prepared_runs::{DumpView, Progress, SimFault, Source};
 use std::alloc::Global;
 use std::io::Write;
 
@@ -60,8 +60,8 @@ fn dump_and_count<W: Write, P: Progress>(
     out: &mut W,
     progress: &mut P,
 ) -> Result<Outcome, SimFault>
-    ensures ok { IfOk result (λ outcome. IsOkAnd (simulated (seen_source source.now) view.now) (λ done.
-        Appends (W.contents out.old) (W.contents out.new) done.0 × (outcome ≡ counted counts (done.1).total))) }
+    ensures ok { IfOk result (DumpsAndCounts counts (simulated (seen_source source.now) view.now)
+        (W.contents out.old) (W.contents out.new)) }
     ensures err { IfErr result (RunEndsBy (dump_in (simulated (seen_source source.now) view.now))
         (W.contents out.old) (W.contents out.new)) }
     ensures reported { Reported (P.reports view.now.horizon) (IsProgress result view.now.horizon) progress.old progress.new }

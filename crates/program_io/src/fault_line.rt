@@ -4,14 +4,17 @@ ghost use Rattle.std.specs.Io.KnownBytes.{Appends};
 ghost use Rattle.vcd_dump.specs.Bytes.{AppendsPrefix};
 ghost use Rattle.vcd_dump.specs.Dump.{line};
 ghost use Rattle.vcd_dump.specs.Faults.{IsFailedWrite};
-ghost use Rattle.program_io.specs.Place.{called, fault_line};
+ghost use Rattle.prepared_runs.specs.RunTexts.{seen};
+ghost use Rattle.program_io.specs.Place.{fault_line};
 ghost use Rattle.program_io.specs.Report.{Reports};
 
+use crate::exit::Exit;
 use crate::output::write_pieces;
-use crate::place::{TextNames, fault_place};
+use crate::place::fault_place;
 use crate::program_fault::ProgramFault;
 use crate::status::status;
 use itoa::Buffer;
+use prepared_runs::RunTexts;
 use std::io::Write;
 use vcd_dump::DumpFault;
 
@@ -22,12 +25,12 @@ use vcd_dump::DumpFault;
 pub fn write_fault_line<E: Write>(
     err: &mut E,
     fault: ProgramFault<'_>,
-    names: TextNames<'_>,
+    names: RunTexts<&str>,
 ) -> Result<(), DumpFault>
     ensures ok { OnOk result (Appends (E.contents err.old) (E.contents err.new)
-        (fault_line (called names.entry) fault.entry)) }
+        (fault_line (seen names.entry) fault.entry)) }
     ensures err { OnErr result (AppendsPrefix (E.contents err.old) (E.contents err.new)
-        (fault_line (called names.entry) fault.entry)) }
+        (fault_line (seen names.entry) fault.entry)) }
     ensures fault { IfErr result IsFailedWrite }
 {
     let mut buffer = Buffer::new();
@@ -51,11 +54,13 @@ fn write_line_of<'a, E: Write>(
     write_pieces(err, &[place, ":", number, ": ", name, "\n"])
 }
 
-/// Writes the line of a fault, or a prefix of it if the writer fails, and returns the exit status. Allocates no
-/// memory.
-pub fn report<E: Write>(err: &mut E, fault: ProgramFault<'_>, names: TextNames<'_>) -> u8
-    ensures { Reports (called names.entry) fault.entry (E.contents err.old) (E.contents err.new) result }
+/// Writes the line of a fault, or a prefix of it if the writer fails, and returns the exit. Allocates no memory.
+pub fn report<E: Write>(err: &mut E, fault: ProgramFault<'_>, names: RunTexts<&str>) -> Exit
+    ensures { Reports (seen names.entry) fault.entry (E.contents err.old) (E.contents err.new) result }
 {
-    let _ = write_fault_line(err, fault, names);
-    status(fault)
+    let written = write_fault_line(err, fault, names);
+    Exit {
+        status: status(fault),
+        written,
+    }
 }

@@ -1,8 +1,8 @@
 //! Reading texts from any reader.
-ghost use Rattle.std.specs.Prelude.{◌≡◌, ◌+◌, ◌<◌, ◌≤◌, IfOk, IfSome, OnErr, length, take};
+ghost use Rattle.std.specs.Prelude.{◌≡◌, ◌+◌, ◌<◌, ◌≤◌, IfErr, IfOk, IfSome, length, take};
 ghost use Rattle.std.specs.Io.KnownBytes.{Consumes};
 ghost use Rattle.text_lines.specs.Text.{longest_text};
-ghost use Rattle.program_io.specs.Reading.{ConsumesSome, ReadsMore};
+ghost use Rattle.program_io.specs.Reading.{ReadingEndsBy, ReadsMore, StopsBy};
 ghost use Rattle.program_io.specs.declared.input.ReadFault.TheVariants.{Memory};
 
 use std::alloc::{AllocError, Global};
@@ -45,7 +45,7 @@ pub fn read_text<R: Read>(alloc: Global, input: &mut R) -> Result<Vec<u8>, ReadF
     ensures consumed { IfOk result
         (λ text. Consumes (R.remaining input.old) (R.remaining input.new) text.items) }
     ensures bound { IfOk result (λ text. length text.items ≤ longest_text + 1) }
-    ensures err { OnErr result (ConsumesSome (R.remaining input.old) (R.remaining input.new)) }
+    ensures err { IfErr result (ReadingEndsBy (R.remaining input.old) (R.remaining input.new)) }
 {
     let mut text = Vec::new(alloc);
     let mut piece = [0u8; PIECE];
@@ -58,7 +58,8 @@ pub fn read_text<R: Read>(alloc: Global, input: &mut R) -> Result<Vec<u8>, ReadF
     Ok(text)
 }
 
-/// Appends what one call of the reader returns. Returns whether that was at least one byte.
+/// Appends what one call of the reader returns. Returns whether that was at least one byte; no memory is
+/// allocated otherwise.
 fn read_more<R: Read>(
     input: &mut R,
     piece: &mut [u8],
@@ -67,12 +68,13 @@ fn read_more<R: Read>(
     requires room { 0 < length piece.old }
     ensures ok { IfOk result (λ more. ReadsMore (R.remaining input.old) (R.remaining input.new)
         text.old.items text.new.items (length piece.old) more) }
-    ensures err { OnErr result (ConsumesSome (R.remaining input.old) (R.remaining input.new)) }
+    ensures err { IfErr result (StopsBy (R.remaining input.old) (R.remaining input.new)) }
 {
     match input.read(piece) {
+        Ok(0) => Ok(false),
         Ok(n) => {
             text.extend_from_slice(&piece[..n])?;
-            Ok(n > 0)
+            Ok(true)
         }
         Err(_) => Err(ReadFault::Read),
     }

@@ -1,17 +1,16 @@
 //! Why the program ended early.
 ghost use Rattle.std.specs.Prelude.{◌≡◌, Some};
-ghost use Rattle.run_pairs.specs.declared.twin_run.Side.TheVariants.{First};
+ghost use Rattle.wave_diff.specs.declared.comparison.Side.TheVariants.{First};
 ghost use Rattle.program_io.specs.declared.program_fault.ProgramFault.TheVariants as program;
-ghost use Rattle.program_io.specs.ProgramFaults.{fault_of_bench, fault_of_diagram, fault_of_diff, fault_of_driven, fault_of_read, fault_of_run, fault_of_twin, line_of, name_of, side_of};
+ghost use Rattle.program_io.specs.ProgramFaults.{fault_of_bench, fault_of_cone, fault_of_deck, fault_of_diagram, fault_of_diff, fault_of_driven, fault_of_read, fault_of_run, fault_of_twin, line_of, name_of, side_of};
 
 use crate::input::ReadFault;
 use bench_text::BenchFault;
-use circuit_texts::DrivenFault;
-use deck_text::DeckTextFault;
-use drawn_stimuli::DriveFault;
+use drawn_stimuli::{DriveFault, DrivenFault};
+use fanin_cone::ConeTextFault;
+use kernel_runs::{DiffFault, Side, TwinFault};
 use plain_runs::DiagramFault;
-use prepared_runs::SimFault;
-use run_pairs::{DiffFault, Side, TwinFault};
+use prepared_runs::{DeckFault, SimFault};
 use std::alloc::AllocError;
 use std::fmt;
 use thiserror::Error;
@@ -24,8 +23,8 @@ use wave_diff::ComparedFault;
 pub enum ProgramFault<'a> {
     /// The text with this name couldn't be read.
     Read(&'a str),
-    /// The text of a deck is refused.
-    Deck(DeckTextFault),
+    /// A deck is refused, for another reason than a run's.
+    Deck(DeckFault),
     /// A run is refused: the only one, which counts as the first, or one of two.
     Run { side: Side, fault: SimFault },
     /// The columns of a timing diagram are refused.
@@ -125,11 +124,14 @@ impl From<AllocError> for ProgramFault<'_> {
     }
 }
 
-impl From<DeckTextFault> for ProgramFault<'_> {
-    ghost from_gives = { λ fault e. e ≡ program.Deck fault };
+impl From<DeckFault> for ProgramFault<'_> {
+    ghost from_gives = { λ fault e. e ≡ fault_of_deck fault };
 
-    fn from(fault: DeckTextFault) -> Self {
-        ProgramFault::Deck(fault)
+    fn from(fault: DeckFault) -> Self {
+        match fault {
+            DeckFault::Sim(fault) => ProgramFault::from(fault),
+            other => ProgramFault::Deck(other),
+        }
     }
 }
 
@@ -156,6 +158,18 @@ impl From<BenchFault> for ProgramFault<'_> {
 
     fn from(fault: BenchFault) -> Self {
         ProgramFault::from(SimFault::from(fault))
+    }
+}
+
+impl From<ConeTextFault> for ProgramFault<'_> {
+    ghost from_gives = { λ fault e. e ≡ fault_of_cone fault };
+
+    fn from(fault: ConeTextFault) -> Self {
+        match fault {
+            ConeTextFault::Bench(fault) => ProgramFault::from(fault),
+            ConeTextFault::UnknownNet => ProgramFault::from(SimFault::UnknownNet),
+            ConeTextFault::Memory => ProgramFault::Memory,
+        }
     }
 }
 

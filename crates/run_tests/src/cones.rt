@@ -1,7 +1,6 @@
 //! Cones as texts, at full size.
 use bench_text::BenchFault;
-use circuit_texts::cone_text;
-use prepared_runs::SimFault;
+use fanin_cone::{ConeTextFault, cone_text};
 use std::alloc::{AllocError, Global};
 
 // Adds the name of the gate of this number.
@@ -39,7 +38,7 @@ fn wide(alloc: Global, gates: u32) -> Result<Vec<u8>, AllocError> {
 // The text that is read has no spaces; the written text has some, and would be too long.
 #[test]
 fn too_long_to_write(rt: HostRuntime) -> Result<(), AllocError> {
-    let too_long = SimFault::Bench(BenchFault::TooLong);
+    let too_long = ConeTextFault::Bench(BenchFault::TooLong);
     for (gates, fault) in [(100, None), (960, Some(too_long))] {
         let bench = wide(rt.alloc(), gates)?;
         let answer = cone_text(rt.alloc(), bench.as_slice(), &[b"y".as_slice()]);

@@ -1,9 +1,8 @@
 //! Many nets over ten million ticks, by `simulate` and `twin`, which use the kernel. The plain engine would
 //! have to compute 200,000,000,000 values here, and a test has a minute.
+use kernel_runs::{TwinAnswer, TwinFault, simulate, twin};
 use logic3::{Change, Value, Waveform};
 use prepared_runs::{Picks, Show, Source, View};
-use run_pairs::{TwinAnswer, TwinFault, twin};
-use runs::simulate;
 use std::alloc::{AllocError, Global};
 use std::process::Abort;
 use std::test::Fail;

@@ -1,7 +1,7 @@
 //! Notes on runs.
 use bench_text::BenchFault;
+use plain_runs::notes_text;
 use prepared_runs::{Picks, SimFault, Source};
-use run_notes::notes_text;
 use std::alloc::Global;
 use std::process::Abort;
 use timing_text::{DelayFault, OptionFault, StimulusFault};

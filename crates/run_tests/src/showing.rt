@@ -1,9 +1,8 @@
 //! Runs that show some nets, by their names or as outputs.
 use cmb_events::ScheduleFault;
+use kernel_runs::{simulate, simulate_with_progress, sweep, sweep_with_progress};
 use plain_runs::{plain, plain_with_progress};
-use prepared_runs::{DumpView, Picks, Selection, Show, SimFault, Source, View};
-use run_progress::{Percents, Silent};
-use runs::{simulate, simulate_with_progress, sweep, sweep_with_progress};
+use prepared_runs::{DumpView, Percents, Picks, Selection, Show, Silent, SimFault, Source, View};
 use std::alloc::{AllocError, Global};
 use std::process::Abort;
 use vcd_dump::TimeUnit;

@@ -1,8 +1,8 @@
 //! Runs by the kernel: dumps byte for byte, reports, schedules.
 use cmb_kernel::Counts;
+use kernel_runs::{Report, simulate, sweep};
 use plain_runs::plain;
 use prepared_runs::{Picks, Show, Source, View};
-use runs::{Report, simulate, sweep};
 use std::alloc::Global;
 use std::process::Abort;
 use vcd_dump::TimeUnit;

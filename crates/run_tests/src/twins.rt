@@ -1,10 +1,9 @@
 //! Two runs compared, and the two engines compared, by the library's calls.
 use bench_text::BenchFault;
 use cmb_events::ScheduleFault;
+use kernel_runs::{CheckAnswer, Side, TwinAnswer, TwinFault, check, simulate, twin};
 use logic3::{Change, Value, Waveform};
 use prepared_runs::{Picks, Show, SimFault, Source, View};
-use run_pairs::{Side, TwinAnswer, TwinFault, twin};
-use runs::{CheckAnswer, check, simulate};
 use std::process::Abort;
 use std::test::Fail;
 use timing_text::{DelayFault, OptionFault, StimulusFault};

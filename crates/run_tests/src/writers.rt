@@ -1,8 +1,8 @@
 //! Runs by each engine on writers that accept few bytes a call, and on writers that fail: a prefix of the dump
 //! is written, and the run ends with the writer's fault.
+use kernel_runs::{simulate, sweep};
 use plain_runs::plain;
 use prepared_runs::{Picks, Show, SimFault, Source, View};
-use runs::{simulate, sweep};
 use std::alloc::Global;
 use std::io::{ErrorKind, Write};
 use std::process::Abort;

@@ -4,6 +4,7 @@ mod BytesLemmas
 pub mod CallerLemmas
 mod CodeLemmas
 mod Declared
+mod Few
 mod FromWaves
 mod Gathered
 mod GoingOut

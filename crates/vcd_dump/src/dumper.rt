@@ -90,6 +90,8 @@ pub fn dump<W: Write>(
         (dump_text unit horizon (traces design.now.circuit shown.now waves.now))) }
     ensures fault { IfErr result (λ fault. fault ≢ DumpFault.Failed) }
 {
+    // No net is shown twice.
+    prove!(shown.len() <= design.nets() as usize);
     let mut text = Vec::new(alloc);
     let mut lines = Vec::new(alloc);
     write_declarations(out, &mut text, design, shown, unit)?;

@@ -42,6 +42,7 @@ pub struct Stream {
 
 impl Model for Stream {
     ghost use Rattle.std.specs.Prelude.{◌≡◌, ◌-◌, ◌≤◌, [], false};
+    ghost use Rattle.netlist.specs.Netlist.{most_nets};
     ghost use Rattle.vcd_dump.specs.Spans.{StreamView};
 
     ghost Value = { StreamView };
@@ -56,7 +57,8 @@ impl Model for Stream {
       failed = s.failed;
     } };
 
-    ghost invariant = { λ s. s.failed ≡ false → (s.text.items ≡ []) × (s.time ≤ s.written - 1) };
+    ghost invariant = { λ s. s.failed ≡ false →
+        (s.nets ≤ most_nets) × (s.text.items ≡ []) × (s.time ≤ s.written - 1) };
 }
 
 impl Stream {
@@ -81,6 +83,8 @@ impl Stream {
             (declarations unit (named design.now.circuit shown.now))) }
         ensures fault { IfErr result (λ fault. fault ≢ DumpFault.Failed) }
     {
+        // No net is shown twice.
+        prove!(shown.len() <= design.nets() as usize);
         let mut text = Vec::new(alloc);
         write_declarations(out, &mut text, design, shown, unit)?;
         Ok(Stream {
@@ -134,6 +138,7 @@ impl Stream {
 
     // Takes the changes of each shown net, in place of those given so far.
     fn take_parts(&mut self, parts: &[Vec<Change>]) -> Result<(), DumpFault>
+        requires { self.old.failed ≡ false → length parts.now ≡ self.old.nets }
         ensures stream { OnOk result (self.new ≡ with_parts self.old (changes_in parts.now)) }
         ensures running { OnOk result (self.old.failed ≡ false) }
         ensures fails { OnErr result (self.new.failed ≡ true) }
@@ -167,7 +172,8 @@ impl Stream {
             return Err(DumpFault::Failed);
         }
         self.failed = true;
-        gather(&mut self.lines, self.written, self.given, changes)?;
+        let place = self.given as u32;
+        gather(&mut self.lines, self.written, place, changes)?;
         self.given += 1;
         self.failed = false;
         Ok(())

@@ -29,7 +29,7 @@ fn write_lines<W: Write>(
     for line in lines {
         let tick = line.tick;
         push_time_after(text, before, tick)?;
-        push_change(text, line.value, line.place)?;
+        push_change(text, line.value, line.place as usize)?;
         send_long(out, text)?;
         before = tick;
     }

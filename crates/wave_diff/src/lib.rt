@@ -3,6 +3,7 @@
 
 mod compared;
 mod comparison;
+mod diff_ticks;
 mod difference;
 mod fault;
 pub mod laws;
@@ -11,6 +12,7 @@ mod ticks;
 
 pub use compared::Compared;
 pub use comparison::{Comparison, Side};
+pub use diff_ticks::DiffTicks;
 pub use difference::{Difference, first_difference};
 pub use fault::ComparedFault;
 pub use text::push_line;

@@ -5,7 +5,8 @@ use Rattle.drawn_stimuli.proofs.ReadBack.{read_drawn}
 use Rattle.drawn_stimuli.proofs.laws.texts_read_back.Goals as goal
 
 pub returns-clause-taken : goal.returns-clause-taken
-returns-clause-taken c = read_drawn
+returns-clause-taken c = λ (drawing : Drawing) text in_time is.
+    read_drawn drawing.netlist drawing.drives drawing.draws drawing.horizon text drawing.is_netlist in_time is
 
 pub returns-clause-inputs : goal.returns-clause-inputs
 returns-clause-inputs c = λ netlist drives. names_of_inputs drives 0 netlist.nets

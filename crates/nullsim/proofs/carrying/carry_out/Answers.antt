@@ -1,9 +1,9 @@
 use Rattle.std.proofs.Common.{rules, Result, Ok, Err, OnErr, OnOk, true, subst, ◌∙◌}
 use Rattle.std.proofs.lemmas.Result.{on_err_weaker, on_ok_weaker}
 use Rattle.vcd_dump.specs.Bytes.{AppendsPrefix}
-use Rattle.run_progress.specs.Percents.{progress_text}
-use Rattle.run_progress.proofs.CallerLemmas.{AppendsPrefix-progress}
-use Rattle.orders.specs.Progress.{BrokenTicks, DoneTicks, horizon_reported}
+use Rattle.prepared_runs.specs.Percents.{progress_text}
+use Rattle.prepared_runs.proofs.CallerLemmas.{AppendsPrefix-progress}
+use Rattle.program_io.specs.Progress.{BrokenTicks, DoneTicks, horizon_reported}
 use Rattle.nullsim.specs.Progress.{ReportsProgress}
 use Rattle.nullsim.proofs.carrying.carry_out.Goals as goal
 
@@ -15,12 +15,12 @@ either (Err fault) good bad ok err = bad err
 pub returns-clause-reported : goal.returns-clause-reported
 returns-clause-reported g c =
     let bytes = g.E.Write.contents in
-    let carried = c.carry_out-carried.ensures in
+    let carried = c.write_answer-carried.ensures in
     let order = c.args.order.now in
     let name = c.end-err.ensures.same_writer
-    ∙ either c.carry_out-carried.result (λ reported. reported.1.0) (λ reported. reported.1.0) carried.reported carried.reported_until ∙ c.new-percents.ensures.same_writer in
-    let reported : OnOk c.carry_out-carried.result (ReportsProgress true order (DoneTicks order) (bytes c.args.err.now) (bytes c.end-err.result.now)) =
-    on_ok_weaker c.carry_out-carried.result
+    ∙ either c.write_answer-carried.result (λ reported. reported.1.0) (λ reported. reported.1.0) carried.reported carried.reported_until ∙ c.new-percents.ensures.same_writer in
+    let reported : OnOk c.write_answer-carried.result (ReportsProgress true order (DoneTicks order) (bytes c.args.err.now) (bytes c.end-err.result.now)) =
+    on_ok_weaker c.write_answer-carried.result
     (λ reported. (
       reported.0,
       reported.2,
@@ -33,12 +33,12 @@ returns-clause-reported g c =
 pub returns-clause-reported_until : goal.returns-clause-reported_until
 returns-clause-reported_until g c =
     let bytes = g.E.Write.contents in
-    let carried = c.carry_out-carried.ensures in
+    let carried = c.write_answer-carried.ensures in
     let order = c.args.order.now in
     let name = c.end-err.ensures.same_writer
-    ∙ either c.carry_out-carried.result (λ reported. reported.1.0) (λ reported. reported.1.0) carried.reported carried.reported_until ∙ c.new-percents.ensures.same_writer in
-    let reported : OnErr c.carry_out-carried.result (ReportsProgress true order (BrokenTicks order) (bytes c.args.err.now) (bytes c.end-err.result.now)) =
-    on_err_weaker c.carry_out-carried.result
+    ∙ either c.write_answer-carried.result (λ reported. reported.1.0) (λ reported. reported.1.0) carried.reported carried.reported_until ∙ c.new-percents.ensures.same_writer in
+    let reported : OnErr c.write_answer-carried.result (ReportsProgress true order (BrokenTicks order) (bytes c.args.err.now) (bytes c.end-err.result.now)) =
+    on_err_weaker c.write_answer-carried.result
     (λ reported. (
       reported.0,
       reported.2,

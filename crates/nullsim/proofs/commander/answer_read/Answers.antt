@@ -1,5 +1,5 @@
 use Rattle.std.proofs.Common.{None, inl, inr}
-use Rattle.orders.specs.OrderAnswer.{IsAnswerTo}
+use Rattle.program_io.specs.OrderAnswer.{IsAnswerTo}
 use Rattle.nullsim.proofs.CountsLine.{AnswerDone-outcome}
 use Rattle.nullsim.proofs.commander.answer_read.Goals as goal
 

@@ -1,6 +1,4 @@
-use Rattle.vcd_dump.proofs.CallerLemmas.{AppendsPrefix-either}
 use Rattle.nullsim.proofs.commander.report_outcome.Goals as goal
 
 pub returns-in-Counted-clause-reported : goal.returns-in-Counted-clause-reported
-returns-in-Counted-clause-reported g c =
-    rw c.in-Counted.is (AppendsPrefix-either c.write_counts_line.result _ _ _ c.write_counts_line.ensures.ok c.write_counts_line.ensures.err)
+returns-in-Counted-clause-reported g c = rw c.in-Counted.is (c.write_counts_line.ensures.ok, c.write_counts_line.ensures.err)

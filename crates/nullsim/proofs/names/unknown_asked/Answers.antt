@@ -1,8 +1,7 @@
 use Rattle.std.proofs.Common.{◌≡◌, ℕ, List, Option, Bor, sym, ap, ◌∙◌}
 use Rattle.netlist.specs.Names.{seen_names}
 use Rattle.netlist.specs.Netlist.{NetlistView}
-use Rattle.orders.specs.declared.order.Order.{Order}
-use Rattle.orders.specs.declared.source_texts.SourceTexts.{SourceTexts}
+use Rattle.command_line.specs.declared.order.Order.{Order}
 use Rattle.nullsim.specs.AtFault.{first_in_neither, netlist_in, unknown_asked}
 use Rattle.nullsim.proofs.names.unknown_asked.Goals as goal
 
@@ -10,12 +9,11 @@ pub returns-in_ok-other-in-Diff : goal.returns-in_ok-other-in-Diff
 returns-in_ok-other-in-Diff c =
     let texts = c.args.texts.now in
     let names = c.in-Diff.names.items in
-    let one : c.in_ok-one-in-Diff.one ≡ netlist_in texts.first.bench.items =
-    c.in_ok-one-in-Diff.ensures ∙ ap netlist_in (c.bench.ensures ∙ ap (λ (t : SourceTexts). t.bench.items) c.on.ensures) in
+    let one : c.in_ok-one-in-Diff.one ≡ netlist_in texts.first.bench.items = c.in_ok-one-in-Diff.ensures ∙ ap netlist_in c.as_slice.ensures.value in
     let other : c.in_ok-other-in-Diff.other ≡ netlist_in texts.second.bench.items =
-    c.in_ok-other-in-Diff.ensures ∙ ap netlist_in (c.bench-in-Diff.ensures ∙ ap (λ (t : SourceTexts). t.bench.items) c.on-in-Diff.ensures) in
+    c.in_ok-other-in-Diff.ensures ∙ ap netlist_in c.as_slice-in-Diff.ensures.value in
     c.first_in_neither.ensures
-    ∙ ap (λ (s : List (Bor (List ℕ))). first_in_neither (seen_names s) c.in_ok-one-in-Diff.one c.in_ok-other-in-Diff.other) c.as_slice.ensures.value
+    ∙ ap (λ (s : List (Bor (List ℕ))). first_in_neither (seen_names s) c.in_ok-one-in-Diff.one c.in_ok-other-in-Diff.other) c.as_slice-in-Diff-2.ensures.value
     ∙ ap (λ (n : Option NetlistView). first_in_neither (seen_names names) n c.in_ok-other-in-Diff.other) one
     ∙ ap (first_in_neither (seen_names names) (netlist_in texts.first.bench.items)) other
     ∙ sym (ap (λ (o : Order). unknown_asked o c.args.side texts) c.in-Diff.is)

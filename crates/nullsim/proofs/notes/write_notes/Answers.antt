@@ -1,9 +1,12 @@
 use Rattle.std.proofs.KnownBytes.{Appends-nil}
+use Rattle.std.proofs.lemmas.Result.{err_from_is_err_and}
 use Rattle.nullsim.proofs.notes.write_notes.Goals as goal
 
-pub returns-in-Some : goal.returns-in-Some
-returns-in-Some g c = rw (← c.in-Some.ensures, ← c.as_slice.ensures.value) c.print_text.ensures
+-- nothing is a prefix of what is noted
+pub returns-in_err-notes : goal.returns-in_err-notes
+returns-in_err-notes g c =
+    let p = err_from_is_err_and c.from_residual.result c.from_residual.ensures.1 in
+    rw p.1 (tt, (0, Appends-nil (g.E.Write.contents c.args.err.now)))
 
--- nothing is a first part of what is noted
-pub returns-in-None : goal.returns-in-None
-returns-in-None g c = (0, Appends-nil (g.E.Write.contents c.args.err.now))
+pub returns : goal.returns
+returns g c = rw (← c.in_ok-notes.ensures, ← c.as_slice.ensures.value) (c.write_all_bytes.ensures.ok, c.write_all_bytes.ensures.err)

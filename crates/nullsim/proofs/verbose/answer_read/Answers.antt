@@ -18,27 +18,27 @@ module _ {A F : Type 0} (result : Result A F) where
 
 pub returns-in-Ok-clause-reported : goal.returns-in-Ok-clause-reported
 returns-in-Ok-clause-reported g c =
-    let carried = c.carry_out_heard-said.result.0 in
+    let carried = c.carry_out_heard-failed.result.0 in
     inl (
-      g.E.Write.contents c.carry_out_heard-said.new.err,
-      on-ok carried c.in-Ok.outcome _ c.in-Ok.is c.carry_out_heard-said.ensures.reported,
+      g.E.Write.contents c.carry_out_heard-failed.new.err,
+      on-ok carried c.in-Ok.outcome _ c.in-Ok.is c.carry_out_heard-failed.ensures.reported,
       AnswerNoted-outcome c.args.texts.now c.args.order.now
-          (record { readings = None; out = g.W.Write.contents c.args.out.now; err = g.E.Write.contents c.carry_out_heard-said.new.err })
-          (record { readings = None; out = g.W.Write.contents c.carry_out_heard-said.new.out; err = g.E.Write.contents c.report_noted.new.err })
+          (record { readings = None; out = g.W.Write.contents c.args.out.now; err = g.E.Write.contents c.carry_out_heard-failed.new.err })
+          (record { readings = None; out = g.W.Write.contents c.carry_out_heard-failed.new.out; err = g.E.Write.contents c.report_noted.new.err })
           c.in-Ok.outcome c.report_noted.result
-          (if-ok carried c.in-Ok.outcome _ c.in-Ok.is c.carry_out_heard-said.ensures.ok) c.report_noted.ensures.reported c.report_noted.ensures.status,
+          (if-ok carried c.in-Ok.outcome _ c.in-Ok.is c.carry_out_heard-failed.ensures.ok) c.report_noted.ensures.reported c.report_noted.ensures.status,
     )
 
-pub returns-clause-reported : goal.returns-clause-reported
-returns-clause-reported g c =
-    let carried = c.carry_out_heard-said.result.0 in
+pub returns-in-Err-clause-reported : goal.returns-in-Err-clause-reported
+returns-in-Err-clause-reported g c =
+    let carried = c.carry_out_heard-failed.result.0 in
     inr (
-      g.E.Write.contents c.carry_out_heard-said.new.err,
-      on-err carried c.in-Err.fault _ c.in-Err.is c.carry_out_heard-said.ensures.reported_until,
+      g.E.Write.contents c.carry_out_heard-failed.new.err,
+      on-err carried c.in-Err.fault _ c.in-Err.is c.carry_out_heard-failed.ensures.reported_until,
       (
         c.in-Err.fault,
-        if-err carried c.in-Err.fault _ c.in-Err.is c.carry_out_heard-said.ensures.no_read,
-        if-err carried c.in-Err.fault _ c.in-Err.is c.carry_out_heard-said.ensures.err,
+        if-err carried c.in-Err.fault _ c.in-Err.is c.carry_out_heard-failed.ensures.no_read,
+        if-err carried c.in-Err.fault _ c.in-Err.is c.carry_out_heard-failed.ensures.err,
         (_, c.report_verbosely.ensures.reported),
       ),
     )

@@ -1,6 +1,12 @@
 use Rattle.std.proofs.KnownBytes.{Appends-nil}
+use Rattle.std.proofs.lemmas.Result.{err_from_is_err_and}
 use Rattle.nullsim.proofs.verbose.explain_fault.Goals as goal
 
--- nothing is a first part of what is reported
-pub returns-in-Err : goal.returns-in-Err
-returns-in-Err g c = (0, Appends-nil (g.E.Write.contents c.args.err.now))
+-- nothing is a prefix of what is printed
+pub returns-in_err-text : goal.returns-in_err-text
+returns-in_err-text g c =
+    let p = err_from_is_err_and c.from_residual.result c.from_residual.ensures.1 in
+    rw p.1 (tt, (0, Appends-nil (g.E.Write.contents c.args.err.now)))
+
+pub returns : goal.returns
+returns g c = rw (← c.in_ok-text.ensures, ← c.as_slice.ensures.value) (c.write_all_bytes.ensures.ok, c.write_all_bytes.ensures.err)

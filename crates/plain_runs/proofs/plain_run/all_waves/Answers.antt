@@ -2,7 +2,7 @@ use Rattle.std.proofs.Common.{◌+◌, ap, arith}
 use Rattle.std.specs.List.{range_with_len}
 use Rattle.std.proofs.lemmas.Grind.{common_steps}
 use Rattle.std.proofs.lemmas.Result.{err_from_is_err_and}
-use Rattle.run_progress.proofs.CallerLemmas.{reports-next, tick_by_tick-nothing, tick_by_tick-stopped}
+use Rattle.prepared_runs.proofs.CallerLemmas.{reports-next, tick_by_tick-nothing, tick_by_tick-stopped}
 use Rattle.plain_runs.proofs.plain_run.all_waves.Goals as goal
 
 pub returns-in_err-waves-clause-reported : goal.returns-in_err-waves-clause-reported

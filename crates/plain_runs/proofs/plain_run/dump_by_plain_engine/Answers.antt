@@ -1,6 +1,6 @@
 use Rattle.std.proofs.lemmas.Result.{err_from_is_err_and}
 use Rattle.prepared_runs.proofs.CallerLemmas.{BreaksOff-memory}
-use Rattle.run_progress.proofs.CallerLemmas.{tick_by_tick-behind}
+use Rattle.prepared_runs.proofs.CallerLemmas.{tick_by_tick-behind}
 use Rattle.plain_runs.proofs.plain_run.dump_by_plain_engine.Goals as goal
 
 pub returns-in_err-waves-clause-err : goal.returns-in_err-waves-clause-err

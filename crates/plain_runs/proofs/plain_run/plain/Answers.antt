@@ -1,10 +1,10 @@
-use Rattle.std.proofs.Common.{◌≡◌, [], Some, Err, IfErr, IfSome, IsOkAnd, OnOk, subst}
+use Rattle.std.proofs.Common.{◌≡◌, Err, IfErr, IsOkAnd, OnOk, subst}
 use Rattle.std.specs.Io.KnownBytes.{Appends}
 use Rattle.prepared_runs.specs.declared.fault.SimFault.TheVariants.{Memory}
 use Rattle.prepared_runs.specs.declared.view.DumpView.{DumpView}
 use Rattle.prepared_runs.specs.Ends.{RunEndsBy}
-use Rattle.prepared_runs.specs.Source.{design_of_source, dump_of_source, seen_source, MayWantMemory}
-use Rattle.prepared_runs.specs.Viewed.{ShowsValues}
+use Rattle.prepared_runs.specs.Source.{dump_of_source, seen_source, MayWantMemory}
+use Rattle.plain_runs.specs.Shows.{ShowsSource}
 use Rattle.plain_runs.proofs.plain_run.plain.Goals as goal
 
 pub returns-clause-ok : goal.returns-clause-ok
@@ -15,9 +15,8 @@ returns-clause-ok g c =
 
 pub returns-clause-shows : goal.returns-clause-shows
 returns-clause-shows g c =
-    subst (λ (view : DumpView). OnOk c.plain_with_progress.result (g.W.Write.contents c.args.out.now ≡ Some [] →
-    IfSome (g.W.Write.contents c.plain_with_progress.new.out) (λ text. IsOkAnd (design_of_source (seen_source c.args.source.now) view.horizon)
-    (λ ready. ShowsValues view ready.1 text))))
+    subst (λ (view : DumpView). OnOk c.plain_with_progress.result (ShowsSource (seen_source c.args.source.now) view
+    (g.W.Write.contents c.args.out.now) (g.W.Write.contents c.plain_with_progress.new.out)))
     c.of.ensures c.plain_with_progress.ensures.shows
 
 pub returns-clause-err : goal.returns-clause-err

@@ -2,8 +2,8 @@ use Rattle.std.proofs.Common.{subst}
 use Rattle.std.proofs.lemmas.Result.{err_from_is_err_and, on_ok_weaker, IfErr-weaker}
 use Rattle.prepared_runs.specs.Source.{design_of_source, seen_source}
 use Rattle.prepared_runs.proofs.CallerLemmas.{dump_of_source-bad, dump_of_source-good, dump_of_source-unknown, RunEndsBy-BreaksOff, RunEndsBy-IsRefusal, IfSome-appended, IsReady-design_of_source, ShowsValues-design_of_source}
-use Rattle.run_progress.specs.Reported.{IsTickByTick, Reported}
-use Rattle.run_progress.proofs.CallerLemmas.{tick_by_tick-nothing}
+use Rattle.prepared_runs.specs.Reported.{IsTickByTick, Reported}
+use Rattle.prepared_runs.proofs.CallerLemmas.{tick_by_tick-nothing}
 use Rattle.plain_runs.proofs.plain_run.plain_with_progress.Goals as goal
 
 pub returns-in_err-design-clause-err : goal.returns-in_err-design-clause-err

@@ -2,7 +2,7 @@ use Rattle.std.proofs.Common.{◌≡◌, ◌<◌, length, All, ap, ◌∙◌}
 use Rattle.std.proofs.lemmas.Result.{IfOk-weaker}
 use Rattle.design.proofs.CallerLemmas.{length-waves_of}
 use Rattle.prepared_runs.proofs.CallerLemmas.{All-shown_nets, waves_of-all, map-wave_at}
-use Rattle.run_progress.proofs.CallerLemmas.{tick_by_tick-behind}
+use Rattle.prepared_runs.proofs.CallerLemmas.{tick_by_tick-behind}
 use Rattle.plain_runs.proofs.plain_run.shown_waves.Goals as goal
 
 pub copies-requires : goal.copies-requires

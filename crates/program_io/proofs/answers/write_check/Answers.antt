@@ -1,6 +1,6 @@
 use Rattle.std.proofs.lemmas.Result.{err_from_is_err_and}
 use Rattle.std.proofs.Common.{◌≡◌, ◌∙◌, refl}
-use Rattle.runs.specs.Checked.{checked}
+use Rattle.kernel_runs.specs.Checked.{checked}
 use Rattle.prepared_runs.specs.Prepared.{run_of_source}
 use Rattle.prepared_runs.specs.Source.{seen_source}
 use Rattle.program_io.specs.AnswerText.{check_text}

@@ -3,7 +3,7 @@ use Rattle.std.proofs.lemmas.Result.{err_from_is_err_and}
 use Rattle.prepared_runs.specs.Source.{dump_of_source, seen_source}
 use Rattle.program_io.specs.Answers.{plain_answer}
 use Rattle.program_io.proofs.AnswerEnds.{AnswerEndsBy-dump, AnswerEndsBy-flush, GoesOut-dump, GoesOut-flushed, fault_of_run-no_read}
-use Rattle.run_progress.proofs.CallerLemmas.{tick_by_tick-behind}
+use Rattle.prepared_runs.proofs.CallerLemmas.{tick_by_tick-behind}
 use Rattle.program_io.proofs.answers.write_plain.Goals as goal
 
 pub returns-in_err-plain_with_progress-clause-err : goal.returns-in_err-plain_with_progress-clause-err

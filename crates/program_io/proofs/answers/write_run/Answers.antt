@@ -1,10 +1,10 @@
 use Rattle.std.proofs.Common.{◌≡◌, refl}
 use Rattle.std.proofs.lemmas.Result.{err_from_is_err_and}
 use Rattle.prepared_runs.specs.Source.{seen_source}
-use Rattle.runs.specs.Simulated.{simulated}
+use Rattle.kernel_runs.specs.Simulated.{simulated}
 use Rattle.program_io.specs.Answers.{run_answer, with_counts}
 use Rattle.program_io.proofs.AnswerEnds.{AnswerEndsBy-flush, AnswerEndsBy-run, GoesOut-flushed, GoesOut-run, fault_of_run-no_read}
-use Rattle.run_progress.proofs.CallerLemmas.{progress-behind}
+use Rattle.prepared_runs.proofs.CallerLemmas.{progress-behind}
 use Rattle.program_io.proofs.answers.write_run.Goals as goal
 
 pub returns-in_err-outcome-clause-err : goal.returns-in_err-outcome-clause-err

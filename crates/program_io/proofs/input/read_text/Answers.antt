@@ -3,13 +3,13 @@ use Rattle.std.specs.Io.KnownBytes.{Consumes}
 use Rattle.std.proofs.KnownBytes.{Consumes-trans}
 use Rattle.std.proofs.lemmas.Result.{err_from_is_err_and}
 use Rattle.text_lines.specs.Text.{longest_text}
-use Rattle.program_io.proofs.Readers.{Consumes-first, Consumes-ended, ConsumesSome-trans}
+use Rattle.program_io.proofs.Readers.{Consumes-first, Consumes-ended, ReadingEndsBy-after}
 use Rattle.program_io.proofs.input.read_text.Goals as goal
 
 pub returns-in_err-read_more-clause-err : goal.returns-in_err-read_more-clause-err
 returns-in_err-read_more-clause-err g c =
     let fault = err_from_is_err_and c.from_residual.result c.from_residual.ensures.1 in
-    rw fault.1 (ConsumesSome-trans _ _ _ _ c.loop-piece.invariant.consumed c.in_err-read_more.ensures.err)
+    rw (fault.1, fault.2) (ReadingEndsBy-after _ _ _ _ _ c.loop-piece.invariant.consumed c.in_err-read_more.ensures.err)
 
 -- the reader's end came
 pub returns-then-not-branch-clause-bytes : goal.returns-then-not-branch-clause-bytes

@@ -1,4 +1,4 @@
-use Rattle.std.proofs.Common.{◌≡◌, ℕ, ◌+◌, ◌++◌, length, List, refl, sym, subst, ◌∙◌}
+use Rattle.std.proofs.Common.{◌≡◌, ℕ, ◌+◌, ◌++◌, length, List, refl, sym, subst, ◌∙◌, arith}
 use Rattle.std.specs.Io.KnownBytes.{Appends}
 use Rattle.std.proofs.KnownBytes.{Appends-trans}
 use Rattle.std.proofs.lemmas.Result.{on_ok_weaker, on_err_weaker}
@@ -13,6 +13,7 @@ use Rattle.vcd_dump.specs.Written.{InOrder}
 use Rattle.vcd_dump.proofs.BytesLemmas.{AppendsPrefix-longer, AppendsPrefix-after, AppendsPrefix-piece}
 use Rattle.vcd_dump.proofs.FromWaves.{AreShown, changes_of, behind, dump_text-declared, dump_text-waves, Stepped-waves}
 use Rattle.vcd_dump.proofs.Stepped.{Stepped}
+use Rattle.vcd_dump.proofs.Few.{few_below}
 use Rattle.vcd_dump.proofs.dumper.dump.Goals as goal
 
 -- the lines in order
@@ -32,6 +33,11 @@ returns-in_err-write_declarations-clause-err g c =
     (dump_text-declared c.args.unit c.args.horizon circuit shown waves c.requires.one_wave_each)
     (AppendsPrefix-longer _ _ (declarations c.args.unit (named circuit shown)) (behind c.args.horizon (traces circuit shown waves))
     c.in_err-write_declarations.ensures.err))
+
+pub prove-unreachable-requires : goal.prove-unreachable-requires
+prove-unreachable-requires g c =
+    let few = few_below (length c.args.design.now.circuit) c.args.shown.now c.requires.shown_exist c.requires.shown_once in
+    omega (arith, few, c.nets.ensures.count, c.if-prove.true)
 
 pub returns-in_err-gather_waves-clause-err : goal.returns-in_err-gather_waves-clause-err
 returns-in_err-gather_waves-clause-err g c =

@@ -1,32 +1,21 @@
-use Rattle.std.proofs.Common.{◌≡◌, Some, slice_get}
+use Rattle.std.proofs.Common.{option_map, ap}
 use Rattle.design.specs.Circuit.{Net, IsTimed}
 use Rattle.design.proofs.CallerLemmas.{All-slice_get, takes_its_pins}
-use Rattle.gate_process.proofs.Nets.{net_of_fields}
+use Rattle.gate_process.specs.Truth.{net_at}
+use Rattle.gate_process.proofs.Nets.{slice_get-net_at}
 use Rattle.gate_process.proofs.own_net.OwnNet.of.Goals as goal
 
-own : goal.After-stimuli → Net
-own c = record {
-  name = c.name.result.now;
-  part = c.part.result;
-  pins = c.pins_of.result.now;
-  wires = c.wires_of.result.now;
-  timing = c.timing.result;
-  stimuli = c.stimuli.result.now;
-}
-
-is_own : (c : goal.After-stimuli) → slice_get c.args.design.now.circuit c.args.net ≡ Some (own c)
-unfolding own
-is_own c =
-    net_of_fields (slice_get c.args.design.now.circuit c.args.net) (own c)
-    c.name.ensures c.part.ensures c.pins_of.ensures c.wires_of.ensures c.timing.ensures c.stimuli.ensures
-
 pub invariant_of-result : goal.invariant_of-result
-unfolding own
-invariant_of-result c = record {
-  timed = All-slice_get IsTimed c.args.design.now.circuit c.args.net (own c) c.nets-nets.ensures.well_formed.timed (is_own c);
-  arity = takes_its_pins c.args.design.now c.nets-nets.ensures.well_formed c.args.net _ _ c.part.ensures c.pins_of.ensures;
-}
+invariant_of-result c =
+    let circuit = c.args.design.now.circuit in
+    let there = slice_get-net_at circuit c.args.net c.requires in (
+      c.requires,
+      record {
+        timed = All-slice_get IsTimed circuit c.args.net (net_at circuit c.args.net) c.nets-nets.ensures.well_formed.timed there;
+        arity = takes_its_pins c.args.design.now c.nets-nets.ensures.well_formed c.args.net _ _
+            (ap (option_map (λ (net : Net). net.part)) there) (ap (option_map (λ (net : Net). net.pins)) there);
+      },
+    )
 
 pub returns : goal.returns
-unfolding own
-returns c = is_own c
+returns c = slice_get-net_at c.args.design.now.circuit c.args.net c.requires

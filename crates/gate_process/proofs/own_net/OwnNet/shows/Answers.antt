@@ -1,6 +1,6 @@
-use Rattle.std.proofs.Common.{ap, sym, ◌∙◌}
+use Rattle.std.proofs.Common.{ℕ, List, ap, sym, ◌∙◌}
+use Rattle.timing_text.specs.declared.timing.Timing.{Timing}
 use Rattle.logic3.specs.Summary.{summary_of}
-use Rattle.design.specs.Circuit.{Net}
 use Rattle.design.specs.Equations.{values_at}
 use Rattle.gate_process.specs.Knowledge.{seen_pins}
 use Rattle.gate_process.specs.Step.{signals_of}
@@ -13,11 +13,11 @@ returns-in-Some c =
     c.made_of.result (sym c.read_tick.ensures.tick ∙ c.in-Some.is) (λ values is count.
     c.made_of.ensures values
     (c.seen_at.ensures
-    ∙ ap (λ (net : Net). summary_of (values_at c.in-Some.at (signals_of (seen_pins net.wires c.args.received.now)))) c.self.view_is
+    ∙ ap (λ (wires : List ℕ). summary_of (values_at c.in-Some.at (signals_of (seen_pins wires c.args.received.now)))) c.wires.ensures.wires
     ∙ is) count)
 
 pub returns-in-None : goal.returns-in-None
 returns-in-None c =
-    ap (λ (net : Net). net.timing.initial) c.self.view_is
+    ap (λ (timing : Timing). timing.initial) c.timing.ensures
     ∙ shows_nowhere c.args.self.now c.args.received.now c.read_tick.ensures.well_formed c.requires.pins c.requires.not_input c.args.tick
     (sym c.read_tick.ensures.tick ∙ c.in-None.is)

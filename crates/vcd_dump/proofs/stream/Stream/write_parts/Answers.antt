@@ -27,7 +27,7 @@ stepped inside stream upto lines sorted same running can early order is =
 pub write_span-requires-clause-places : goal.write_span-requires-clause-places
 write_span-requires-clause-places g c =
     let early = c.self.invariant c.if-self.false in
-    let step = stepped _ _ c.args.upto _ _ c.self.view_is c.if-self.false c.requires early.1
+    let step = stepped _ _ c.args.upto _ _ c.self.view_is c.if-self.false c.requires early.2
     c.in_ok-sort_lines.ensures c.as_slice.ensures.value in
     step.places
 
@@ -35,7 +35,7 @@ pub returns-in_err-self-inside-clause-err : goal.returns-in_err-self-inside-clau
 returns-in_err-self-inside-clause-err g c =
     let held = g.W.Write.contents in
     let early = c.self.invariant c.if-self.false in
-    let step = stepped _ _ c.args.upto _ _ c.self.view_is c.if-self.false c.requires early.1
+    let step = stepped _ _ c.args.upto _ _ c.self.view_is c.if-self.false c.requires early.2
     c.in_ok-sort_lines.ensures c.as_slice.ensures.value in
     OnErr_always c.from_residual-in_err-self-inside.result
     (subst (AppendsPrefix (held c.args.out.now) (held c.write_span.new.out))
@@ -44,14 +44,14 @@ returns-in_err-self-inside-clause-err g c =
 pub invariant_of-self-2 : goal.invariant_of-self-2
 invariant_of-self-2 g c = λ running.
     let early = c.self.invariant c.if-self.false in
-    let step = stepped _ _ c.args.upto _ _ c.self.view_is c.if-self.false c.requires early.1
+    let step = stepped _ _ c.args.upto _ _ c.self.view_is c.if-self.false c.requires early.2
     c.in_ok-sort_lines.ensures c.as_slice.ensures.value in
-    (c.in_ok-self-inside.ensures.sent, subst (λ t. t ≤ c.args.upto - 1) (sym c.in_ok-self-inside.ensures.last) step.bound)
+    (early.0, c.in_ok-self-inside.ensures.sent, subst (λ t. t ≤ c.args.upto - 1) (sym c.in_ok-self-inside.ensures.last) step.bound)
 
 pub returns-clause-stream : goal.returns-clause-stream
 returns-clause-stream g c =
     let early = c.self.invariant c.if-self.false in
-    let step = stepped _ _ c.args.upto _ _ c.self.view_is c.if-self.false c.requires early.1
+    let step = stepped _ _ c.args.upto _ _ c.self.view_is c.if-self.false c.requires early.2
     c.in_ok-sort_lines.ensures c.as_slice.ensures.value in
     (λ i. record {
       nets = c.self.inside.nets;
@@ -68,7 +68,7 @@ pub returns-clause-ok : goal.returns-clause-ok
 returns-clause-ok g c =
     let held = g.W.Write.contents in
     let early = c.self.invariant c.if-self.false in
-    let step = stepped _ _ c.args.upto _ _ c.self.view_is c.if-self.false c.requires early.1
+    let step = stepped _ _ c.args.upto _ _ c.self.view_is c.if-self.false c.requires early.2
     c.in_ok-sort_lines.ensures c.as_slice.ensures.value in
     subst (Appends (held c.args.out.now) (held c.write_span.new.out))
     (step.text ∙ ap (λ (s : StreamView). lines_text s.written c.args.upto s.lines) c.self.view_is) c.in_ok-self-inside.ensures.ok

@@ -1,5 +1,0 @@
-pub mod CallerLemmas
-mod Cones
-mod Infos
-mod Members
-mod StimuliTexts

@@ -1,3 +1,0 @@
-pub mod ConeText
-pub mod Driven
-pub mod InfoText

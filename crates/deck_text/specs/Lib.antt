@@ -1,3 +1,0 @@
-pub mod Deck
-pub mod Faults
-pub mod Seen

@@ -1,2 +1,0 @@
-mod Decks
-mod Reported

@@ -1,2 +1,0 @@
-pub mod DeckRun
-pub mod Tell

@@ -1,0 +1,21 @@
+use Rattle.std.proofs.Common.{◌∙◌, List, ap, map, Ok, sym}
+use Rattle.text_lines.specs.Text.{unless_too_long}
+use Rattle.drawn_stimuli.specs.declared.fault.DriveFault.TheVariants.{TooLong}
+use Rattle.drawn_stimuli.specs.declared.input.InputNet.{InputNet}
+use Rattle.drawn_stimuli.specs.Inputs.{drawn_count, seen_drive, seen_input}
+use Rattle.drawn_stimuli.specs.StimulusText.{lines_text}
+use Rattle.drawn_stimuli.proofs.Drawn.{all_kept, stimuli_text-kept}
+use Rattle.drawn_stimuli.proofs.text.stimuli_text.Goals as goal
+
+pub returns-clause-exact : goal.returns-clause-exact
+returns-clause-exact c = λ some.
+    let netlist = c.args.netlist.now in
+    let drives = map seen_drive c.args.drives.now in
+    let kept = all_kept _ _ _ (c.in_ok-by_net.ensures.exact (λ e. (cc))) in
+    let inputs : List InputNet = c.as_slice-3.result.now in
+    let same = c.as_slice-3.ensures.value in
+    let are = ap (map (seen_input netlist)) same ∙ c.in_ok-inputs.ensures.inputs drives (c.as_slice.ensures.value ∙ kept.1) in
+    let counted = c.drawn_count.ensures.count netlist ∙ ap (λ inputs. drawn_count (map (seen_input netlist) inputs)) (c.as_slice-2.ensures.value ∙ sym same) in
+    c.lines_text.ensures.exact some
+    ∙ ap (λ ticks. unless_too_long TooLong Ok (lines_text (record { draws = c.args.draws; inputs = c.drawn_count.result }) (map (seen_input netlist) inputs) ticks)) c.ticks.ensures.ticks
+    ∙ stimuli_text-kept netlist drives c.args.draws c.args.horizon (map (seen_input netlist) inputs) c.drawn_count.result c.if-draws-eq0.false kept.0 are counted

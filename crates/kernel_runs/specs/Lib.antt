@@ -1,0 +1,12 @@
+pub mod Alone
+pub mod AtEnd
+pub mod Checked
+pub mod Drained
+pub mod Isolation
+pub mod KnownTicks
+pub mod Paces
+pub mod Simulated
+pub mod Traced
+pub mod Windows
+pub mod Diffs
+pub mod Twins

@@ -1,0 +1,16 @@
+-- How far past what every net knows a sweep goes.
+use Rattle.std.specs.Prelude.{ℕ, ◌*◌, ◌/◌, nat_lt, if◌then◌else◌, min, max}
+
+-- the most changes that a sweep over this number of nets should send
+abbrev pub most_sent : ℕ → ℕ
+most_sent nets = max 57_344 (2 * nets)
+
+-- a window past the longest run
+abbrev pub widest : ℕ
+widest = 16_777_216
+
+-- the width of the next window, after a sweep over a window of this width that sent this number of changes: twice as
+-- wide if they are fewer than a third of the most that it should send, and half as wide if they are more than the most
+abbrev pub next_width : ℕ → ℕ → ℕ → ℕ
+next_width width sent most =
+    if nat_lt sent (most / 3) then min (width * 2) widest else if nat_lt most sent then max (width / 2) 1 else width

@@ -1,0 +1,132 @@
+//! Two runs, compared net by net.
+ghost use Rattle.std.specs.Prelude.{◌≡◌, ◌≢◌, IfErr, IfOk, IsOkAnd, OnOk};
+ghost use Rattle.netlist.specs.Names.{seen_names};
+ghost use Rattle.kernel_runs.specs.Diffs.{IsDiff, IsDiffRefusal, names_of_outputs, on_run, pair_by, pair_in, pair_named, pair_of, ticks_of_diff};
+ghost use Rattle.prepared_runs.specs.Prepared.{seen_run};
+ghost use Rattle.prepared_runs.specs.Source.{seen_source, MayWantMemory};
+ghost use Rattle.kernel_runs.specs.Twins.{CanCompare, IsTwinRefusal};
+ghost use Rattle.kernel_runs.specs.Simulated.{EndsComplete};
+ghost use Rattle.prepared_runs.specs.declared.fault.SimFault.TheVariants.{Memory};
+
+use crate::diff_fault::DiffFault;
+use crate::diff_names::{are_known, names_of_outputs};
+use crate::net_diffs::diff_by_names;
+use crate::twin_run::{TwinFault, blame};
+use prepared_runs::{PreparedRun, SimFault, Source, prepare_run};
+use std::alloc::Global;
+use timing_text::Horizon;
+use wave_diff::{Compared, DiffTicks, Side};
+
+/// What two runs show, net by net.
+#[derive(Debug, Drop)]
+pub struct DiffAnswer {
+    /// A line for each net, as [`wave_diff::push_line`] writes it.
+    pub text: Vec<u8>,
+    /// Whether each net shows the same in both runs.
+    pub same: bool,
+}
+
+/// Runs two sources to one horizon by the kernel, and compares what the nets of these names show in both. If
+/// there is no name, it compares the outputs of the first and then those of the second that aren't outputs of
+/// the first.
+///
+/// A line has the first compared tick at which a net shows another value in the second run than in the first.
+/// If there is none, it says so, and whether the runs agree, up to the horizon, on the fan-in cone that the
+/// net has in the first. If they agree on it, there is no such tick, whatever else they contain and whatever
+/// picks their events.
+///
+/// # Errors
+/// A refusal of the horizon or the ticks ([`DiffFault::Compared`]) comes before all else, then one of the
+/// first source, then one of the second, then [`SimFault::UnknownNet`], reported for the first, if no run has
+/// a net of one of the names. If an allocation fails, the fault may name either side.
+pub fn diff(
+    alloc: Global,
+    first: &Source<'_>,
+    second: &Source<'_>,
+    names: &[&[u8]],
+    ticks: DiffTicks,
+) -> Result<DiffAnswer, DiffFault>
+    ensures ok { IfOk result (λ answer. IsOkAnd (pair_of (seen_source first.now) (seen_source second.now) (seen_names names.now) ticks)
+        (λ pair. IsDiff pair answer.text.items answer.same)) }
+    // Both runs end complete.
+    ensures first_complete { OnOk result (EndsComplete (seen_source first.now) ticks.horizon) }
+    ensures second_complete { OnOk result (EndsComplete (seen_source second.now) ticks.horizon) }
+    ensures err { IfErr result (IsDiffRefusal (pair_of (seen_source first.now) (seen_source second.now) (seen_names names.now) ticks)) }
+    ensures memory { IfErr result (λ fault. (side : Side) → fault ≡ on_run side Memory → MayWantMemory (seen_source first.now) ticks.horizon) }
+{
+    let compared = compared_ticks(ticks)?;
+    let one = blame(Side::First, prepare_run(alloc, first, ticks.horizon))?;
+    let other = blame(Side::Second, prepare_run(alloc, second, ticks.horizon))?;
+    Ok(diff_prepared(alloc, &one, &other, names, compared)?)
+}
+
+/// Returns the ticks that are compared.
+fn compared_ticks(ticks: DiffTicks) -> Result<Compared, DiffFault>
+    ensures exact { result ≡ ticks_of_diff ticks }
+    ensures end { IfOk result (λ compared. compared.to ≡ ticks.horizon) }
+    ensures no_memory { IfErr result (λ fault. (side : Side) → fault ≢ on_run side Memory) }
+{
+    let horizon = Horizon::new(ticks.horizon)?;
+    Ok(Compared::new(ticks.from, ticks.every, horizon.ticks())?)
+}
+
+/// Compares two prepared runs if the names are known.
+fn diff_prepared(
+    alloc: Global,
+    one: &PreparedRun,
+    other: &PreparedRun,
+    names: &[&[u8]],
+    ticks: Compared,
+) -> Result<DiffAnswer, TwinFault>
+    requires runs { CanCompare one.now other.now }
+    requires end { ticks.to ≡ one.now.horizon }
+    ensures ok { IfOk result (λ answer. IsOkAnd (pair_in (seen_run one.now) (seen_run other.now) ticks (seen_names names.now))
+        (λ pair. IsDiff pair answer.text.items answer.same)) }
+    ensures err { IfErr result (IsTwinRefusal (pair_in (seen_run one.now) (seen_run other.now) ticks (seen_names names.now))) }
+{
+    if !are_known(one.design.netlist(), other.design.netlist(), names) {
+        return Err(TwinFault {
+            side: Side::First,
+            fault: SimFault::UnknownNet,
+        });
+    }
+    blame(Side::First, diff_known(alloc, one, other, names, ticks))
+}
+
+/// Compares them by the names, or by their outputs if there is no name.
+fn diff_known(
+    alloc: Global,
+    one: &PreparedRun,
+    other: &PreparedRun,
+    names: &[&[u8]],
+    ticks: Compared,
+) -> Result<DiffAnswer, SimFault>
+    requires runs { CanCompare one.now other.now }
+    requires end { ticks.to ≡ one.now.horizon }
+    ensures ok { IfOk result (λ answer. IsDiff (pair_named (seen_run one.now) (seen_run other.now) ticks (seen_names names.now))
+        answer.text.items answer.same) }
+    ensures err { IfErr result (λ fault. fault ≡ SimFault.Memory) }
+{
+    if names.is_empty() {
+        diff_outputs(alloc, one, other, ticks)
+    } else {
+        diff_by_names(alloc, one, other, names, ticks)
+    }
+}
+
+/// Compares them by their outputs.
+fn diff_outputs(
+    alloc: Global,
+    one: &PreparedRun,
+    other: &PreparedRun,
+    ticks: Compared,
+) -> Result<DiffAnswer, SimFault>
+    requires runs { CanCompare one.now other.now }
+    requires end { ticks.to ≡ one.now.horizon }
+    ensures ok { IfOk result (λ answer. IsDiff (pair_by (seen_run one.now) (seen_run other.now) ticks
+        (names_of_outputs one.now.design.netlist other.now.design.netlist)) answer.text.items answer.same) }
+    ensures err { IfErr result (λ fault. fault ≡ SimFault.Memory) }
+{
+    let names = names_of_outputs(alloc, one.design.netlist(), other.design.netlist())?;
+    diff_by_names(alloc, one, other, names.as_slice(), ticks)
+}

@@ -1,0 +1,30 @@
+//! Runs by the kernel: from the texts of a circuit to the dump.
+#![tactic(auto)]
+
+mod alone;
+mod check_run;
+mod diff_fault;
+mod diff_names;
+mod diff_run;
+mod draining;
+mod hiding;
+mod kernel_calls;
+pub mod laws;
+mod net_diffs;
+mod pace;
+mod simulation;
+mod streaming;
+mod sweep_run;
+mod sweeps;
+mod trace_run;
+mod twin_run;
+mod windows;
+
+pub use check_run::{CheckAnswer, check};
+pub use diff_fault::DiffFault;
+pub use diff_run::{DiffAnswer, diff};
+pub use simulation::{Report, RunKernel, simulate, simulate_with_progress};
+pub use sweep_run::{complete, sweep, sweep_with_progress};
+pub use trace_run::trace;
+pub use twin_run::{TwinAnswer, TwinFault, twin};
+pub use wave_diff::{DiffTicks, Side};

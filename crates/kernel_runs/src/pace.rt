@@ -1,0 +1,59 @@
+//! How a run advances to its end.
+ghost use Rattle.std.specs.Prelude.{◌≡◌, ℕ, ◌+◌, false, IfOk, OnOk};
+ghost use Rattle.cmb_kernel.specs.State.{floor_at, least_frontier};
+ghost use Rattle.cmb_kernel.specs.Step.{round_of};
+ghost use Rattle.cmb_kernel.specs.Sound.{IsSound};
+ghost use Rattle.kernel_runs.specs.Paces.{LeastRises, RaisesLeast, Suits};
+ghost use Rattle.kernel_runs.specs.declared.pace.Pace.TheVariants.{Rounds};
+
+use crate::kernel_calls::round;
+use crate::simulation::RunKernel;
+use crate::sweeps::Sweeps;
+use design::Design;
+use std::alloc::{AllocError, Global};
+use timing_text::Horizon;
+
+/// What is done to a kernel repeatedly until its run is complete.
+#[derive(Drop)]
+pub(crate) enum Pace {
+    /// Rounds, which let each pin take all that waits there.
+    Rounds,
+    /// Sweeps in the order in which values flow.
+    Sweeps(Sweeps),
+}
+
+impl Pace {
+    /// Returns sweeps over the nets of a design, up to a horizon.
+    pub(crate) fn sweeps(
+        alloc: Global,
+        design: &Design,
+        horizon: Horizon,
+    ) -> Result<Pace, AllocError>
+        ensures { IfOk result (λ pace. Suits pace design.now.circuit (horizon + 1)) }
+    {
+        Ok(Pace::Sweeps(Sweeps::new(alloc, design, horizon)?))
+    }
+
+    /// Advances a run, given the number of ticks known of every net.
+    pub(crate) fn go_on(&mut self, kernel: &mut RunKernel<'_>, known: u64) -> Result<(), AllocError>
+        requires running { kernel.old.failed ≡ false }
+        requires known { known ≡ least_frontier kernel.old.end kernel.old.state }
+        requires suits { Suits self.old kernel.old.circuit kernel.old.end }
+        ensures goes { OnOk result (kernel.new ≡ record kernel.old { state = kernel.new.state }) }
+        // So a run reaches its end.
+        ensures raises { OnOk result (RaisesLeast kernel.old kernel.new) }
+        ensures rises { OnOk result (LeastRises kernel.old kernel.new) }
+        ensures floors { OnOk result
+            ((net : ℕ) → floor_at kernel.new.state net ≡ floor_at kernel.old.state net) }
+        ensures rounds { self.old ≡ Rounds → OnOk result (kernel.new.state ≡ round_of kernel.old.state) }
+        ensures same { self.old ≡ Rounds → self.new ≡ Rounds }
+        ensures suits { OnOk result (Suits self.new kernel.new.circuit kernel.new.end) }
+        ensures sound { OnOk result (IsSound kernel.new.circuit kernel.new.end kernel.new.state) }
+    {
+        match self {
+            Pace::Rounds => round(kernel)?,
+            Pace::Sweeps(sweeps) => sweeps.sweep(kernel, known)?,
+        }
+        Ok(())
+    }
+}

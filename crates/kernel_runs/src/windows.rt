@@ -1,0 +1,44 @@
+//! How many ticks past those that every net knows a sweep covers.
+//!
+//! With a wide window few sweeps are enough, but all that happens in it is in flight at once. So the window
+//! grows while a sweep sends few changes, and shrinks if one sends many.
+ghost use Rattle.std.specs.Prelude.{◌≡◌, ◌+◌, min};
+ghost use Rattle.kernel_runs.specs.Windows.{most_sent, next_width};
+
+/// The width of a run's first window, in ticks.
+pub(crate) const FIRST_WIDTH: u64 = 64;
+
+/// The most changes that a sweep over few nets should send.
+const MOST_SENT: u64 = 57_344;
+
+/// The greatest width: longer than the longest run.
+const WIDEST: u64 = 16_777_216;
+
+/// Returns the most changes that a sweep over this number of nets should send. It decides how much is in
+/// flight in a run, and how often each net is looked at.
+pub(crate) fn most_sent(nets: u32) -> u64
+    ensures { result ≡ most_sent nets }
+{
+    MOST_SENT.max(2 * u64::from(nets))
+}
+
+/// Returns the tick up to which the next sweep goes, given the number of ticks known of every net.
+pub(crate) fn reach(known: u64, width: u64, end: u64) -> u64
+    ensures { result ≡ min end (known + width) }
+{
+    end.min(known.saturating_add(width))
+}
+
+/// Returns the width of the next window, after a sweep over one of this width with `sent` changes, if it
+/// should send at most `most`.
+pub(crate) fn next_width(width: u64, sent: u64, most: u64) -> u64
+    ensures { result ≡ next_width width sent most }
+{
+    if sent < most / 3 {
+        WIDEST.min(width.saturating_mul(2))
+    } else if sent > most {
+        1.max(width / 2)
+    } else {
+        width
+    }
+}

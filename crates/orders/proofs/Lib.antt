@@ -1,4 +1,0 @@
-pub mod CallerLemmas
-mod OneAnswer
-mod ReadAnswers
-mod ReadingsLemmas

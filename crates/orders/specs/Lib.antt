@@ -1,5 +1,0 @@
-pub mod FileNames
-pub mod Options
-pub mod Progress
-pub mod OrderAnswer
-pub mod Readings

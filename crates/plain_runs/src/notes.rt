@@ -1,0 +1,95 @@
+//! The notes of a run.
+ghost use Rattle.std.specs.Prelude.{◌≡◌, ◌+◌, ◌++◌, Ok, Err, IfErr, IfOk, OnOk};
+ghost use Rattle.design.specs.Design.{IsDesign};
+ghost use Rattle.design.specs.Equations.{waves_of};
+ghost use Rattle.prepared_runs.specs.Ends.{IsRefusal};
+ghost use Rattle.prepared_runs.specs.Source.{seen_source, MayWantMemory};
+ghost use Rattle.prepared_runs.specs.declared.fault.SimFault.TheVariants.{Memory};
+ghost use Rattle.plain_runs.specs.Noted.{notes_of_source};
+ghost use Rattle.plain_runs.specs.Remarks.{noted_nets};
+ghost use Rattle.plain_runs.specs.Text.{notes_of_design, remark_note};
+
+use crate::remark::Remark;
+use crate::text::{push_nets_note, push_outputs_note};
+use design::{Design, plain_waves};
+use logic3::Waveform;
+use prepared_runs::{SimFault, Source, prepare};
+use std::alloc::{AllocError, Global};
+use timing_text::Horizon;
+
+/// Returns the notes on a run to this horizon, a line each, in this order, and nothing if there are none:
+///
+/// - `note: no net is an output`
+/// - `note: inputs without a stimulus, X throughout: a b`
+/// - `note: inputs whose stimuli after the horizon are ignored: e`
+/// - `note: other nets that are X throughout: y z`
+///
+/// Names are in the order in which the netlist defines their nets. The plain engine computes the run, with
+/// all waveforms in memory.
+///
+/// # Errors
+/// A refusal of the settings or of a text, as for any run.
+pub fn notes_text(alloc: Global, source: &Source<'_>, horizon: u64) -> Result<Vec<u8>, SimFault>
+    ensures ok { IfOk result (λ text. notes_of_source (seen_source source.now) horizon ≡ Ok text.items) }
+    ensures err { IfErr result (IsRefusal (notes_of_source (seen_source source.now) horizon)) }
+    ensures memory { result ≡ Err Memory → MayWantMemory (seen_source source.now) horizon }
+{
+    let (design, ticks) = prepare(alloc, source, horizon)?;
+    let waves = plain_waves(alloc, &design, ticks)?;
+    Ok(design_notes(alloc, &design, ticks, waves.as_slice())?)
+}
+
+/// Returns the notes of a design, given the waveforms of all nets to the horizon.
+fn design_notes(
+    alloc: Global,
+    design: &Design,
+    horizon: Horizon,
+    waves: &[Waveform],
+) -> Result<Vec<u8>, AllocError>
+    requires waves { waves.now ≡ waves_of design.now.circuit (horizon + 1) }
+    ensures { IfOk result (λ text. text.items ≡ notes_of_design horizon design.now) }
+{
+    let mut text = Vec::new(alloc);
+    push_outputs_note(&mut text, design.netlist())?;
+    push_remark(alloc, &mut text, design, horizon, waves, Remark::Undriven)?;
+    push_remark(alloc, &mut text, design, horizon, waves, Remark::Late)?;
+    push_remark(alloc, &mut text, design, horizon, waves, Remark::Unknown)?;
+    Ok(text)
+}
+
+/// Adds the line of a remark.
+fn push_remark(
+    alloc: Global,
+    text: &mut Vec<u8>,
+    design: &Design,
+    horizon: Horizon,
+    waves: &[Waveform],
+    remark: Remark,
+) -> Result<(), AllocError>
+    requires waves { waves.now ≡ waves_of design.now.circuit (horizon + 1) }
+    ensures { OnOk result (text.new.items ≡ text.old.items ++ remark_note remark horizon design.now) }
+{
+    let nets = noted_nets(alloc, design, horizon, waves, remark)?;
+    push_nets_note(text, design.netlist(), remark.words(), nets.as_slice())
+}
+
+/// Returns the numbers of the nets that a remark is about, in rising order.
+fn noted_nets(
+    alloc: Global,
+    design: &Design,
+    horizon: Horizon,
+    waves: &[Waveform],
+    remark: Remark,
+) -> Result<Vec<u32>, AllocError>
+    requires waves { waves.now ≡ waves_of design.now.circuit (horizon + 1) }
+    ensures nets { IfOk result (λ nets. nets.items ≡ noted_nets remark horizon design.now.circuit) }
+    ensures well_formed { IsDesign design.now }
+{
+    let mut nets = Vec::new(alloc);
+    for net in 0..design.nets() {
+        if remark.is_noted(design, horizon, waves, net) {
+            nets.push(net)?;
+        }
+    }
+    Ok(nets)
+}

@@ -1,4 +1,0 @@
-mod Answer
-mod Listed
-mod Throughout
-mod Tested

@@ -1,3 +1,0 @@
-pub mod Noted
-pub mod Remarks
-pub mod Text

@@ -1,4 +1,0 @@
-pub mod CallerLemmas
-mod DiffNames
-mod Diffs
-mod Twins

@@ -1,6 +1,0 @@
-use Rattle.run_pairs.proofs.Diffs.{agreeing_shown}
-use Rattle.run_pairs.proofs.laws.agreeing_cones_show_the_same.Goals as goal
-
-pub returns : goal.returns
-returns c = λ name comparison runs.
-    agreeing_shown runs.first runs.second runs.names runs.ticks runs.pair name comparison runs.accepted runs.agrees runs.compared

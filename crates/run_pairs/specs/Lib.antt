@@ -1,2 +1,0 @@
-pub mod Diffs
-pub mod Twins

@@ -1,3 +1,0 @@
-pub mod CallerLemmas
-mod Endings
-mod Reporting

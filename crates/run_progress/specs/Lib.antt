@@ -1,3 +1,0 @@
-pub mod Percents
-pub mod Reported
-pub mod Showing

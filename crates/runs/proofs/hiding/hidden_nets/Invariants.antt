@@ -1,6 +1,0 @@
--- The nets so far that aren't shown.
-use Rattle.runs.specs.Drained.{IsRest}
-use Rattle.runs.proofs.hiding.hidden_nets.Given as goal
-
-abbrev pub invariant-loop-net : goal.invariant-loop-net
-invariant-loop-net l = IsRest l.net l.shown l.hidden.items

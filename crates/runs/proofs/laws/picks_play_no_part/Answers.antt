@@ -1,5 +1,0 @@
-use Rattle.runs.proofs.Reports.{dump_of_source-simulated}
-use Rattle.runs.proofs.laws.picks_play_no_part.Goals as goal
-
-pub returns : goal.returns
-returns c = dump_of_source-simulated
