@@ -25,6 +25,8 @@ PROGRAM = "nullsim_cli"
 MEMORY = 3_000_000_000
 # The most jobs that a proof gains from.
 JOBS = 4
+# A chain of crates of at least this part of the longest one is treated as it is.
+NEARLY = 0.8
 
 
 def seconds_of(crate: str) -> float:
@@ -72,9 +74,15 @@ class Build:
         return max(sum(map(seconds_of, left)) / self.processors, *(self.chain[name] / 2 for name in left), 0)
 
     def jobs(self, name: str, others: int) -> int:
-        """Returns with how many jobs a crate is proved, beside which so many others are ready or run."""
-        is_first = all(self.chain[name] >= self.chain[it] for it in self.running.values())
-        return min(JOBS, self.processors) if is_first and (self.processors > 2 or not others) else 1
+        """Returns with how many jobs a crate is proved, beside which so many others are ready or run. Crates whose chains
+        are nearly as long as the longest share the processors; each of the others takes one, of what these leave idle."""
+        if self.processors <= 2 and others:
+            return 1
+        longest = max([self.chain[name], *(self.chain[it] for it in self.running.values())])
+        if self.chain[name] < NEARLY * longest:
+            return 1
+        rivals = [it for it in self.running.values() if self.chain[it] >= NEARLY * longest]
+        return max(1, min(JOBS, self.processors // (1 + len(rivals))))
 
     def begin(self, pool: ThreadPoolExecutor, provers: Provers) -> None:
         """Begins with what is ready, first with the longest chain."""

@@ -5,9 +5,9 @@ use Rattle.std.proofs.lemmas.Bool.Decides.{nat_tests}
 use Rattle.std.proofs.lemmas.List.{append-nil}
 use Rattle.std.proofs.lemmas.List.Elements.{All-head, All-tail, All-weaker}
 use Rattle.std.proofs.lemmas.List.Splits.{slice_split_at}
-use Rattle.text_lines.specs.Text.{◌>>=◌, lines_of, code_of, code_lines_from, words_of, is_empty}
-use Rattle.text_lines.specs.Fold.{fold_lines, one_a_line}
-use Rattle.text_lines.proofs.CallerLemmas.{code_of-no_hash}
+use Rattle.texts.specs.Text.{◌>>=◌, lines_of, code_of, code_lines_from, words_of, is_empty}
+use Rattle.texts.specs.Fold.{fold_lines, one_a_line}
+use Rattle.texts.proofs.CallerLemmas.{code_of-no_hash}
 use Rattle.bench_text.specs.Line.{Statement, IsStatement}
 use Rattle.bench_text.specs.NetlistOf.{numbered_statement}
 use Rattle.bench_text.specs.Canonical.{canonical_line, canonical_lines}

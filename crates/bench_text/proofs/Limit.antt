@@ -4,7 +4,7 @@ use Rattle.std.proofs.lemmas.Bool.Decides.{nat_tests}
 use Rattle.std.proofs.lemmas.Grind.{flat_map-append}
 use Rattle.bench_text.specs.declared.fault.BenchFault.{BenchFault}
 use Rattle.bench_text.specs.declared.fault.BenchFault.TheVariants.{TooLong}
-use Rattle.text_lines.specs.Text.{longest_text}
+use Rattle.texts.specs.Text.{longest_text}
 use Rattle.netlist.specs.Netlist.{NetlistView}
 use Rattle.bench_text.specs.Canonical.{canonical_line, canonical_lines, net_statement, output_statement, canonical, within_limit}
 

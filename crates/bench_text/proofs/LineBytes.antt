@@ -8,11 +8,11 @@ use Rattle.std.proofs.lemmas.List.Sums.{AllPass-from_list_all, list_all-from_All
 use Rattle.logic3.specs.declared.gates.GateKind.TheVariants.{And, Nand, Or, Nor, Xor, Xnor, Not, Buf}
 use Rattle.netlist.specs.declared.part.Part.{Part}
 use Rattle.netlist.specs.declared.part.Part.TheVariants.{Input, Gate, Flop}
-use Rattle.text_lines.specs.Text.{is_white, is_plain, is_empty, words_of}
+use Rattle.texts.specs.Text.{is_white, is_plain, is_empty, words_of}
 use Rattle.bench_text.specs.Line.{is_mark}
 use Rattle.netlist.specs.Name.{is_name_byte, IsName}
 use Rattle.bench_text.specs.Canonical.{keyword_of, port_line, assignment_line, listed}
-use Rattle.text_lines.proofs.CallerLemmas.{list_any-has_words}
+use Rattle.texts.proofs.CallerLemmas.{list_any-has_words}
 use Rattle.bench_text.proofs.LineTokens.{after_comma, is_white-name_byte}
 use Rattle.bench_text.proofs.Words.{IsWord}
 

@@ -10,7 +10,7 @@ use Rattle.netlist.specs.declared.part.Part.{Part}
 use Rattle.netlist.specs.declared.part.Part.TheVariants.{Input, Gate, Flop}
 use Rattle.bench_text.specs.declared.fault.BenchFault.{BenchFault}
 use Rattle.bench_text.specs.declared.fault.BenchFault.TheVariants.{BadByte}
-use Rattle.text_lines.specs.Text.{is_empty, words_of}
+use Rattle.texts.specs.Text.{is_empty, words_of}
 use Rattle.netlist.specs.Part.{takes_pins}
 use Rattle.bench_text.specs.Line.{Form, port, assignment, Statement, defines, names_output, tokens_of, form_of, part_of, is_dollar_name, is_long_name, with_names, definition_of, statement_of_form, statement_of, IsStatement}
 use Rattle.netlist.specs.Name.{IsName}

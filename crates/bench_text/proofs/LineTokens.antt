@@ -5,7 +5,7 @@ use Rattle.std.proofs.lemmas.Bool.Decides.{nat_tests}
 use Rattle.std.proofs.lemmas.Grind.{flat_map-append}
 use Rattle.std.proofs.lemmas.List.Elements.{All-head, All-tail, All-weaker}
 use Rattle.std.proofs.lemmas.List.Splits.{slice_split_at}
-use Rattle.text_lines.specs.Text.{is_white, is_empty}
+use Rattle.texts.specs.Text.{is_white, is_empty}
 use Rattle.bench_text.specs.Line.{Token, left, comma, equals, word, spaced, token_of, tokens_of, more_names, names_of, form_of, port, assignment}
 use Rattle.netlist.specs.Name.{is_name_byte}
 use Rattle.bench_text.specs.Canonical.{port_line, assignment_line, listed}

@@ -7,10 +7,10 @@ use Rattle.std.proofs.lemmas.List.FromFn.{length-enumerate_from}
 use Rattle.std.proofs.lemmas.List.Splits.{length-slice_split}
 use Rattle.std.proofs.lemmas.List.Sums.{length-filter, count_by-le-length}
 use Rattle.bench_text.specs.declared.fault.BenchFault.{BenchFault}
-use Rattle.text_lines.specs.Text.{◌>>=◌, code_of, code_lines, lines_of, words_of, is_empty}
+use Rattle.texts.specs.Text.{◌>>=◌, code_of, code_lines, lines_of, words_of, is_empty}
 use Rattle.bench_text.specs.Line.{Statement, statement_of, IsStatement}
 use Rattle.bench_text.specs.NetlistOf.{numbered_statement, statements_of}
-use Rattle.text_lines.proofs.CallerLemmas.{All-one_a_line, length-one_a_line}
+use Rattle.texts.proofs.CallerLemmas.{All-one_a_line, length-one_a_line}
 use Rattle.bench_text.proofs.ProperNames.{IsStatement-statement_of}
 
 -- a line of a text without its comment

@@ -9,7 +9,7 @@ use Rattle.netlist.specs.declared.part.Part.{Part}
 use Rattle.netlist.specs.declared.part.Part.TheVariants.{Input}
 use Rattle.bench_text.specs.declared.fault.BenchFault.{BenchFault}
 use Rattle.bench_text.specs.declared.fault.BenchFault.TheVariants.{BadByte, BadLine, NameTooLong, BadArity}
-use Rattle.text_lines.specs.Text.{is_plain, code_of}
+use Rattle.texts.specs.Text.{is_plain, code_of}
 use Rattle.netlist.specs.Part.{takes_pins}
 use Rattle.bench_text.specs.Line.{Token, word, left, right, comma, equals, Form, port, assignment, Statement, defines, names_output, tokens_of, more_names, names_of, form_of, part_of, is_dollar_name, is_long_name, with_names, definition_of, statement_of_form, statement_of, IsStatement}
 use Rattle.netlist.specs.Name.{IsName}

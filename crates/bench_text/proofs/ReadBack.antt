@@ -7,7 +7,7 @@ use Rattle.std.proofs.lemmas.List.Elements.{All-head, All-tail, All-map, All-app
 use Rattle.std.proofs.lemmas.List.Folds.{list_any_at}
 use Rattle.std.proofs.lemmas.List.Sums.{position_or_len_is, sum_by-cons}
 use Rattle.bench_text.specs.declared.fault.BenchFault.TheVariants.{TooLong, Undefined}
-use Rattle.text_lines.specs.Text.{◌>>=◌, longest_text}
+use Rattle.texts.specs.Text.{◌>>=◌, longest_text}
 use Rattle.bench_text.specs.Line.{Statement, IsStatement}
 use Rattle.netlist.specs.Name.{IsName}
 use Rattle.netlist.specs.Netlist.{NetView, NetlistView, IsNetlist, name_at}
@@ -16,7 +16,7 @@ use Rattle.bench_text.specs.NetlistOf.{Definition, definition_in, uses_in, outpu
 use Rattle.bench_text.specs.Canonical.{net_statement, output_statement, canonical_statements, canonical}
 use Rattle.netlist.proofs.CallerLemmas.{bytes_eq-other, bytes_eq-same, distinct-same}
 use Rattle.bench_text.proofs.CanonicalLines.{said-canonical_lines}
-use Rattle.text_lines.proofs.CallerLemmas.{unless_too_long-short}
+use Rattle.texts.proofs.CallerLemmas.{unless_too_long-short}
 use Rattle.bench_text.proofs.NoFault.{repeated_fault-distinct, size_fault-within}
 use Rattle.bench_text.proofs.Wired.{undefined_fault-append}
 

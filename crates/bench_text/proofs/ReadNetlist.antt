@@ -5,13 +5,13 @@ use Rattle.std.proofs.lemmas.Bool.Decides.{nat_tests}
 use Rattle.std.proofs.lemmas.List.{length_push}
 use Rattle.bench_text.specs.declared.fault.BenchFault.{BenchFault}
 use Rattle.bench_text.specs.declared.fault.BenchFault.TheVariants.{TooLong, DefinedTwice, TooMany}
-use Rattle.text_lines.specs.Text.{◌>>=◌}
+use Rattle.texts.specs.Text.{◌>>=◌}
 use Rattle.bench_text.specs.Line.{Statement}
 use Rattle.netlist.specs.Names.{IsNames}
 use Rattle.netlist.specs.Netlist.{NetlistView, IsNetlist}
 use Rattle.bench_text.specs.NetlistOf.{Definition, definition_in, uses_in, output_in, defined_names, is_among, repeated_fault, is_over_limit, size_fault, fault_of, unless, netlist_with, netlist_of, netlist_of_statements, statements_of}
 use Rattle.netlist.proofs.CallerLemmas.{is_some-position, IsNames-push, none_from_is_some}
-use Rattle.text_lines.proofs.CallerLemmas.{bind-Ok, unless_too_long-Ok}
+use Rattle.texts.proofs.CallerLemmas.{bind-Ok, unless_too_long-Ok}
 use Rattle.bench_text.proofs.LinesLeft.{IsStatement-statements_of}
 use Rattle.bench_text.proofs.Named.{named_from, named_from-all}
 use Rattle.bench_text.proofs.WellFormed.{IsNetlist-with, both_None}

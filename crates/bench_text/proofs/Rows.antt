@@ -1,7 +1,7 @@
 -- Worked canonical texts, by computation.
 use Rattle.std.proofs.Common.{◌≡◌, ℕ, List, ◌∷◌, ◌++◌, Result, Ok, codes, refl}
 use Rattle.bench_text.specs.declared.fault.BenchFault.{BenchFault}
-use Rattle.text_lines.specs.Text.{◌>>=◌}
+use Rattle.texts.specs.Text.{◌>>=◌}
 use Rattle.bench_text.specs.NetlistOf.{netlist_of}
 use Rattle.bench_text.specs.Canonical.{canonical}
 

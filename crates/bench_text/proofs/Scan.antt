@@ -3,7 +3,7 @@ use Rattle.std.proofs.Common.{◌≡◌, ℕ, ◌<◌, not, Bool, true, false, L
 use Rattle.std.specs.List.{slice_split, filter, flat_map, prefix_len}
 use Rattle.std.proofs.lemmas.Bool.{false_from_ne_true}
 use Rattle.std.proofs.lemmas.Bool.Decides.{nat_tests}
-use Rattle.text_lines.specs.Text.{is_white, is_empty, words_of}
+use Rattle.texts.specs.Text.{is_white, is_empty, words_of}
 use Rattle.bench_text.specs.Line.{word, is_mark, spaced, token_of, tokens_of}
 use Rattle.bench_text.specs.Seen.{is_word_byte, mark_of}
 

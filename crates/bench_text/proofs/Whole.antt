@@ -7,7 +7,7 @@ use Rattle.std.proofs.lemmas.List.Elements.{All-map}
 use Rattle.netlist.specs.declared.netlist.Net.{Net}
 use Rattle.netlist.specs.declared.part.Part.{Part}
 use Rattle.bench_text.specs.declared.fault.BenchFault.TheVariants.{TooMany}
-use Rattle.text_lines.specs.Text.{is_empty}
+use Rattle.texts.specs.Text.{is_empty}
 use Rattle.bench_text.specs.Line.{Statement, IsStatement}
 use Rattle.netlist.specs.Netlist.{NetView, IsNetlist}
 use Rattle.netlist.specs.Repeats.{distinct}

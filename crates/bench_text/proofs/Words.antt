@@ -5,7 +5,7 @@ use Rattle.std.specs.Char.{is_ascii_graphic}
 use Rattle.std.proofs.lemmas.Bool.{and_parts}
 use Rattle.std.proofs.lemmas.Bool.Decides.{nat_tests}
 use Rattle.std.proofs.lemmas.List.Elements.{All-nil, All-cons, All-head}
-use Rattle.text_lines.specs.Text.{is_white, is_plain, is_empty, code_of}
+use Rattle.texts.specs.Text.{is_white, is_plain, is_empty, code_of}
 use Rattle.bench_text.specs.Line.{Token, word, is_mark, spaced, token_of, tokens_of}
 use Rattle.netlist.specs.Name.{is_name_byte}
 use Rattle.bench_text.proofs.Scan.{is_mark-white, token_of-word}

@@ -6,7 +6,7 @@ use Rattle.netlist.specs.declared.part.Part.{Part}
 use Rattle.netlist.specs.declared.part.Part.TheVariants.{Input, Gate, Flop}
 use Rattle.bench_text.specs.declared.fault.BenchFault.{BenchFault}
 use Rattle.bench_text.specs.declared.fault.BenchFault.TheVariants.{TooLong}
-use Rattle.text_lines.specs.Text.{unless_too_long}
+use Rattle.texts.specs.Text.{unless_too_long}
 use Rattle.bench_text.specs.Line.{Statement, defines, names_output}
 use Rattle.netlist.specs.Netlist.{NetView, NetlistView, name_at}
 

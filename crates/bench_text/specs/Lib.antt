@@ -1,6 +1,6 @@
 pub use Rattle.logic3.specs.Gate
-pub use Rattle.text_lines.specs.Text
-pub use Rattle.text_lines.specs.Fold
+pub use Rattle.texts.specs.Text
+pub use Rattle.texts.specs.Fold
 pub use Rattle.netlist.specs.Part
 pub use Rattle.netlist.specs.Name
 pub use Rattle.netlist.specs.Netlist

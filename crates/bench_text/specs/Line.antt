@@ -9,7 +9,7 @@ use Rattle.netlist.specs.declared.part.Part.{Part}
 use Rattle.netlist.specs.declared.part.Part.TheVariants.{Input, Gate, Flop}
 use Rattle.bench_text.specs.declared.fault.BenchFault.{BenchFault}
 use Rattle.bench_text.specs.declared.fault.BenchFault.TheVariants.{BadByte, BadLine, NameTooLong, UnknownGate, BadArity}
-use Rattle.text_lines.specs.Text.{is_plain, words_of}
+use Rattle.texts.specs.Text.{is_plain, words_of}
 
 -- a token: a word or one of the four marks
 pub data Token : Type 0 where

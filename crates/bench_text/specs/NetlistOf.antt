@@ -5,8 +5,8 @@ use Rattle.std.specs.Option.{option_or}
 use Rattle.netlist.specs.declared.part.Part.{Part}
 use Rattle.bench_text.specs.declared.fault.BenchFault.{BenchFault}
 use Rattle.bench_text.specs.declared.fault.BenchFault.TheVariants.{TooLong, DefinedTwice, Undefined, NoNets, TooMany}
-use Rattle.text_lines.specs.Text.{◌>>=◌, unless_too_long, is_empty}
-use Rattle.text_lines.specs.Fold.{fold_text, one_a_line}
+use Rattle.texts.specs.Text.{◌>>=◌, unless_too_long, is_empty}
+use Rattle.texts.specs.Fold.{fold_text, one_a_line}
 use Rattle.netlist.specs.Netlist.{NetlistView, most_nets, most_pins}
 use Rattle.netlist.specs.Repeats.{distinct}
 use Rattle.bench_text.specs.Line.{Statement, defines, names_output, statement_of}

@@ -1,6 +1,6 @@
 -- The tokens and statements of the code, which borrow the bytes of a line, as those of the definitions.
 use Rattle.std.specs.Prelude.{ℕ, ◌&&◌, not, if◌then◌else◌, Bool, [], ◌∷◌, Option, Some, None}
-use Rattle.text_lines.specs.Text.{is_white}
+use Rattle.texts.specs.Text.{is_white}
 use Rattle.netlist.specs.Names.{seen_names}
 use Rattle.bench_text.specs.Line as line
 use Rattle.bench_text.specs.Line.{is_mark, token_of, left, right, comma, equals, word, port, assignment, defines, names_output}

@@ -1,6 +1,6 @@
 //! Facts about the definitions alone.
 ghost use Rattle.std.specs.Prelude.{◌≡◌, ◌≤◌, length, Ok};
-ghost use Rattle.text_lines.specs.Text.{longest_text};
+ghost use Rattle.texts.specs.Text.{longest_text};
 ghost use Rattle.netlist.specs.Netlist.{NetlistView, IsNetlist};
 ghost use Rattle.bench_text.specs.NetlistOf.{netlist_of};
 ghost use Rattle.bench_text.specs.Canonical.{canonical};

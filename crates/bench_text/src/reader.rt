@@ -1,20 +1,20 @@
 //! A .bench text as a netlist: its lines, the names that they define, and what is at each pin.
-ghost use Rattle.std.specs.Prelude.{◌≡◌, ◌≢◌, ℕ, ◌<◌, ◌≤◌, ◌^◌, ◌∷◌, [], length, map, filter_map, flat_map, sum_by, All};
+ghost use Rattle.std.specs.Prelude.{◌≡◌, ◌≢◌, ℕ, ◌<◌, ◌≤◌, ◌^◌, ◌∷◌, [], length, filter_map, sum_by, All};
 ghost use Rattle.std.specs.Result.{result_map_both};
 ghost use Rattle.bench_text.specs.declared.fault.BenchFault.TheVariants.{Memory, TooLong};
 ghost use Rattle.netlist.specs.declared.netlist.Net.{Net as TheNet};
 ghost use Rattle.bench_text.specs.Line.{Statement as TheStatement, IsStatement};
-ghost use Rattle.bench_text.specs.NetlistOf.{statements_of, definition_in, uses_in, defined_names, repeated_fault, undefined_fault, is_over_limit, unless, place_of, netlist_of_statements, netlist_of};
+ghost use Rattle.bench_text.specs.NetlistOf.{statements_of, definition_in, defined_names, repeated_fault, undefined_fault, is_over_limit, unless, place_of, netlist_of_statements, netlist_of};
 ghost use Rattle.netlist.specs.Names.{seen_names};
-ghost use Rattle.text_lines.specs.Text.{longest_text};
-ghost use Rattle.bench_text.specs.Stages.{seen_lines, seen_wiring, wiring};
+ghost use Rattle.texts.specs.Text.{longest_text};
+ghost use Rattle.bench_text.specs.Stages.{pin_numbers, seen_lines, seen_wiring, wiring_of};
 
 use crate::fault::BenchFault;
 use crate::statement::{Statement, statement_of};
 use netlist::{MOST_NETS, MOST_PINS, Names, Net, Netlist, without_repeats};
 use smallvec::SmallVec;
 use std::alloc::Global;
-use text_lines::{LONGEST_TEXT, code_lines};
+use texts::{LONGEST_TEXT, code_lines};
 
 /// Returns the netlist of a .bench text. A text that is too long is refused before anything is
 /// allocated.
@@ -96,8 +96,7 @@ fn connected(
 ) -> Result<Wiring, BenchFault>
     ensures { result ≢ Err Memory →
         result_map_both seen_wiring (λ fault. fault) result
-        ≡ unless (undefined_fault names.now (flat_map uses_in (seen_lines lines.now)))
-        (wiring names.now (seen_lines lines.now)) }
+        ≡ wiring_of names.now (seen_lines lines.now) }
 {
     let mut nets = Vec::new(alloc);
     let mut outputs = Vec::new(alloc);
@@ -122,8 +121,7 @@ fn numbers_of(
 ) -> Result<SmallVec<u32, 4>, BenchFault>
     ensures { result ≢ Err Memory →
         result_map_both (λ numbers. numbers.items) (λ fault. fault) result
-        ≡ unless (undefined_fault names.now (map (λ pin. (line, pin)) (seen_names pins.now)))
-        (map (place_of names.now) (seen_names pins.now)) }
+        ≡ pin_numbers names.now line (seen_names pins.now) }
 {
     let mut numbers = SmallVec::new(alloc);
     for pin in pins {

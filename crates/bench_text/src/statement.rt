@@ -14,7 +14,7 @@ use crate::token::{Token, Tokens, tokens_of};
 use logic3::GateKind;
 use netlist::Part;
 use std::alloc::{AllocError, Global};
-use text_lines::is_plain;
+use texts::is_plain;
 
 /// What a line says.
 #[derive(Drop)]

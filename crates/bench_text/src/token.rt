@@ -2,12 +2,12 @@
 ghost use Rattle.std.specs.Prelude.{◌≡◌, ◌<◌, ◌≤◌, [], ◌∷◌, length, false, slice_index, option_map, MatchOption};
 ghost use Rattle.std.specs.List.{prefix_len};
 ghost use Rattle.std.specs.Iterator.{YieldsFirstBy, item_count};
-ghost use Rattle.text_lines.specs.Text.{is_white};
+ghost use Rattle.texts.specs.Text.{is_white};
 ghost use Rattle.bench_text.specs.Line.{tokens_of};
 ghost use Rattle.bench_text.specs.Seen.{seen_token, is_word_byte, mark_of};
 
 use std::marker::Model;
-use text_lines::{is_white, white_len};
+use texts::{is_white, white_len};
 
 /// A word, or one of the four marks.
 #[derive(Clone, Copy)]

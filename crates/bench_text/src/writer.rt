@@ -2,7 +2,7 @@
 ghost use Rattle.std.specs.Prelude.{◌≡◌, ◌≢◌, ◌<◌, ◌≤◌, ◌++◌, length, map, All, OnOk, IfOk, codes};
 ghost use Rattle.std.specs.Result.{result_map_both};
 ghost use Rattle.bench_text.specs.declared.fault.BenchFault.TheVariants.{Memory};
-ghost use Rattle.text_lines.specs.Text.{longest_text};
+ghost use Rattle.texts.specs.Text.{longest_text};
 ghost use Rattle.netlist.specs.Netlist.{IsNetlist, net_at, name_at};
 ghost use Rattle.bench_text.specs.NetlistOf.{netlist_of};
 ghost use Rattle.bench_text.specs.Canonical.{keyword_of, port_line, listed, canonical_line, canonical_lines, net_statement, output_statement, canonical, within_limit};
@@ -11,7 +11,7 @@ use crate::fault::BenchFault;
 use logic3::GateKind;
 use netlist::{Netlist, Part};
 use std::alloc::{AllocError, Global};
-use text_lines::LONGEST_TEXT;
+use texts::LONGEST_TEXT;
 
 /// Returns the canonical .bench text of a netlist, which [`read`](crate::read) reads back: a line for
 /// each net in order of number, `INPUT(a)` or `y = NAND(a, b)`, and then a line `OUTPUT(y)` for each

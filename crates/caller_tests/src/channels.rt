@@ -4,7 +4,7 @@ ghost use Rattle.std.specs.Prelude.{◌≡◌, length};
 use crate::circuits::Circuit;
 use Step::{Sends, Takes, Waits};
 use Value::{One, Zero};
-use cmb_channels::{Fabric, Logs, Message, Queues};
+use cmb_channels::{Fabric, Logged, Logs, Message, Queues};
 use design::Design;
 use logic3::{Change, Value};
 use std::alloc::{AllocError, Global};
@@ -151,7 +151,7 @@ fn over_both_fabrics(rt: HostRuntime) -> Result<(), Fail> {
     Ok(())
 }
 
-// The logs of both nets hold these numbers of messages.
+// These numbers of messages of both nets are still to be taken.
 fn keeps(rt: &impl Abort, channels: &Channels<Logs>, first: u64, second: u64) {
     assert!(rt; channels.nets == 2);
     let kept: u64 = channels.fabric.kept(0);
@@ -175,4 +175,39 @@ fn keep_one_log(rt: &impl Abort, alloc: Global, design: &Design) -> Result<(), F
 fn one_log(rt: HostRuntime) -> Result<(), Fail> {
     let design: Design = THREE_PINS.build(rt.alloc())?;
     keep_one_log(&rt, rt.alloc(), &design)
+}
+
+#[test]
+fn as_a_log_keeps_it(rt: HostRuntime) {
+    for message in [RISE, LATE, NONE_BELOW] {
+        let logged: Logged = Logged::of(message);
+        let copy: Message = logged.message();
+        assert!(rt; copy == message);
+    }
+}
+
+// These messages wait at a pin, which takes all of them at once.
+fn take_slice(rt: &impl Abort, channels: &mut Channels<Logs>, pin: u32, wanted: &[Message]) {
+    assert!(rt; pin < channels.pins);
+    let waiting: &[Logged] = channels.fabric.waiting_messages(pin);
+    let count = waiting.len();
+    assert!(rt; count == wanted.len());
+    for (logged, message) in waiting.iter().zip(wanted) {
+        assert!(rt; logged.message() == *message);
+    }
+    channels.fabric.take_many(pin, count);
+}
+
+#[test]
+fn one_slice(rt: HostRuntime) -> Result<(), Fail> {
+    let design: Design = THREE_PINS.build(rt.alloc())?;
+    let mut channels: Channels<Logs> = Channels::of(rt.alloc(), &design)?;
+    for step in &AT_THREE_PINS {
+        channels.step(&rt, *step)?;
+    }
+    take_slice(&rt, &mut channels, 2, &[RISE, NONE_BELOW]);
+    take_slice(&rt, &mut channels, 0, &[]);
+    take_slice(&rt, &mut channels, 1, &[NONE_BELOW]);
+    keeps(&rt, &channels, 0, 0);
+    Ok(())
 }

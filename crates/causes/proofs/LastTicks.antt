@@ -1,58 +1,32 @@
 -- Since when a waveform shows what it shows.
-use Rattle.std.proofs.Common.{◌≡◌, ◌≢◌, ℕ, zero, suc, ◌+◌, ◌-◌, ◌<◌, ◌≤◌, nat_le, true, false, List, [], ◌∷◌, length, take, get_or, Bool, refl, ap, sym, ◌∙◌, arith, ◌⊎◌, inl, inr, Option, None, Some, option_map, slice_get, cond}
+use Rattle.std.proofs.Common.{◌≡◌, ◌≢◌, ℕ, zero, suc, ◌+◌, ◌-◌, ◌<◌, ◌≤◌, true, false, List, [], ◌∷◌, length, get_or, Bool, refl, ap, sym, ◌∙◌, arith, ◌⊎◌, inl, inr, Option, None, Some, option_map, slice_get, cond}
 use Rattle.std.specs.Option.{option_map_or, unwrap_or}
-use Rattle.std.specs.List.Sorted.{IsPartitionPoint}
 use Rattle.std.proofs.lemmas.Bool.{cases_lt, le-leb, lt-leb}
 use Rattle.logic3.specs.declared.value.Value.{Value}
 use Rattle.logic3.specs.declared.change.Change.{Change}
 use Rattle.logic3.specs.Value.{is_same, is_same_equiv}
 use Rattle.std.proofs.lemmas.Option.{slice_get_read}
 use Rattle.logic3.specs.declared.value.Value.TheVariants.{Unknown}
-use Rattle.logic3.specs.Wave.{Wave, value_after, value_at, Alternates, IsWave}
+use Rattle.logic3.specs.Wave.{Wave, changes_until, value_after, value_at, Alternates, IsWave}
 use Rattle.design.specs.Equations.{signals_in}
 use Rattle.logic3.proofs.CallerLemmas.{value_after-ahead, is_same-true}
-use Rattle.causes.specs.Deciding.{since, tick_after, last_tick}
+use Rattle.causes.specs.Deciding.{since, tick_in_the_end, last_tick}
 
--- the tick of the last of some changes, else the one before
-end_tick : Option ℕ → List Change → Option ℕ
-end_tick before [] = before
-end_tick before (change ∷ changes) = end_tick (Some change.tick) changes
+-- the tick of the last change that is not after a tick, else the one before
+abbrev tick_after : Option ℕ → List Change → ℕ → Option ℕ
+tick_after before changes tick = tick_in_the_end before (changes_until tick changes)
 
-tick_after-partition : (before : Option ℕ) (changes : List Change) (tick due : ℕ) → due ≤ length changes →
-    IsPartitionPoint (λ (change : Change). nat_le change.tick tick ≡ true) (λ (change : Change). nat_le change.tick tick ≡ false) changes due →
-    tick_after before changes tick ≡ end_tick before (take due changes)
-unfolding end_tick
-tick_after-partition before [] tick due inside at = let none : due ≡ 0 = omega arith in rw none refl
-tick_after-partition before (first ∷ changes) tick zero inside at =
-    rw (at.1 0 first (omega arith) (omega arith))
-    (tick_after-partition before changes tick zero (omega arith)
-    ((λ k d low high. absurd (omega arith)), λ k d low high. at.1 (suc k) d (omega arith) (omega arith)))
-tick_after-partition before (first ∷ changes) tick (suc due) inside at =
-    rw (at.0 0 first (omega arith) (omega arith))
-    (tick_after-partition (Some first.tick) changes tick due (omega arith)
-    ((λ k d low high. at.0 (suc k) d (omega arith) (omega arith)), λ k d low high. at.1 (suc k) d (omega arith) (omega arith)))
+tick_in_the_end-cons : (before : Option ℕ) (first : Change) (changes : List Change) →
+    tick_in_the_end before (first ∷ changes) ≡ option_map (λ (change : Change). change.tick) (slice_get (first ∷ changes) (length changes))
+tick_in_the_end-cons before first [] = refl
+tick_in_the_end-cons before first (second ∷ changes) = tick_in_the_end-cons (Some first.tick) second changes
 
-end_tick-cons : (before : Option ℕ) (first : Change) (changes : List Change) →
-    end_tick before (first ∷ changes) ≡ option_map (λ (change : Change). change.tick) (slice_get (first ∷ changes) (length changes))
-unfolding end_tick
-end_tick-cons before first [] = refl
-end_tick-cons before first (second ∷ changes) = end_tick-cons (Some first.tick) second changes
-
-end_tick-last : (changes : List Change) →
-    end_tick None changes ≡ option_map (λ (change : Change). change.tick) (slice_get changes (length changes - 1))
-unfolding end_tick
-end_tick-last [] = refl
-end_tick-last (first ∷ changes) =
+pub tick_in_the_end-last : (changes : List Change) →
+    tick_in_the_end None changes ≡ option_map (λ (change : Change). change.tick) (slice_get changes (length changes - 1))
+tick_in_the_end-last [] = refl
+tick_in_the_end-last (first ∷ changes) =
     let last : suc (length changes) - 1 ≡ length changes = omega arith in
-    rw last (end_tick-cons None first changes)
-
--- what halving and the last due change give
-pub last_tick-found : (changes : List Change) (tick due : ℕ) (last : Option Change) → due ≤ length changes →
-    IsPartitionPoint (λ (change : Change). nat_le change.tick tick ≡ true) (λ (change : Change). nat_le change.tick tick ≡ false) changes due →
-    last ≡ slice_get (take due changes) (length (take due changes) - 1) →
-    option_map (λ (change : Change). change.tick) last ≡ last_tick changes tick
-last_tick-found changes tick due last inside point is =
-    rw is (sym (tick_after-partition None changes tick due inside point ∙ end_tick-last (take due changes)))
+    rw last (tick_in_the_end-cons None first changes)
 
 -- before the first change the tick is the one before
 tick_after-ahead : (b : Option ℕ) (before : Value) (changes : List Change) (from tick : ℕ) → Alternates before from changes → tick < from →

@@ -6,7 +6,7 @@ use Rattle.std.proofs.lemmas.Bool.{eqb-true}
 use Rattle.std.proofs.lemmas.List.Folds.{list_any_at}
 use Rattle.std.proofs.lemmas.List.Sums.{passes_at_first}
 use Rattle.std.proofs.lemmas.List.Recursion.{max_bounds}
-use Rattle.std.proofs.lemmas.Option.{none-some, slice_get-get_or, slice_get_within, get_or_from_slice_get}
+use Rattle.std.proofs.lemmas.Option.{none-some, same_Some, slice_get-get_or, slice_get_within, get_or_from_slice_get}
 use Rattle.logic3.specs.declared.value.Value.{Value}
 use Rattle.logic3.specs.declared.value.Value.TheVariants.{Zero, One, Unknown}
 use Rattle.logic3.specs.declared.gates.GateKind.{GateKind}
@@ -14,7 +14,7 @@ use Rattle.logic3.specs.declared.gates.GateKind.TheVariants.{And, Nand, Or, Nor}
 use Rattle.logic3.specs.Value.{is_same, is_same_equiv, opposite}
 use Rattle.logic3.specs.Gate.{conjunction, disjunction, value_of_gate, HasArity}
 use Rattle.logic3.proofs.CallerLemmas.{is_same-true}
-use Rattle.causes.specs.Deciding.{controlling, deciding_place, deciding_value, greatest, first_greatest}
+use Rattle.causes.specs.Deciding.{controlling, deciding_place, deciding_value, greatest, first_greatest, IsControlled}
 use Rattle.causes.proofs.Places.{any_place, first_greatest-within, unknown_pin}
 
 pub unknown_decides : (kind : GateKind) (values : List Value) (since : List ℕ) → HasArity kind (length values) →
@@ -48,13 +48,19 @@ one_settles : (values others : List Value) (value : Value) (place other : ℕ) �
 one_settles values others value place other is at there =
     disjunction_settled others other (there ∙ sym is) ∙ sym (disjunction_settled values place (at ∙ sym is))
 
-pub settles : (kind : GateKind) (values others : List Value) (value : Value) (place other : ℕ) → controlling kind ≡ Some value →
+value_settles : (kind : GateKind) (values others : List Value) (value : Value) (place other : ℕ) → controlling kind ≡ Some value →
     slice_get values place ≡ Some value → slice_get others other ≡ Some value → value_of_gate kind others ≡ value_of_gate kind values
-settles And values others value place other is at there = zero_settles values others value place other is at there
-settles Nand values others value place other is at there = ap opposite (zero_settles values others value place other is at there)
-settles Or values others value place other is at there = one_settles values others value place other is at there
-settles Nor values others value place other is at there = ap opposite (one_settles values others value place other is at there)
-settles _ values others value place other is at there = absurd (none-some value is)
+value_settles And values others value place other is at there = zero_settles values others value place other is at there
+value_settles Nand values others value place other is at there = ap opposite (zero_settles values others value place other is at there)
+value_settles Or values others value place other is at there = one_settles values others value place other is at there
+value_settles Nor values others value place other is at there = ap opposite (one_settles values others value place other is at there)
+value_settles _ values others value place other is at there = absurd (none-some value is)
+
+pub settles : (kind : GateKind) (values others : List Value) → IsControlled kind values → IsControlled kind others →
+    value_of_gate kind others ≡ value_of_gate kind values
+settles kind values others one other =
+    let same : other.value ≡ one.value = same_Some other.value one.value (sym other.controls ∙ one.controls) in
+    value_settles kind values others one.value one.place other.place one.controls one.shown (other.shown ∙ ap Some same)
 
 pub changed_last : (kind : GateKind) (values : List Value) (since : List ℕ) (place : ℕ) → deciding_value kind values ≡ None →
     place < length since → get_or since place 0 ≤ get_or since (deciding_place kind values since) 0

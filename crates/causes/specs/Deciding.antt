@@ -1,5 +1,5 @@
 -- Which pin of a gate decides what it shows, and since when signals show what they do.
-use Rattle.std.specs.Prelude.{ℕ, zero, suc, ◌+◌, ◌==◌, nat_le, max, if◌then◌else◌, List, [], ◌∷◌, Option, None, Some}
+use Rattle.std.specs.Prelude.{◌≡◌, ℕ, zero, suc, ◌+◌, ◌==◌, max, if◌then◌else◌, List, [], ◌∷◌, Option, None, Some, slice_get}
 use Rattle.std.specs.List.{list_any, position_or_len}
 use Rattle.std.specs.Option.{option_and_then, option_map_or}
 use Rattle.logic3.specs.declared.value.Value.{Value}
@@ -9,6 +9,7 @@ use Rattle.logic3.specs.declared.gates.GateKind.{GateKind}
 use Rattle.logic3.specs.declared.gates.GateKind.TheVariants.{And, Nand, Or, Nor, Xor, Xnor, Not, Buf}
 use Rattle.logic3.specs.Value.{is_same}
 use Rattle.logic3.specs.Gate.{value_of_gate}
+use Rattle.logic3.specs.Wave.{changes_until}
 use Rattle.design.specs.Samples.{source_tick}
 
 -- the value of one pin that settles what a gate shows, for all values of the others
@@ -21,6 +22,13 @@ controlling Xor = None
 controlling Xnor = None
 controlling Not = None
 controlling Buf = None
+
+-- a pin shows the controlling value
+pub record IsControlled (kind : GateKind) (values : List Value) : Type 0 where
+  pub value : Value
+  pub place : ℕ
+  pub controls : controlling kind ≡ Some value
+  pub shown : slice_get values place ≡ Some value
 
 -- a value that some pin shows
 abbrev pub if_shown : List Value → Value → Option Value
@@ -61,11 +69,11 @@ abbrev pub pins_since : (ℕ → ℕ → Value) → ℕ → List ℕ → List �
 pins_since signals tick (pin ∷ pins) (wire ∷ wires) = pin_since wire (signals pin) tick ∷ pins_since signals tick pins wires
 pins_since signals tick _ _ = []
 
--- the tick of the last change that is not after a tick, else the one before
-abbrev pub tick_after : Option ℕ → List Change → ℕ → Option ℕ
-tick_after before [] tick = before
-tick_after before (change ∷ changes) tick =
-    tick_after (if nat_le change.tick tick then Some change.tick else before) changes tick
+-- the tick of the last of some changes, else the one before
+abbrev pub tick_in_the_end : Option ℕ → List Change → Option ℕ
+tick_in_the_end before [] = before
+tick_in_the_end before (change ∷ changes) = tick_in_the_end (Some change.tick) changes
 
+-- the tick of the last change that is not after a tick, if any
 abbrev pub last_tick : List Change → ℕ → Option ℕ
-last_tick changes tick = tick_after None changes tick
+last_tick changes tick = tick_in_the_end None (changes_until tick changes)

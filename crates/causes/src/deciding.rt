@@ -6,7 +6,7 @@ ghost use Rattle.logic3.specs.Rising.{TicksRise};
 ghost use Rattle.logic3.specs.Value.{is_same};
 ghost use Rattle.causes.specs.Deciding.{controlling, deciding_place, deciding_value, greatest, last_tick};
 
-use logic3::{Change, GateKind, Value, gate};
+use logic3::{Change, GateKind, Value, changes_until, gate};
 
 /// Returns the controlling value of a kind of gate, if any: one pin with it decides what the gate
 /// shows.
@@ -84,7 +84,7 @@ pub fn last_tick(changes: &[Change], tick: u64) -> Option<u64>
     requires { TicksRise changes.now }
     ensures { result ≡ last_tick changes.now tick }
 {
-    let due = changes.partition_point(|change| change.tick <= tick);
-    let change = changes[..due].last()?;
-    Some(change.tick)
+    changes_until(changes, tick)
+        .last()
+        .map(|change| change.tick)
 }

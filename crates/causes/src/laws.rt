@@ -7,7 +7,7 @@ ghost use Rattle.logic3.specs.Gate.{HasArity, value_of_gate};
 ghost use Rattle.design.specs.Circuit.{Circuit, IsCircuit};
 ghost use Rattle.causes.specs.Causes.{causes_of, leads_to};
 ghost use Rattle.causes.specs.declared.cause.Cause.{Cause};
-ghost use Rattle.causes.specs.Deciding.{controlling, deciding_place, deciding_value};
+ghost use Rattle.causes.specs.Deciding.{deciding_place, deciding_value, IsControlled};
 ghost use Rattle.causes.specs.Why.{IsWhy};
 
 /// The first cause is that of the net's value at the tick. Each one is the cause of its net's value
@@ -25,9 +25,8 @@ pub fn causes_lead_on()
 pub fn pins_that_decide()
     ensures unknown { (kind : GateKind) (values : List Value) (since : List ℕ) → HasArity kind (length values) →
         value_of_gate kind values ≡ Unknown → slice_get values (deciding_place kind values since) ≡ Some Unknown }
-    ensures settles { (kind : GateKind) (values others : List Value) (value : Value) (place other : ℕ) → controlling kind ≡ Some value →
-        slice_get values place ≡ Some value → slice_get others other ≡ Some value →
-        value_of_gate kind others ≡ value_of_gate kind values }
+    ensures settles { (kind : GateKind) (values others : List Value) →
+        IsControlled kind values → IsControlled kind others → value_of_gate kind others ≡ value_of_gate kind values }
     ensures last { (kind : GateKind) (values : List Value) (since : List ℕ) (place : ℕ) → deciding_value kind values ≡ None →
         place < length since → slice_index_or since place 0 ≤ slice_index_or since (deciding_place kind values since) 0 }
 {}

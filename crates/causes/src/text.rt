@@ -1,5 +1,5 @@
 //! Causes as text, one line each.
-ghost use Rattle.std.specs.Prelude.{◌≡◌, ◌<◌, ◌++◌, length, decimal, slice_get, All, IfOk, OnOk};
+ghost use Rattle.std.specs.Prelude.{◌≡◌, ◌<◌, ◌++◌, length, slice_get, All, IfOk, OnOk};
 ghost use Rattle.design.specs.Design.{IsDesign};
 ghost use Rattle.causes.specs.Causes.{ShowUpTo};
 ghost use Rattle.causes.specs.Text.{cause_line, looks_text, loop_text, moment_text, pin_text, pins_text, reason_text, shown_text, stimulus_text, why_text};
@@ -9,9 +9,9 @@ use crate::walk::why;
 use bench_text::push_statement;
 use design::plain::shown;
 use design::{Design, asked_tick};
-use itoa::Buffer;
 use logic3::{Value, Waveform};
 use std::alloc::{AllocError, Global};
+use texts::push_numbered;
 
 /// Returns why a net has its value at a tick, by [`why`], with a line for each cause: what the net
 /// shows at which tick, its statement, and what its pins show when it reads them, or why it needs no
@@ -97,8 +97,7 @@ fn push_reason(
 fn push_stimulus(text: &mut Vec<u8>, name: &[u8], value: Value, tick: u64) -> Result<(), AllocError>
     ensures { OnOk result (text.new.items ≡ text.old.items ++ stimulus_text name.now value tick) }
 {
-    text.extend_from_slice(b", stimulus ")?;
-    push_number(text, tick)?;
+    push_numbered(text, b", stimulus ", tick)?;
     text.push(b' ')?;
     text.extend_from_slice(name)?;
     text.push(b' ')?;
@@ -204,13 +203,5 @@ fn push_moment(text: &mut Vec<u8>, name: &[u8], tick: u64) -> Result<(), AllocEr
     ensures { OnOk result (text.new.items ≡ text.old.items ++ moment_text name.now tick) }
 {
     text.extend_from_slice(name)?;
-    text.push(b'@')?;
-    push_number(text, tick)
-}
-
-fn push_number(text: &mut Vec<u8>, number: u64) -> Result<(), AllocError>
-    ensures { OnOk result (text.new.items ≡ text.old.items ++ decimal number) }
-{
-    let mut buffer = Buffer::new();
-    text.extend_from_slice(buffer.format(number).as_bytes())
+    push_numbered(text, b"@", tick)
 }

@@ -1,15 +1,10 @@
 -- Counts of the pins of all nets.
-use Rattle.std.proofs.Common.{◌≡◌, ℕ, ◌+◌, ◌<◌, ◌≤◌, ◌==◌, List, length, get_or, set, take, count_by, false, sym, ap, ◌∙◌, arith, inl, inr, refl}
+use Rattle.std.proofs.Common.{◌≡◌, ℕ, ◌+◌, ◌<◌, ◌≤◌, ◌==◌, List, length, get_or, set, take, sym, ap, ◌∙◌, arith, inl, inr, refl}
 use Rattle.std.proofs.lemmas.Bool.{cases_eq, eq-eqb}
-use Rattle.std.proofs.lemmas.Bool.Decides.{nat_tests}
 use Rattle.std.proofs.lemmas.List.{get_or-set_same, get_or-set_other, length-take-le}
 use Rattle.std.proofs.lemmas.List.Sums.{count_by-le-length, count_by_more_yes, count_by_more_no}
-
-test_fails : (m n : ℕ) → (m ≡ n → ⊥) → (m == n) ≡ false
-test_fails m n other = grind (arith, nat_tests)
-
-abbrev pub times : ℕ → List ℕ → ℕ
-times net pins = count_by (λ pin. pin == net) pins
+use Rattle.netlist.specs.Repeats.{times}
+use Rattle.netlist.proofs.CallerLemmas.{test_fails}
 
 pub few_times : (net : ℕ) (pins : List ℕ) (i : ℕ) → i ≤ length pins → times net (take i pins) ≤ i
 few_times net pins i within = omega (arith, count_by-le-length (λ pin. pin == net) (take i pins), length-take-le i pins within)

@@ -1,14 +1,15 @@
--- What is known at the end of the walk from gates back over their pins.
-use Rattle.std.proofs.Common.{◌≡◌, ℕ, zero, suc, ◌+◌, ◌==◌, ◌&&◌, ◌<◌, not, Bool, true, false, IsTrue, true≢false, if◌then◌else◌, List, [], length, map, refl, sym, ap, ◌∙◌, arith, Contains, ⊎_elim}
+-- What is known at the end of the pass over gates.
+use Rattle.std.proofs.Common.{◌≡◌, ℕ, zero, suc, ◌+◌, ◌==◌, ◌&&◌, ◌<◌, not, Bool, true, false, cond, IsTrue, true≢false, if◌then◌else◌, List, map, refl, sym, ap, ◌∙◌, arith, Contains, ⊎_elim}
 use Rattle.std.proofs.lemmas.List.{get_or-map, length-map}
 use Rattle.std.proofs.lemmas.List.Elements.{All-contains}
 use Rattle.netlist.specs.Netlist.{NetlistView}
-use Rattle.netlist.specs.Marks.{is_seen}
-use Rattle.circuit_info.specs.Levels.{is_gate_at, pins_at, level_at, level_above, IsLevelling}
+use Rattle.netlist.specs.Repeats.{times}
+use Rattle.netlist.specs.Flow.{is_gate_in}
+use Rattle.netlist.proofs.CallerLemmas.{contains_from_times, the_count}
+use Rattle.circuit_info.specs.Levels.{is_gate_at, pins_at, level_at, level_above}
 use Rattle.circuit_info.specs.Loops.{HasLevel, at_source, above_pins}
-use Rattle.circuit_info.specs.Climb.{is_known, IsLevelled, IsClimb, KnowsLevels}
-use Rattle.circuit_info.proofs.Climbing.{unknown_gate}
-use Rattle.circuit_info.proofs.Levelling.{gate_below}
+use Rattle.circuit_info.specs.Known.{is_known, KnowsLevels}
+use Rattle.circuit_info.proofs.OnePass.{unknown_gate, IsLevelled, IsPassed}
 use Rattle.circuit_info.proofs.Marks.{cases_zero}
 use Rattle.circuit_info.proofs.Tops.{greatest_bounds}
 
@@ -28,8 +29,8 @@ module _ (netlist : NetlistView) (levels : List ℕ) where
       let is = get_or-map (level_at levels) (pins_at netlist net) k pin 0 within ∙ ap (level_at levels) at in
       omega (arith, most, is, has.level)
 
-module _ (netlist : NetlistView) (levels : List ℕ) (seen : List Bool) (climb : IsClimb netlist levels seen [])
-    (all : (net : ℕ) → net < length netlist.nets → IsTrue (is_gate_at netlist net) → IsTrue (is_seen seen net)) where
+module _ (netlist : NetlistView) (order : List ℕ) (each : (net : ℕ) → times net order ≡ cond (is_gate_in netlist.nets net) 1 0)
+    (levels : List ℕ) (passed : IsPassed netlist order levels) where
   known_has : (bound net : ℕ) → level_at levels net < bound → IsTrue (is_known netlist levels net) → HasLevel netlist net
   known_has zero net less known = absurd (omega (arith, less))
   known_has (suc bound) net less known = go (is_gate_at netlist net) refl (λ pin lower known. known_has bound pin lower known)
@@ -37,7 +38,7 @@ module _ (netlist : NetlistView) (levels : List ℕ) (seen : List Bool) (climb :
       go : (gate : Bool) → is_gate_at netlist net ≡ gate →
           ((pin : ℕ) → level_at levels pin < bound → IsTrue (is_known netlist levels pin) → HasLevel netlist pin) → HasLevel netlist net
       go true is lower =
-          let has = climb.known net (some_level netlist levels net is known) in
+          let has = passed.known net (some_level netlist levels net is known) in
           above_pins net is (λ pin at. lower pin (omega (arith, less, lower_pin netlist levels net pin has at))
           (All-contains (λ pin. IsTrue (is_known netlist levels pin)) (pins_at netlist net) pin has.known at))
       go false is lower = at_source net is
@@ -50,25 +51,23 @@ module _ (netlist : NetlistView) (levels : List ℕ) (seen : List Bool) (climb :
       go false is =
           let unknown = unknown_gate netlist levels net is in
           absurd (⊎_elim
-          (λ (on : Contains [] net). omega (arith, on.1))
-          (λ left. ⊎_elim
           (λ some. omega (arith, some, unknown.1))
           (λ without. without has)
-          left)
-          (climb.seen_so net (all net (gate_below netlist net unknown.0) unknown.0)))
+          (passed.each net (contains_from_times net order (omega (arith, each net, ap the_count unknown.0)))))
 
-  pub KnowsLevels-all : KnowsLevels netlist levels
-  KnowsLevels-all = record {
-    size = climb.size;
-    known = λ net. (known_has (level_at levels net + 1) net (omega arith), has_known net);
-  }
-
-  pub IsLevelling-all : ((net : ℕ) → HasLevel netlist net) → IsLevelling netlist levels
-  IsLevelling-all has = record { size = climb.size; each = λ net below. go net (is_gate_at netlist net) refl }
+  level_is : (net : ℕ) → HasLevel netlist net → level_at levels net ≡ (if is_gate_at netlist net then level_above netlist levels net else 0)
+  level_is net has = go (is_gate_at netlist net) refl
     where
-      go : (net : ℕ) (gate : Bool) → is_gate_at netlist net ≡ gate → level_at levels net ≡ (if gate then level_above netlist levels net else 0)
-      go net true is = (climb.known net (some_level netlist levels net is (has_known net (has net)))).level
-      go net false is = ⊎_elim
+      go : (gate : Bool) → is_gate_at netlist net ≡ gate → level_at levels net ≡ (if gate then level_above netlist levels net else 0)
+      go true is = (passed.known net (some_level netlist levels net is (has_known net has))).level
+      go false is = ⊎_elim
           (λ none. none)
-          (λ some. absurd (true≢false (sym (climb.known net some).gate ∙ is)))
+          (λ some. absurd (true≢false (sym (passed.known net some).gate ∙ is)))
           (cases_zero (level_at levels net))
+
+  pub KnowsLevels-passed : KnowsLevels netlist levels
+  KnowsLevels-passed = record {
+    size = passed.size;
+    known = λ net. (known_has (level_at levels net + 1) net (omega arith), has_known net);
+    each = level_is;
+  }

@@ -1,23 +1,16 @@
 -- Levels are one way at most, and none where gates form a loop.
-use Rattle.std.proofs.Common.{◌≡◌, ℕ, zero, suc, ◌+◌, ◌-◌, ◌<◌, ◌≤◌, Bool, true, false, IsTrue, true≢false, if◌then◌else◌, List, length, get_or, map, refl, sym, ap, ◌∙◌, subst, arith, Contains, ◌⊎◌, inl, inr, ⊎_elim}
+use Rattle.std.proofs.Common.{◌≡◌, ℕ, zero, suc, ◌+◌, ◌-◌, ◌<◌, ◌≤◌, Bool, true, false, IsTrue, if◌then◌else◌, List, length, get_or, map, refl, sym, ap, ◌∙◌, subst, arith, Contains, ◌⊎◌, inl, inr}
 use Rattle.std.proofs.lemmas.Bool.{cases_lt}
 use Rattle.std.proofs.lemmas.List.{ext_get_or, get_or-map, length-map, get_or_default, get_or_past}
 use Rattle.netlist.specs.Netlist.{NetlistView}
-use Rattle.netlist.proofs.CallerLemmas.{no_net}
-use Rattle.netlist.specs.Part.{is_gate}
+use Rattle.netlist.proofs.CallerLemmas.{gate_within}
 use Rattle.circuit_info.specs.Levels.{greatest, is_gate_at, pins_at, level_at, level_above, IsLevelling, IsGateLoop}
 use Rattle.circuit_info.specs.Loops.{HasLevel, at_source, above_pins}
 use Rattle.circuit_info.proofs.Tops.{greatest_bounds, map_alike}
 
 module _ (netlist : NetlistView) where
-  pub gate_below : (net : ℕ) → IsTrue (is_gate_at netlist net) → net < length netlist.nets
-  gate_below net is = ⊎_elim
-      (λ below. below)
-      (λ past. absurd (true≢false (sym is ∙ ap (λ net. is_gate net.part) (get_or_past netlist.nets net no_net past))))
-      (cases_lt net (length netlist.nets))
-
   pub gate_level : (levels : List ℕ) → IsLevelling netlist levels → (net : ℕ) → IsTrue (is_gate_at netlist net) → level_at levels net ≡ level_above netlist levels net
-  gate_level levels ok net is = ok.each net (gate_below net is) ∙ ap (λ gate. if gate then level_above netlist levels net else 0) is
+  gate_level levels ok net is = ok.each net (gate_within netlist.nets net is) ∙ ap (λ gate. if gate then level_above netlist levels net else 0) is
 
   -- a gate is above each net at its pins
   pub above_pin : (levels : List ℕ) → IsLevelling netlist levels → (net : ℕ) → IsTrue (is_gate_at netlist net) →

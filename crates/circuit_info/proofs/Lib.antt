@@ -1,5 +1,5 @@
 pub mod CallerLemmas
-mod Climbing
+mod Codes
 mod Counting
 mod Heights
 mod Infos
@@ -9,6 +9,7 @@ mod Links
 mod Marks
 mod Members
 mod NamedLoops
+mod OnePass
 mod OneText
 mod Tops
 mod Ways

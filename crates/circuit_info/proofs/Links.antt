@@ -7,9 +7,6 @@ module _ (R : ℕ → ℕ → Type 0) where
   abbrev pub AreJoined : List ℕ → Type 0
   AreJoined nets = (place : ℕ) → place + 1 < length nets → R (get_or nets place 0) (get_or nets (place + 1) 0)
 
-  pub AreJoined-one : (net : ℕ) → AreJoined (net ∷ [])
-  AreJoined-one net place within = absurd (omega (arith, within))
-
   pub AreJoined-front : (nets : List ℕ) (last : ℕ) → AreJoined (nets ++ last ∷ []) → AreJoined nets
   AreJoined-front nets last joined place within =
       subst (λ net. R net (get_or nets (place + 1) 0)) (get_or_append_left nets (last ∷ []) 0 place (omega (arith, within)))

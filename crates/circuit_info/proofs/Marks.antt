@@ -1,11 +1,14 @@
 -- Marks and levels that change at one net.
-use Rattle.std.proofs.Common.{◌≡◌, ℕ, zero, suc, ◌+◌, ◌==◌, ◌<◌, not, Bool, false, cond, IsTrue, List, length, get_or, set, refl, sym, ap, ◌∙◌, arith, ◌⊎◌, inl, inr}
+use Rattle.std.proofs.Common.{◌≡◌, ℕ, zero, suc, ◌+◌, ◌==◌, ◌<◌, not, Bool, false, cond, IsTrue, List, count_by, length, get_or, set, refl, sym, ap, ◌∙◌, arith, ◌⊎◌, inl, inr}
 use Rattle.std.proofs.lemmas.Bool.Decides.{nat_tests}
 use Rattle.std.proofs.lemmas.List.{get_or_default}
 use Rattle.std.proofs.lemmas.List.Sums.{sum_by-set}
 use Rattle.netlist.specs.Marks.{is_seen}
 use Rattle.circuit_info.specs.Levels.{level_at}
-use Rattle.circuit_info.specs.Climb.{levelled}
+
+-- the number of gates that have a level
+abbrev pub levelled : List ℕ → ℕ
+levelled levels = count_by (λ level. not (level == 0)) levels
 
 pub cases_zero : (n : ℕ) → (n ≡ 0) ⊎ (0 < n)
 cases_zero zero = inl refl

@@ -3,9 +3,9 @@ use Rattle.std.proofs.Common.{◌≡◌, ◌≢◌, ℕ, zero, suc, ◌+◌, ◌
 use Rattle.std.proofs.lemmas.Bool.{cases_lt, cases_eq}
 use Rattle.std.proofs.lemmas.List.{ext_get_or, get_or_default, get_or-take, length-take-le, get_or-append-add, length-append, drop_at}
 use Rattle.netlist.specs.Netlist.{NetlistView}
+use Rattle.netlist.proofs.CallerLemmas.{gate_within}
 use Rattle.circuit_info.specs.Levels.{is_gate_at, pins_at, AreLinked, IsGateLoop}
 use Rattle.circuit_info.specs.Loops.{HasLevel, at_source, IsLeastWithout, LeadsOn, IsNamedLoop}
-use Rattle.circuit_info.proofs.Levelling.{gate_below}
 
 module _ (netlist : NetlistView) where
   -- a net that has no level is driven by a gate
@@ -108,7 +108,7 @@ module _ (netlist : NetlistView) where
     }
 
     pub loop_below : All (λ net. net < length netlist.nets) nets
-    loop_below place d within = gate_below netlist _ (IsGateLoop-named.gates place d within)
+    loop_below place d within = gate_within netlist.nets _ (IsGateLoop-named.gates place d within)
 
   module _ (nets others : List ℕ) (a : IsNamedLoop netlist nets) (b : IsNamedLoop netlist others) where
     same_so_far : (place : ℕ) → place < length (walked nets a) → place < length (walked others b) → get_or (walked nets a) place 0 ≡ get_or (walked others b) place 0

@@ -1,23 +1,21 @@
 -- The walk over nets that have no level, step by step.
-use Rattle.std.proofs.Common.{◌≡◌, ℕ, ◌+◌, ◌-◌, ◌<◌, Bool, true, false, IsTrue, true≢false, List, [], ◌∷◌, ◌++◌, length, get_or, set, take, drop, refl, sym, ap, ◌∙◌, subst, arith, Contains, ⊎_elim, length-set}
+use Rattle.std.proofs.Common.{◌≡◌, ◌≢◌, ℕ, ◌+◌, ◌-◌, ◌<◌, Bool, true, false, IsTrue, true≢false, List, [], ◌∷◌, ◌++◌, length, get_or, set, take, drop, refl, sym, ap, ◌∙◌, subst, arith, Contains, ⊎_elim, length-set}
 use Rattle.std.proofs.lemmas.Bool.{cases_lt}
 use Rattle.std.proofs.lemmas.List.{get_or_default, get_or-take, get_or-drop, get_or_push, get_or_append_left, length_push, length-take-le, length-drop, take-append-drop}
 use Rattle.std.proofs.lemmas.List.Elements.{Contains-push, Contains-push_cases, Contains-append_left}
 use Rattle.std.proofs.lemmas.List.Quantifiers.{all_pairs_push}
 use Rattle.netlist.specs.Netlist.{NetlistView}
 use Rattle.netlist.specs.Marks.{is_seen}
-use Rattle.netlist.proofs.CallerLemmas.{seen_now, seen_still, seen_cases}
+use Rattle.netlist.proofs.CallerLemmas.{gate_within, seen_now, seen_still, seen_cases}
 use Rattle.circuit_info.specs.Levels.{pins_at}
 use Rattle.circuit_info.specs.Loops.{HasLevel, above_pins, IsLeastWithout, LeadsOn, IsNamedLoop}
-use Rattle.circuit_info.specs.Climb.{is_known, KnownBefore, KnowsLevels, IsWay, IsRestFrom}
-use Rattle.circuit_info.proofs.Climbing.{Differ}
-use Rattle.circuit_info.proofs.Levelling.{gate_below}
+use Rattle.circuit_info.specs.Known.{is_known, KnownBefore, KnowsLevels, IsWay, IsRestFrom}
 use Rattle.circuit_info.proofs.Links.{AreJoined-front, AreJoined-push}
 use Rattle.circuit_info.proofs.NamedLoops.{gate_without}
 
 module _ (netlist : NetlistView) where
   pub without_below : (net : ℕ) → (HasLevel netlist net → ⊥) → net < length netlist.nets
-  without_below net without = gate_below netlist net (gate_without netlist net without)
+  without_below net without = gate_within netlist.nets net (gate_without netlist net without)
 
 module _ (netlist : NetlistView) (levels : List ℕ) (knows : KnowsLevels netlist levels) where
   pub unknown_without : (net : ℕ) → is_known netlist levels net ≡ false → HasLevel netlist net → ⊥
@@ -63,7 +61,7 @@ module _ (netlist : NetlistView) (start : ℕ) where
       without = lead.without;
       first = get_or_append_left (way ++ net ∷ []) (next ∷ []) 0 0 (omega (arith, length_push way net)) ∙ so_far.first;
       walk = AreJoined-push (LeadsOn netlist) way net next so_far.walk lead;
-      once = all_pairs_push Differ way net so_far.once (λ k d within same.
+      once = all_pairs_push (λ (earlier later : ℕ). earlier ≢ later) way net so_far.once (λ k d within same.
           true≢false (sym ((so_far.passed_so net).1 (k, within, get_or_default way k net d within ∙ same)) ∙ new));
       passed_so = λ other. (
         (λ is. ⊎_elim

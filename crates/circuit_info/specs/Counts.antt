@@ -5,6 +5,7 @@ use Rattle.netlist.specs.declared.part.Part.{Part}
 use Rattle.netlist.specs.declared.part.Part.TheVariants.{Input, Gate, Flop}
 use Rattle.netlist.specs.Netlist.{NetView, NetlistView, all_pins}
 use Rattle.netlist.specs.Part.{is_gate}
+use Rattle.netlist.specs.Repeats.{times}
 
 -- a distinct number for each part
 abbrev pub part_code : Part → ℕ
@@ -33,7 +34,7 @@ fan_ins netlist = map (λ (net : NetView). length net.pins) netlist.nets
 
 -- the number of pins that a net feeds
 abbrev pub fan_out : NetlistView → ℕ → ℕ
-fan_out netlist net = count_by (λ pin. pin == net) (all_pins netlist.nets)
+fan_out netlist net = times net (all_pins netlist.nets)
 
 -- the number of pins that each net feeds
 pub record IsFanOuts (netlist : NetlistView) (counts : List ℕ) : Type 0 where

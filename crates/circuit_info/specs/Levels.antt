@@ -1,11 +1,11 @@
 -- Levels of gates, and loops of gates.
 use Rattle.std.specs.Prelude.{◌≡◌, ◌≢◌, ℕ, ◌+◌, ◌-◌, ◌<◌, max, Bool, IsTrue, if◌then◌else◌, List, [], ◌∷◌, length, map, slice_index_or, All, AllPairs, Contains}
 use Rattle.netlist.specs.Netlist.{NetlistView, net_at}
-use Rattle.netlist.specs.Part.{is_gate}
+use Rattle.netlist.specs.Flow.{is_gate_in}
 
 -- a gate drives the net
 abbrev pub is_gate_at : NetlistView → ℕ → Bool
-is_gate_at netlist net = is_gate (net_at netlist net).part
+is_gate_at netlist net = is_gate_in netlist.nets net
 
 abbrev pub pins_at : NetlistView → ℕ → List ℕ
 pins_at netlist net = (net_at netlist net).pins

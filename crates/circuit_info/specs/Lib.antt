@@ -3,6 +3,6 @@ pub use Rattle.netlist.specs.Part
 pub mod Counts
 pub mod Levels
 pub mod Loops
-pub mod Climb
+pub mod Known
 pub mod Text
 pub mod InfoText

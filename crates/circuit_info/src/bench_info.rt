@@ -1,7 +1,7 @@
 //! The description of a circuit, from its .bench text.
 ghost use Rattle.std.specs.Prelude.{◌≡◌, ◌≢◌, ◌<◌, length, Err, IfOk};
 ghost use Rattle.std.specs.Result.{result_map_both};
-ghost use Rattle.text_lines.specs.Text.{longest_text};
+ghost use Rattle.texts.specs.Text.{longest_text};
 ghost use Rattle.bench_text.specs.declared.fault.BenchFault.TheVariants.{TooLong};
 ghost use Rattle.circuit_info.specs.InfoText.{IsInfoAnswer, IsInfoOf};
 

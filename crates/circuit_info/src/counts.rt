@@ -1,8 +1,7 @@
 //! Counts of a netlist's nets and pins.
 ghost use Rattle.std.specs.Prelude.{◌≡◌, ◌<◌, length, IfOk};
-ghost use Rattle.circuit_info.specs.Counts.{fan_ins, gate_count, part_code, part_count, IsFanOuts, IsFirstGreatest};
+ghost use Rattle.circuit_info.specs.Counts.{fan_ins, gate_count, part_count, IsFanOuts, IsFirstGreatest};
 
-use logic3::GateKind;
 use netlist::{Netlist, Part};
 use std::alloc::{AllocError, Global};
 
@@ -12,7 +11,7 @@ pub fn part_count(netlist: &Netlist, part: Part) -> u32
 {
     let mut count = 0;
     for net in 0..netlist.nets() {
-        if part_code(netlist.part(net)) == part_code(part) {
+        if netlist.part(net) == part {
             count += 1;
         }
     }
@@ -30,24 +29,6 @@ pub fn gate_count(netlist: &Netlist) -> u32
         }
     }
     gates
-}
-
-/// Returns a distinct number for each part.
-fn part_code(part: Part) -> u8
-    ensures { result ≡ part_code part }
-{
-    match part {
-        Part::Input => 0,
-        Part::Gate(GateKind::And) => 1,
-        Part::Gate(GateKind::Nand) => 2,
-        Part::Gate(GateKind::Or) => 3,
-        Part::Gate(GateKind::Nor) => 4,
-        Part::Gate(GateKind::Xor) => 5,
-        Part::Gate(GateKind::Xnor) => 6,
-        Part::Gate(GateKind::Not) => 7,
-        Part::Gate(GateKind::Buf) => 8,
-        Part::Flop => 9,
-    }
 }
 
 /// Returns the number of pins of each net, in order.

@@ -1,18 +1,16 @@
 //! The levels of gates, and the loop that is named if some gates have no level.
 //!
-//! A depth-first walk goes from gates back over their pins, and gives a gate its level once it knows those of all its
-//! pins. If it reaches a gate that it entered before and that has no level yet, none of the gates on its path has a
-//! level, and it leaves them all. It keeps its path in a list, so that long chains of gates need no stack.
-ghost use Rattle.std.specs.Prelude.{◌≡◌, ℕ, ◌+◌, ◌<◌, ◌≤◌, [], ◌∷◌, ◌++◌, length, map, set, true, All, IfOk, OnOk};
-ghost use Rattle.netlist.specs.Netlist.{IsNetlist};
-ghost use Rattle.netlist.specs.Marks.{KeepsSeen};
-ghost use Rattle.circuit_info.specs.Levels.{greatest, level_at, IsLevelling};
-ghost use Rattle.circuit_info.specs.Loops.{HasLevel, IsDepths};
-ghost use Rattle.circuit_info.specs.Climb.{IsClimb, KnowsLevels};
+//! One pass goes over the gates in the order in which values flow, and gives a gate its level if it knows those of all
+//! its pins. Otherwise the gate has none: a pin whose level isn't known by then has none, or is in a loop with the gate.
+ghost use Rattle.std.specs.Prelude.{◌≡◌, ℕ, ◌+◌, ◌<◌, ◌≤◌, length, map, All, IfOk};
+ghost use Rattle.netlist.specs.Netlist.{most_nets};
+ghost use Rattle.circuit_info.specs.Levels.{greatest, level_at};
+ghost use Rattle.circuit_info.specs.Loops.{IsDepths};
+ghost use Rattle.circuit_info.specs.Known.{KnowsLevels};
 
 use crate::known::first_unknown;
 use crate::loops::{least_without, named_loop};
-use netlist::Netlist;
+use netlist::{Netlist, gate_order};
 use std::alloc::{AllocError, Global};
 
 /// The levels of nets, or a loop of gates.
@@ -36,19 +34,45 @@ pub enum Depths {
 pub fn levels_of(alloc: Global, netlist: &Netlist) -> Result<Depths, AllocError>
     ensures { IfOk result (IsDepths netlist.now) }
 {
-    let mut walk = Walk {
-        levels: vec![in alloc; 0; netlist.nets() as usize]?,
-        seen: vec![in alloc; false; netlist.nets() as usize]?,
-        path: Vec::new(alloc),
-    };
-    walk.climb_all(netlist)?;
-    match least_without(netlist, walk.levels.as_slice()) {
+    let levels = known_levels(alloc, netlist)?;
+    match least_without(netlist, levels.as_slice()) {
         Some(net) => {
-            let nets = named_loop(alloc, netlist, walk.levels.as_slice(), net)?;
+            let nets = named_loop(alloc, netlist, levels.as_slice(), net)?;
             Ok(Depths::Loop(nets))
         }
-        None => Ok(Depths::Levels(walk.levels)),
+        None => Ok(Depths::Levels(levels)),
     }
+}
+
+/// Returns the level of each net that has one, and 0 for the others.
+fn known_levels(alloc: Global, netlist: &Netlist) -> Result<Vec<u32>, AllocError>
+    ensures { IfOk result (λ levels. KnowsLevels netlist.now levels.items) }
+{
+    let gates = gate_order(alloc, netlist)?;
+    let mut levels = vec![in alloc; 0; netlist.nets() as usize]?;
+    for gate in &gates {
+        let pins = netlist.pins_of(*gate);
+        if first_unknown(netlist, pins, levels.as_slice()) >= pins.len() {
+            levels[*gate as usize] = level_above(pins, levels.as_slice());
+        }
+    }
+    Ok(levels)
+}
+
+/// Returns one more than the greatest level of these pins.
+fn level_above(pins: &[u32], levels: &[u32]) -> u32
+    requires pins { All (λ pin. pin < length levels.now) pins.now }
+    requires few { (net : ℕ) → level_at levels.now net ≤ most_nets }
+    ensures { result ≡ greatest (map (level_at levels.now) pins.now) + 1 }
+{
+    let mut top = 0;
+    for pin in pins {
+        let level = levels[*pin as usize];
+        if level > top {
+            top = level;
+        }
+    }
+    top + 1
 }
 
 /// Returns the greatest of these numbers; 0 if there are none.
@@ -62,99 +86,4 @@ pub fn greatest(numbers: &[u32]) -> u32
         }
     }
     top
-}
-
-/// A gate on the path, and the place of the first of its pins whose level may not be known.
-#[derive(Clone, Copy, Debug)]
-struct Step {
-    gate: u32,
-    place: usize,
-}
-
-/// A walk from gates back over their pins.
-#[derive(Debug, Drop)]
-struct Walk {
-    // The levels of nets; 0 for gates whose level isn't known yet, or that have none.
-    levels: Vec<u32>,
-    // The gates that it has entered.
-    seen: Vec<bool>,
-    // The gates that it has entered and not left, each at a pin of the one before it.
-    path: Vec<Step>,
-}
-
-impl Walk {
-    /// Walks from each gate.
-    fn climb_all(&mut self, netlist: &Netlist) -> Result<(), AllocError>
-        requires climb { IsClimb netlist.now self.old.levels.items self.old.seen.items self.old.path.items }
-        requires path { self.old.path.items ≡ [] }
-        ensures knows { OnOk result (KnowsLevels netlist.now self.new.levels.items) }
-        ensures levels { OnOk result (((net : ℕ) → HasLevel netlist.now net) → IsLevelling netlist.now self.new.levels.items) }
-    {
-        for net in 0..netlist.nets() {
-            if netlist.part(net).is_gate() && !self.seen[net as usize] {
-                self.enter(net)?;
-                self.climb(netlist)?;
-            }
-        }
-        Ok(())
-    }
-
-    /// Enters a gate.
-    fn enter(&mut self, net: u32) -> Result<(), AllocError>
-        requires { net < length self.old.seen.items }
-        ensures seen { OnOk result (self.new.seen.items ≡ set self.old.seen.items net true) }
-        ensures path { OnOk result (self.new.path.items ≡ self.old.path.items ++ record { gate = net; place = 0 } ∷ []) }
-        ensures levels { OnOk result (self.new.levels.items ≡ self.old.levels.items) }
-    {
-        self.seen[net as usize] = true;
-        self.path.push(Step {
-            gate: net,
-            place: 0,
-        })?;
-        Ok(())
-    }
-
-    /// Walks on until all gates of the path have their levels, or are known to have none.
-    fn climb(&mut self, netlist: &Netlist) -> Result<(), AllocError>
-        requires formed { IsNetlist netlist.now }
-        requires climb { IsClimb netlist.now self.old.levels.items self.old.seen.items self.old.path.items }
-        ensures climb { OnOk result (IsClimb netlist.now self.new.levels.items self.new.seen.items self.new.path.items) }
-        ensures path { OnOk result (self.new.path.items ≡ []) }
-        ensures kept { OnOk result (KeepsSeen self.old.seen.items self.new.seen.items) }
-    {
-        while let Some(step) = self.path.pop() {
-            let pins = netlist.pins_of(step.gate);
-            let place = first_unknown(netlist, pins, step.place, self.levels.as_slice());
-            if place >= pins.len() {
-                self.levels[step.gate as usize] = level_above(pins, self.levels.as_slice());
-                continue;
-            }
-            if self.seen[pins[place] as usize] {
-                self.path.clear();
-                continue;
-            }
-            self.path.push(Step {
-                gate: step.gate,
-                place,
-            })?;
-            self.enter(pins[place])?;
-        }
-        Ok(())
-    }
-}
-
-/// Returns one more than the greatest level of these pins.
-fn level_above(pins: &[u32], levels: &[u32]) -> u32
-    requires pins { All (λ pin. pin < length levels.now) pins.now }
-    requires few { (net : ℕ) → level_at levels.now net ≤ 100_000 }
-    ensures { result ≡ greatest (map (level_at levels.now) pins.now) + 1 }
-{
-    let mut top = 0;
-    for pin in pins {
-        let level = levels[*pin as usize];
-        if level > top {
-            top = level;
-        }
-    }
-    top + 1
 }

@@ -2,7 +2,7 @@
 ghost use Rattle.std.specs.Prelude.{◌≡◌, ℕ, ◌<◌, length, slice_index_or, Contains, IfNone, IfOk, IfSome};
 ghost use Rattle.netlist.specs.Netlist.{IsNetlist};
 ghost use Rattle.circuit_info.specs.Loops.{HasLevel, IsLeastWithout, IsNamedLoop, LeadsOn};
-ghost use Rattle.circuit_info.specs.Climb.{IsRestFrom, KnowsLevels};
+ghost use Rattle.circuit_info.specs.Known.{IsRestFrom, KnowsLevels};
 
 use crate::known::{first_unknown, is_known};
 use netlist::Netlist;
@@ -52,7 +52,7 @@ fn next(netlist: &Netlist, levels: &[u32], net: u32) -> u32
     ensures { LeadsOn netlist.now net result }
 {
     let pins = netlist.pins_of(net);
-    let place = first_unknown(netlist, pins, 0, levels);
+    let place = first_unknown(netlist, pins, levels);
     prove!(place < pins.len());
     pins[place]
 }

@@ -5,10 +5,10 @@ ghost use Rattle.circuit_info.specs.Text.{count_line, gate_lines, loop_line, par
 
 use crate::counts::{fan_ins, fan_outs, first_greatest, gate_count, part_count};
 use crate::levels::{Depths, greatest, levels_of};
-use itoa::Buffer;
 use logic3::GateKind;
 use netlist::{Netlist, Part, push_names};
 use std::alloc::{AllocError, Global};
+use texts::push_numbered;
 
 /// Returns the text that describes a netlist. `unobserved` has the nets that no output depends on.
 ///
@@ -86,10 +86,8 @@ fn push_part(
 fn push_count(text: &mut Vec<u8>, word: &[u8], count: usize) -> Result<(), AllocError>
     ensures { OnOk result (text.new.items ≡ text.old.items ++ count_line word.now count) }
 {
-    let mut buffer = Buffer::new();
     text.extend_from_slice(word)?;
-    text.push(b' ')?;
-    text.extend_from_slice(buffer.format(count).as_bytes())?;
+    push_numbered(text, b" ", count as u64)?;
     text.push(b'\n')?;
     Ok(())
 }
@@ -106,10 +104,8 @@ fn push_greatest(
     ensures { OnOk result (AddsLine (IsGreatestLine netlist.now word.now numbers.now) text.old.items text.new.items) }
 {
     let net = first_greatest(numbers);
-    let mut buffer = Buffer::new();
     text.extend_from_slice(word)?;
-    text.push(b' ')?;
-    text.extend_from_slice(buffer.format(numbers[net]).as_bytes())?;
+    push_numbered(text, b" ", numbers[net] as u64)?;
     text.push(b' ')?;
     text.extend_from_slice(netlist.name(net as u32))?;
     text.push(b'\n')?;

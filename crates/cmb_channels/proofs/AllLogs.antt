@@ -1,19 +1,19 @@
 -- The logs of all nets, and what waits at each pin.
-use Rattle.std.proofs.Common.{◌≡◌, ℕ, zero, suc, ◌+◌, ◌-◌, ◌<◌, ◌≤◌, ◌==◌, Bool, true, false, cond, nat_le, max, List, [], ◌∷◌, ◌++◌, map, length, drop, count_by, replicate, All, Option, None, Some, IfSome, option_map, slice_get, slice_index_or, slice_set, refl, ap, sym, subst, ◌∙◌, arith, append-nil, zero-add, inl, inr}
-use Rattle.std.proofs.lemmas.Bool.{eqb-true, eqb-false, leb-true}
+use Rattle.std.proofs.Common.{◌≡◌, ℕ, zero, suc, ◌+◌, ◌-◌, ◌<◌, ◌≤◌, ◌==◌, Bool, true, false, cond, max, List, [], ◌∷◌, ◌++◌, map, length, drop, count_by, replicate, All, Some, slice_get, slice_index_or, slice_set, refl, ap, sym, subst, ◌∙◌, arith, append-nil, zero-add, inl, inr}
+use Rattle.std.proofs.lemmas.Bool.{eqb-true, eqb-false, ltb-false}
 use Rattle.std.proofs.lemmas.List.{length-set, length-map, length-drop, length-replicate}
 use Rattle.std.proofs.lemmas.List.FromFn.{length-map-range_with_len, get_or-map-range_with_len, map-range_with_len_more}
-use Rattle.std.proofs.lemmas.List.Elements.{All-nil, All-cons, All-head, All-tail}
+use Rattle.std.proofs.lemmas.List.Elements.{All-nil, All-cons, All-head, All-tail, All-weaker}
 use Rattle.std.proofs.lemmas.Option.{slice_get_read, slice_get_within, get_or_from_slice_get}
 use Rattle.std.specs.List.{range_with_len}
 use Rattle.std.specs.Option.{option_map_or}
 use Rattle.cmb_channels.specs.declared.message.Message.{Message}
-use Rattle.design.specs.Pins.{pins_fed}
-use Rattle.cmb_channels.specs.Lists.{sent, taken, most_waiting}
-use Rattle.cmb_channels.specs.Logs.{EntryView, two_to_64, next_count, past, LogView, empty_log, logs_read_by, written, read_at, unread, IsLog, unread_of, unread_lists, counts_of, AreLogs}
-use Rattle.cmb_channels.proofs.Counts.{IsReplaced, replaced-held, replaced-here, replaced-later, count_cons}
-use Rattle.cmb_channels.proofs.OneLog.{log_empty, log_written, unread_written, unread_next, log_read, unread_read, unread_first, left_to_take}
-use Rattle.cmb_channels.proofs.Places.{IsUpdated, update-set, get_of_update, get_update_same, get_update_other, sent-none, taken_at}
+use Rattle.design.specs.Pins.{pins_fed, all_fed}
+use Rattle.cmb_channels.specs.Lists.{sent, taken_many, most_waiting}
+use Rattle.cmb_channels.specs.Logs.{two_to_64, count_after, past, LogView, empty_log, logs_read_by, written, cut_to, passed, unread, is_behind, IsLog, unread_of, unread_lists, counts_of, AreLogs, AreStored}
+use Rattle.cmb_channels.proofs.Counts.{IsReplaced, replaced-held, replaced-here, replaced-later, count_cons, none_counted}
+use Rattle.cmb_channels.proofs.OneLog.{log_empty, log_written, unread_written, log_cut, unread_cut, unread_passed, unread_after, some_behind, log_passed}
+use Rattle.cmb_channels.proofs.Places.{IsUpdated, update-set, get_of_update, get_update_same, get_update_other, sent-none}
 
 -- ---- the counts of the pins that a net feeds
 
@@ -192,7 +192,7 @@ pub unread_is : (logs : List LogView) (net : ℕ) (log : LogView) (count : ℕ) 
     unread_of logs net count ≡ unread log count
 unread_is logs net log count e = ap (λ found. option_map_or (λ log. unread log count) found []) e
 
--- ---- a net sends
+-- ---- one log changes
 
 module _ (logs : List LogView) (sources counts : List ℕ) (all : AreLogs logs sources counts) (net : ℕ) (log : LogView)
     (at : slice_get logs net ≡ Some log) where
@@ -214,151 +214,169 @@ module _ (logs : List LogView) (sources counts : List ℕ) (all : AreLogs logs s
       go number found (inr other) =
           subst (IsLog found) (sym (elsewhere number other.0)) (all.logs_are number found other.1)
 
-  pub logs_written : (message : Message) → AreLogs (slice_set logs net (written message log)) sources counts
-  logs_written message =
-      logs_set (written message log) counts refl (log_written message log (counts_of net sources counts) (all.logs_are net log at)) (λ other differs. refl)
+  -- a log from which no pin has other messages to take
+  lists_same : (new : LogView) (later : List ℕ) → All (λ c. unread new c ≡ unread log c) (counts_of net sources later) →
+      unread_lists (slice_set logs net new) sources later ≡ unread_lists logs sources later
+  lists_same new later same =
+      unread_sent logs (slice_set logs net new) net [] sources later
+      (λ k d h. unread_here logs net log new _ at ∙ same k d h ∙ sym (unread_is logs net log _ at) ∙ sym (append-nil _))
+      (λ source count. unread_elsewhere logs net log new source count at)
+      ∙ sent-none net sources (unread_lists logs sources later)
 
-  pub lists_written : (message : Message) →
-      unread_lists (slice_set logs net (written message log)) sources counts ≡ sent net (message ∷ []) sources (unread_lists logs sources counts)
-  lists_written message =
-      unread_sent logs (slice_set logs net (written message log)) net (message ∷ []) sources counts
-      (λ k d h.
-      unread_here logs net log (written message log) _ at
-      ∙ unread_written message log (counts_of net sources counts) is _ (λ none. omega (arith, none, is.readers, h)) (is.within k d h)
-      ∙ ap (λ list. list ++ message ∷ []) (sym (unread_is logs net log _ at)))
-      (λ source count. unread_elsewhere logs net log (written message log) source count at)
-    where
-      is : IsLog log (counts_of net sources counts)
-      is = all.logs_are net log at
+  is : IsLog log (counts_of net sources counts)
+  is = all.logs_are net log at
 
-  -- a pin has taken no more than was sent
-  pub count_within : (pin count : ℕ) → slice_get sources pin ≡ Some net → slice_get counts pin ≡ Some count →
-      past log.cut count ≤ length log.entries
-  count_within pin count fed has =
-      replaced-held (λ c. past log.cut c ≤ length log.entries) count count (counts_of net sources counts) _
-      (counts_replaced net sources counts pin count count fed has) (all.logs_are net log at).within
+  -- ---- its net sends
+
+  module _ (message : Message) (new : LogView) (new_is : new ≡ written message log) where
+    pub logs_written : AreLogs (slice_set logs net new) sources counts
+    logs_written =
+        subst (λ l. AreLogs (slice_set logs net l) sources counts) (sym new_is)
+        (logs_set (written message log) counts refl (log_written message log (counts_of net sources counts) is) (λ other differs. refl))
+
+    pub lists_written : unread_lists (slice_set logs net new) sources counts ≡ sent net (message ∷ []) sources (unread_lists logs sources counts)
+    lists_written =
+        ap (λ l. unread_lists (slice_set logs net l) sources counts) new_is
+        ∙ unread_sent logs (slice_set logs net (written message log)) net (message ∷ []) sources counts
+        (λ k d h.
+        unread_here logs net log (written message log) _ at
+        ∙ unread_written message log (counts_of net sources counts) is _ (λ none. omega (arith, none, is.readers, h)) (is.within k d h)
+        ∙ ap (λ list. list ++ message ∷ []) (sym (unread_is logs net log _ at)))
+        (λ source count. unread_elsewhere logs net log (written message log) source count at)
 
   -- ---- a pin takes
 
-  module _ (pin count : ℕ) (fed : slice_get sources pin ≡ Some net) (has : slice_get counts pin ≡ Some count)
-      (there : past log.cut count < length log.entries) (few : past log.cut count + 1 < two_to_64) where
+  -- a pin has taken no more than was sent
+  pub count_within : (pin count : ℕ) → slice_get sources pin ≡ Some net → slice_get counts pin ≡ Some count →
+      past log.cut count ≤ length log.messages
+  count_within pin count fed has =
+      replaced-held (λ c. past log.cut c ≤ length log.messages) count count (counts_of net sources counts) _
+      (counts_replaced net sources counts pin count count fed has) is.within
+
+  -- a pin that hasn't taken all is counted
+  pub is_counted : (pin count : ℕ) → slice_get sources pin ≡ Some net → slice_get counts pin ≡ Some count →
+      past log.cut count < length log.messages → 0 < log.behind
+  is_counted pin count fed has more =
+      some_behind log count (counts_of net sources counts) _ is (counts_replaced net sources counts pin count count fed has) more
+
+  -- messages that wait at a pin are in the log
+  pub are_there : (pin count more : ℕ) → slice_get sources pin ≡ Some net → slice_get counts pin ≡ Some count → 0 < more →
+      more ≤ length (slice_index_or (unread_lists logs sources counts) pin []) → past log.cut count + more ≤ length log.messages
+  are_there pin count more fed has some there =
+      let waits = unread_at logs sources counts pin net count fed has ∙ unread_is logs net log count at in
+      omega (arith, some, there, ap length waits, length-drop (past log.cut count) log.messages)
+
+  module _ (pin count more : ℕ) (fed : slice_get sources pin ≡ Some net) (has : slice_get counts pin ≡ Some count)
+      (some : 0 < more) (there : past log.cut count + more ≤ length log.messages) (few : length log.messages < two_to_64)
+      (new : LogView) (new_is : new ≡ passed (past log.cut (count_after count more)) log) where
     abbrev later_counts : List ℕ
-    later_counts = slice_set counts pin (next_count count)
+    later_counts = slice_set counts pin (count_after count more)
 
-    one_replaced : IsReplaced count (next_count count) (counts_of net sources counts) (counts_of net sources later_counts)
-    one_replaced = counts_replaced net sources counts pin count (next_count count) fed has
+    abbrev passed_log : LogView
+    passed_log = passed (past log.cut (count_after count more)) log
 
-    pub front_read : (message : Message) →
-        Some message ≡ option_map (λ (entry : EntryView). entry.message) (slice_get log.entries (past log.cut count)) →
-        slice_index_or (unread_lists logs sources counts) pin []
-        ≡ message ∷ slice_index_or (taken pin (unread_lists logs sources counts)) pin []
-    front_read message e =
-        let waits = unread_at logs sources counts pin net count fed has ∙ unread_is logs net log count at in
-        let exists : pin < length (unread_lists logs sources counts) =
-        omega (arith, slice_get_within sources pin net fed, length-unread logs sources counts all.one_count_each) in
-        waits
-        ∙ unread_first log count message e
-        ∙ ap (λ list. message ∷ drop 1 list) (sym waits)
-        ∙ ap (λ list. message ∷ list) (sym (taken_at pin (unread_lists logs sources counts) exists))
+    one_replaced : IsReplaced count (count_after count more) (counts_of net sources counts) (counts_of net sources later_counts)
+    one_replaced = counts_replaced net sources counts pin count (count_after count more) fed has
 
-    pub logs_read : AreLogs (slice_set logs net (read_at (past log.cut count) log)) sources (slice_set counts pin (next_count count))
-    logs_read =
-        logs_set (read_at (past log.cut count) log) later_counts (length-set counts pin (next_count count))
-        (log_read log count (counts_of net sources counts) (counts_of net sources later_counts) (all.logs_are net log at) one_replaced there few)
-        (λ other differs. counts_elsewhere other net sources counts pin (next_count count) fed differs)
+    pub logs_passed : AreLogs (slice_set logs net new) sources (slice_set counts pin (count_after count more))
+    logs_passed =
+        subst (λ l. AreLogs (slice_set logs net l) sources later_counts) (sym new_is)
+        (logs_set passed_log later_counts (length-set counts pin (count_after count more))
+        (log_passed log count more (counts_of net sources counts) (counts_of net sources later_counts) is one_replaced some there few)
+        (λ other differs. counts_elsewhere other net sources counts pin (count_after count more) fed differs))
 
-    pub lists_read :
-        unread_lists (slice_set logs net (read_at (past log.cut count) log)) sources (slice_set counts pin (next_count count))
-        ≡ taken pin (unread_lists logs sources counts)
-    lists_read =
-        unread_sent logs (slice_set logs net (read_at (past log.cut count) log)) net [] sources later_counts
-        (λ k d h.
-        unread_here logs net log (read_at (past log.cut count) log) _ at
-        ∙ unread_read log count (counts_of net sources counts) (counts_of net sources later_counts) is one_replaced there few k d h
-        ∙ sym (unread_is logs net log _ at)
-        ∙ sym (append-nil _))
-        (λ source c. unread_elsewhere logs net log (read_at (past log.cut count) log) source c at)
-        ∙ sent-none net sources (unread_lists logs sources later_counts)
-        ∙ unread_set logs sources counts pin net (next_count count) fed
+    pub lists_passed :
+        unread_lists (slice_set logs net new) sources (slice_set counts pin (count_after count more)) ≡ taken_many more pin (unread_lists logs sources counts)
+    lists_passed =
+        ap (λ l. unread_lists (slice_set logs net l) sources later_counts) new_is
+        ∙ lists_same passed_log later_counts (λ k d h. unread_passed (past log.cut (count_after count more)) log _)
+        ∙ unread_set logs sources counts pin net (count_after count more) fed
         ∙ ap (slice_set (unread_lists logs sources counts) pin)
-        (unread_is logs net log (next_count count) at
-        ∙ unread_next log count is.cut few
-        ∙ ap (drop 1) (sym (unread_is logs net log count at) ∙ sym (unread_at logs sources counts pin net count fed has)))
-      where
-        is : IsLog log (counts_of net sources counts)
-        is = all.logs_are net log at
+        (unread_is logs net log (count_after count more) at
+        ∙ unread_after log count more is.cut (omega (arith, there, few))
+        ∙ ap (drop more) (sym (unread_is logs net log count at) ∙ sym (unread_at logs sources counts pin net count fed has)))
 
-  -- ---- how many it keeps
+  -- ---- how many wait at most
 
-  pub unread_long : (count : ℕ) → length (unread_of logs net count) ≡ length log.entries - past log.cut count
-  unread_long count =
-      ap length (unread_is logs net log count at)
-      ∙ length-map (drop (past log.cut count) log.entries) (λ (entry : EntryView). entry.message)
-      ∙ length-drop (past log.cut count) log.entries
+  unread_long : (count : ℕ) → length (unread_of logs net count) ≡ length log.messages - past log.cut count
+  unread_long count = ap length (unread_is logs net log count at) ∙ length-drop (past log.cut count) log.messages
 
-  most_within : (sources counts : List ℕ) → most_waiting net sources (unread_lists logs sources counts) ≤ length log.entries
-  most_within [] counts = omega arith
-  most_within (source ∷ sources) [] = omega arith
-  most_within (source ∷ sources) (count ∷ counts) = go (source == net) refl (most_within sources counts)
+  most_le : (limit : ℕ) (sources counts : List ℕ) → All (λ c. length log.messages ≤ past log.cut c + limit) (counts_of net sources counts) →
+      most_waiting net sources (unread_lists logs sources counts) ≤ limit
+  most_le limit [] counts few = omega arith
+  most_le limit (source ∷ sources) [] few = omega arith
+  most_le limit (source ∷ sources) (count ∷ counts) few = go (source == net) refl few (most_le limit sources counts)
     where
-      go : (same : Bool) → (source == net) ≡ same → most_waiting net sources (unread_lists logs sources counts) ≤ length log.entries →
+      P : ℕ → Type 0
+      P c = length log.messages ≤ past log.cut c + limit
+
+      go : (same : Bool) → (source == net) ≡ same → All P (cond same (count ∷ counts_of net sources counts) (counts_of net sources counts)) →
+          (All P (counts_of net sources counts) → most_waiting net sources (unread_lists logs sources counts) ≤ limit) →
           cond same (max (length (unread_of logs source count)) (most_waiting net sources (unread_lists logs sources counts)))
           (most_waiting net sources (unread_lists logs sources counts))
-          ≤ length log.entries
-      go true is later =
+          ≤ limit
+      go true is few later =
           let own = ap (λ s. length (unread_of logs s count)) (eqb-true source net is) in
-          omega (arith, later, own, unread_long count)
-      go false is later = later
+          let rest = later (All-tail P count _ few) in
+          omega (arith, own, unread_long count, All-head P count _ few, rest)
+      go false is few later = later few
 
-  most_reached : (sources counts : List ℕ) → 0 < count_by (λ count. nat_le (past log.cut count) 0) (counts_of net sources counts) →
-      length log.entries ≤ most_waiting net sources (unread_lists logs sources counts)
-  most_reached [] counts h = absurd (omega (arith, h))
-  most_reached (source ∷ sources) [] h = absurd (omega (arith, h))
-  most_reached (source ∷ sources) (count ∷ counts) h = go (source == net) refl h (most_reached sources counts)
+  most_bounds : (sources counts : List ℕ) →
+      All (λ c. length log.messages ≤ past log.cut c + most_waiting net sources (unread_lists logs sources counts)) (counts_of net sources counts)
+  most_bounds [] counts = All-nil (λ c. length log.messages ≤ past log.cut c + 0)
+  most_bounds (source ∷ sources) [] = All-nil (λ c. length log.messages ≤ past log.cut c + 0)
+  most_bounds (source ∷ sources) (count ∷ counts) = go (source == net) refl (most_bounds sources counts)
     where
       most : ℕ
       most = most_waiting net sources (unread_lists logs sources counts)
 
-      P : ℕ → Bool
-      P c = nat_le (past log.cut c) 0
+      P : ℕ → ℕ → Type 0
+      P limit c = length log.messages ≤ past log.cut c + limit
 
-      first : (passes : Bool) → P count ≡ passes → (source ≡ net) →
-          0 < cond passes 1 0 + count_by P (counts_of net sources counts) →
-          (0 < count_by P (counts_of net sources counts) → length log.entries ≤ most) →
-          length log.entries ≤ max (length (unread_of logs source count)) most
-      first true passes is h rest =
-          let own = ap (λ s. length (unread_of logs s count)) is in
-          omega (arith, own, unread_long count, leb-true _ 0 passes)
-      first false passes is h rest = omega (arith, rest (omega (arith, h)))
+      go : (same : Bool) → (source == net) ≡ same → All (P most) (counts_of net sources counts) →
+          All (P (cond same (max (length (unread_of logs source count)) most) most)) (cond same (count ∷ counts_of net sources counts) (counts_of net sources counts))
+      go true is later =
+          let own = ap (λ s. length (unread_of logs s count)) (eqb-true source net is) in
+          let limit = max (length (unread_of logs source count)) most in
+          All-cons (P limit) count (counts_of net sources counts) (omega (arith, own, unread_long count))
+          (All-weaker (P most) (P limit) (λ c h. omega (arith, h)) (counts_of net sources counts) later)
+      go false is later = later
 
-      go : (same : Bool) → (source == net) ≡ same →
-          0 < count_by P (cond same (count ∷ counts_of net sources counts) (counts_of net sources counts)) →
-          (0 < count_by P (counts_of net sources counts) → length log.entries ≤ most) →
-          length log.entries ≤ cond same (max (length (unread_of logs source count)) most) most
-      go true is h rest =
-          first (P count) refl (eqb-true source net is) (omega (arith, h, count_cons P count (counts_of net sources counts))) rest
-      go false is h rest = rest h
+  -- no more than are in the log
+  pub most_within : most_waiting net sources (unread_lists logs sources counts) ≤ length log.messages
+  most_within = most_le (length log.messages) sources counts (λ k d h. omega arith)
 
-  pub kept_is : length log.entries ≡ most_waiting net sources (unread_lists logs sources counts)
-  kept_is = go log.entries refl
-    where
-      go : (entries : List EntryView) → log.entries ≡ entries → length log.entries ≡ most_waiting net sources (unread_lists logs sources counts)
-      go [] e = omega (arith, ap length e, most_within sources counts)
-      go (entry ∷ entries) e =
-          let is = all.logs_are net log at in
-          let front = ap (λ es. slice_get es 0) e in
-          omega (arith, most_within sources counts, most_reached sources counts (omega (arith, is.left 0 entry front, is.first entry front)))
+  -- none if no pin is behind
+  pub most_none : log.behind ≡ 0 → most_waiting net sources (unread_lists logs sources counts) ≤ 0
+  most_none none =
+      most_le 0 sources counts
+      (λ k d h.
+      let all_taken = none_counted (is_behind log) (counts_of net sources counts) (sym is.behind ∙ none) k d h in
+      omega (arith, ltb-false _ _ all_taken))
 
--- the message that a pin takes next has still to be taken
-pub some_left : (logs : List LogView) (sources counts : List ℕ) → AreLogs logs sources counts → (pin net count : ℕ) (log : LogView) →
-    Reading logs sources counts pin net count log → IfSome (slice_get log.entries (past log.cut count)) (λ entry. 0 < entry.left)
-some_left logs sources counts all pin net count log at = go (slice_get log.entries (past log.cut count)) refl
-  where
-    go : (found : Option EntryView) → slice_get log.entries (past log.cut count) ≡ found → IfSome found (λ entry. 0 < entry.left)
-    go None e = tt
-    go (Some entry) e =
-        left_to_take log count count (counts_of net sources counts) _ (all.logs_are net log at.at)
-        (counts_replaced net sources counts pin count count at.fed at.has) entry e
+  -- ---- what all pins have taken is removed
+
+  module _ (kept : ℕ) (enough : most_waiting net sources (unread_lists logs sources counts) ≤ kept) (new : LogView) (new_is : new ≡ cut_to kept log) where
+    taken_by_all : All (λ c. length log.messages - kept ≤ past log.cut c) (counts_of net sources counts)
+    taken_by_all k d h = omega (arith, enough, most_bounds sources counts k d h)
+
+    pub logs_cut : AreLogs (slice_set logs net new) sources counts
+    logs_cut =
+        subst (λ l. AreLogs (slice_set logs net l) sources counts) (sym new_is)
+        (logs_set (cut_to kept log) counts refl (log_cut kept log (counts_of net sources counts) is taken_by_all) (λ other differs. refl))
+
+    pub lists_cut : unread_lists (slice_set logs net new) sources counts ≡ unread_lists logs sources counts
+    lists_cut =
+        ap (λ l. unread_lists (slice_set logs net l) sources counts) new_is
+        ∙ lists_same (cut_to kept log) counts (unread_cut kept log (counts_of net sources counts) is taken_by_all)
+
+-- the pins that nets feed stay the same
+pub stored_set : {logs : List LogView} {sources counts : List ℕ} {fed : List (List ℕ)} → AreStored logs sources counts fed → (net : ℕ) (new : LogView) →
+    (later : List ℕ) → AreLogs (slice_set logs net new) sources later → AreStored (slice_set logs net new) sources later fed
+stored_set {logs} {sources} stored net new later are = record {
+  logs_are = are;
+  fed_are = stored.fed_are ∙ ap (λ nets. all_fed nets sources) (sym (length-set logs net new));
+}
 
 -- ---- at first
 

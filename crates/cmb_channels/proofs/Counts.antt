@@ -1,49 +1,32 @@
 -- Counts of messages, and how many of some numbers pass a test.
-use Rattle.std.proofs.Common.{◌≡◌, ℕ, suc, ◌+◌, ◌<◌, Bool, true, false, cond, nat_le, List, [], ◌∷◌, ◌++◌, length, count_by, All, refl, ap, sym, subst, ◌∙◌, arith}
-use Rattle.std.proofs.lemmas.Bool.{leb-true, leb-false}
+use Rattle.std.proofs.Common.{◌≡◌, ℕ, suc, ◌+◌, ◌<◌, ◌≤◌, Bool, true, false, cond, nat_lt, List, [], ◌∷◌, ◌++◌, length, count_by, All, refl, ap, sym, subst, ◌∙◌, arith}
+use Rattle.std.proofs.lemmas.Bool.{ltb-true, ltb-false}
 use Rattle.std.proofs.lemmas.List.Elements.{All-nil, All-cons, All-head, All-tail}
 use Rattle.std.proofs.lemmas.List.Sums.{sum_by-cons}
-use Rattle.cmb_channels.specs.Logs.{two_to_64, next_count, past}
+use Rattle.cmb_channels.specs.Logs.{two_to_64, count_after, past}
 
 -- ---- counts that go round
 
-pub next_within : (count : ℕ) → next_count count < two_to_64
-next_within count = omega arith
+pub after_within : (count more : ℕ) → count_after count more < two_to_64
+after_within count more = omega arith
 
-pub past_next : (from count : ℕ) → from < two_to_64 → past from count + 1 < two_to_64 → past from (next_count count) ≡ past from count + 1
-past_next from count below few = omega arith
+pub past_after : (from count more : ℕ) → from < two_to_64 → past from count + more < two_to_64 →
+    past from (count_after count more) ≡ past from count + more
+past_after from count more below few = omega arith
 
-pub past_trimmed : (from count : ℕ) → from < two_to_64 → 0 < past from count → past (next_count from) count + 1 ≡ past from count
-past_trimmed from count below more = omega arith
+pub past_cut : (from more count : ℕ) → from < two_to_64 → more ≤ past from count → past (count_after from more) count + more ≡ past from count
+past_cut from more count below taken = omega arith
 
 -- ---- tests
 
-pub le_shifted : (a b i : ℕ) → a + 1 ≡ b → nat_le b (suc i) ≡ nat_le a i
-le_shifted a b i e = go (nat_le b (suc i)) (nat_le a i) refl refl
+pub same_lt : (a b m n : ℕ) → (a < b → m < n) → (m < n → a < b) → nat_lt a b ≡ nat_lt m n
+same_lt a b m n to from = go (nat_lt a b) (nat_lt m n) refl refl
   where
-    go : (one other : Bool) → nat_le b (suc i) ≡ one → nat_le a i ≡ other → one ≡ other
+    go : (one other : Bool) → nat_lt a b ≡ one → nat_lt m n ≡ other → one ≡ other
     go true true f g = refl
-    go true false f g = absurd (omega (arith, e, leb-true b (suc i) f, leb-false a i g))
-    go false true f g = absurd (omega (arith, e, leb-false b (suc i) f, leb-true a i g))
+    go true false f g = absurd (omega (arith, to (ltb-true a b f), ltb-false m n g))
+    go false true f g = absurd (omega (arith, from (ltb-true m n g), ltb-false a b f))
     go false false f g = refl
-
--- one that is at most a limit is so no longer when it grows by one past it
-pub falls_at : (place m n : ℕ) → m + cond (nat_le place place) 1 0 ≡ n + cond (nat_le (place + 1) place) 1 0 → m + 1 ≡ n
-falls_at place m n = go (nat_le place place) (nat_le (place + 1) place) refl refl
-  where
-    go : (one other : Bool) → nat_le place place ≡ one → nat_le (place + 1) place ≡ other → m + cond one 1 0 ≡ n + cond other 1 0 → m + 1 ≡ n
-    go true true f g e = absurd (omega (arith, leb-true (place + 1) place g))
-    go true false f g e = omega (arith, e)
-    go false other f g e = absurd (omega (arith, leb-false place place f))
-
-pub stays_at : (place at m n : ℕ) → (at ≡ place → ⊥) → m + cond (nat_le place at) 1 0 ≡ n + cond (nat_le (place + 1) at) 1 0 → m ≡ n
-stays_at place at m n differs = go (nat_le place at) (nat_le (place + 1) at) refl refl
-  where
-    go : (one other : Bool) → nat_le place at ≡ one → nat_le (place + 1) at ≡ other → m + cond one 1 0 ≡ n + cond other 1 0 → m ≡ n
-    go true true f g e = omega (arith, e)
-    go true false f g e = absurd (differs (omega (arith, leb-true place at f, leb-false (place + 1) at g)))
-    go false true f g e = absurd (omega (arith, leb-false place at f, leb-true (place + 1) at g))
-    go false false f g e = omega (arith, e)
 
 -- ---- how many pass
 
@@ -55,6 +38,12 @@ all_counted P [] all = refl
 all_counted P (x ∷ xs) all =
     let rest = all_counted P xs (All-tail (λ y. P y ≡ true) x xs all) in
     count_cons P x xs ∙ ap (λ b. cond b 1 0 + count_by P xs) (All-head (λ y. P y ≡ true) x xs all) ∙ omega (arith, rest)
+
+pub not_counted : (P : ℕ → Bool) (xs : List ℕ) → All (λ x. P x ≡ false) xs → count_by P xs ≡ 0
+not_counted P [] all = refl
+not_counted P (x ∷ xs) all =
+    let rest = not_counted P xs (All-tail (λ y. P y ≡ false) x xs all) in
+    count_cons P x xs ∙ ap (λ b. cond b 1 0 + count_by P xs) (All-head (λ y. P y ≡ false) x xs all) ∙ omega (arith, rest)
 
 pub none_counted : (P : ℕ → Bool) (xs : List ℕ) → count_by P xs ≡ 0 → All (λ x. P x ≡ false) xs
 none_counted P [] e = All-nil (λ x. P x ≡ false)
@@ -114,10 +103,6 @@ counted-among : (P : ℕ → Bool) (before : List ℕ) (x : ℕ) (after : List �
 counted-among P [] x after e = omega (arith, count_cons P x after ∙ ap (λ b. cond b 1 0 + count_by P after) e)
 counted-among P (y ∷ before) x after e =
     omega (arith, counted-among P before x after e, count_cons P y (before ++ x ∷ after))
-
-pub replaced-counted : (P : ℕ → Bool) (old new : ℕ) (xs ys : List ℕ) → IsReplaced old new xs ys → P new ≡ true → 0 < count_by P ys
-replaced-counted P old new xs ys replaced e =
-    subst (λ zs. 0 < count_by P zs) (sym replaced.is) (counted-among P replaced.before new replaced.after e)
 
 pub held-counted : (P : ℕ → Bool) (old new : ℕ) (xs ys : List ℕ) → IsReplaced old new xs ys → P old ≡ true → 0 < count_by P xs
 held-counted P old new xs ys replaced e =

@@ -1,5 +1,5 @@
 -- Channels from nets to pins.
-use Rattle.std.specs.Prelude.{◌≡◌, ℕ, suc, Bool, true, false, ◌==◌, if◌then◌else◌, List, [], ◌∷◌, length, map, Vec}
+use Rattle.std.specs.Prelude.{◌≡◌, ℕ, suc, Bool, true, false, ◌==◌, if◌then◌else◌, List, [], ◌∷◌, length, map}
 use Rattle.std.specs.List.{range_with_len}
 use Rattle.design.specs.Pins.{all_fed}
 use Rattle.cmb_channels.specs.declared.message.Message.{Message}
@@ -23,11 +23,6 @@ source_in (pins ∷ fed) pin = if is_among pin pins then 0 else suc (source_in f
 -- the net that feeds each of a number of pins
 abbrev pub sources_in : List (List ℕ) → ℕ → List ℕ
 sources_in fed pins = map (source_in fed) (range_with_len 0 pins)
-
-module _ {A : Type 0} where
-  -- the pins that are stored for each net
-  abbrev pub pins_in : List (Vec ℕ A) → List (List ℕ)
-  pins_in fed = map (λ pins. pins.items) fed
 
 -- each net feeds the pins whose source it is, among a number of pins
 abbrev pub AreFed : List (List ℕ) → ℕ → Type 0

@@ -2,6 +2,7 @@ pub mod Kinds
 pub mod Lists
 pub mod Channels
 pub mod Waiting
+pub mod FedPins
 pub mod Logs
 pub use Rattle.logic3.specs.Gate
 pub use Rattle.logic3.specs.Wave

@@ -18,11 +18,12 @@
 #![tactic(auto)]
 
 mod fabric;
+mod fed_pins;
 mod logs;
 mod message;
 mod queues;
 
 pub use fabric::Fabric;
-pub use logs::Logs;
+pub use logs::{Logged, Logs};
 pub use message::Message;
 pub use queues::Queues;

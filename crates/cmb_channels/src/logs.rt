@@ -1,24 +1,32 @@
-ghost use Rattle.std.specs.Prelude.{◌≡◌, ◌<◌, [], ◌∷◌, length, OnOk, OnErr};
+ghost use Rattle.std.specs.Prelude.{◌≡◌, ◌<◌, ◌≤◌, [], ◌∷◌, length, slice_index_or, OnOk, OnErr};
 ghost use Rattle.design.specs.Pins.{pins_fed};
-ghost use Rattle.cmb_channels.specs.Lists.{sent, most_waiting};
+ghost use Rattle.cmb_channels.specs.Lists.{sent, taken_many, most_waiting};
 
 mod building;
-mod entry;
 mod log;
+mod logged;
 
 use crate::fabric::Fabric;
+use crate::fed_pins::FedPins;
 use crate::message::Message;
 use building::{no_counts, pin_sources, read_logs};
 use design::Design;
 use log::Log;
+pub use logged::Logged;
 use std::alloc::{AllocError, Global};
 use std::marker::Model;
 
 /// Channels with a log for each net, of the messages that it sent, and a count for each pin, of the
-/// messages that it has taken. Messages that every pin of the net has taken are removed.
+/// messages that it has taken. What waits at a pin is one slice of a log.
 ///
-/// Sending, taking and counting take amortized constant time, for any number of pins that the net
-/// feeds. A message needs sixteen bytes, for all pins together.
+/// A message needs sixteen bytes, for all pins together. Sending, taking and counting take amortized
+/// constant time, for any number of pins that the net feeds and of messages that are taken at once.
+///
+/// Once every pin of a net has taken all, the net's next message empties its log. If a log is full before
+/// that, and half of it or more has been taken by every pin, this part is removed; otherwise the log
+/// grows. The part is looked for only if the log has 16 messages or more, and as many as the net feeds
+/// pins. A log gives no memory back. It has room for at most 16 messages, for two for each pin, or for
+/// four times the most that ever waited at a pin, whichever is most.
 #[derive(Debug, Drop)]
 pub struct Logs {
     // The net that feeds each pin.
@@ -27,12 +35,14 @@ pub struct Logs {
     counts: Vec<u64>,
     // The log of each net.
     logs: Vec<Log>,
+    // The pins that each net feeds.
+    fed: FedPins,
 }
 
 impl Model for Logs {
     ghost use Rattle.std.specs.Prelude.{length};
     ghost use Rattle.cmb_channels.specs.Channels.{Channels};
-    ghost use Rattle.cmb_channels.specs.Logs.{AreLogs, unread_lists};
+    ghost use Rattle.cmb_channels.specs.Logs.{AreStored, unread_lists};
 
     ghost Value = { Channels };
 
@@ -42,17 +52,75 @@ impl Model for Logs {
       nets = length l.logs.items;
     } };
 
-    ghost invariant = { λ l. AreLogs l.logs.items l.sources.items l.counts.items };
+    ghost invariant = { λ l. AreStored l.logs.items l.sources.items l.counts.items l.fed };
 }
 
 impl Logs {
-    /// Returns the number of messages in the log of a net: the largest number that waits at a pin
-    /// that the net feeds, or 0 if it feeds none. Allocates nothing.
+    /// Returns the messages that wait at the pin, the oldest first. Allocates nothing.
+    pub fn waiting_messages(&self, pin: u32) -> &[Logged]
+        requires { pin < length self.now.lists }
+        ensures { result.now ≡ slice_index_or self.now.lists pin [] }
+    {
+        let source = self.sources[pin as usize];
+        self.logs[source as usize].unread(self.counts[pin as usize])
+    }
+
+    /// Takes the `count` oldest of the messages that wait at the pin. Messages at other pins are unaffected,
+    /// including those from the same net. Allocates nothing.
+    pub fn take_many(&mut self, pin: u32, count: usize)
+        requires pin { pin < length self.old.lists }
+        requires there { count ≤ length (slice_index_or self.old.lists pin []) }
+        ensures lists { self.new.lists ≡ taken_many count pin self.old.lists }
+        ensures pins { length self.new.lists ≡ length self.old.lists }
+        ensures sources { self.new.sources ≡ self.old.sources }
+        ensures nets { self.new.nets ≡ self.old.nets }
+    {
+        if count == 0 {
+            return;
+        }
+        let source = self.sources[pin as usize];
+        let taken = self.counts[pin as usize].wrapping_add(count as u64);
+        self.logs[source as usize].pass(taken);
+        self.counts[pin as usize] = taken;
+    }
+
+    /// Returns the number of messages of a net that some pin hasn't taken: the largest number that waits at
+    /// a pin that the net feeds, or 0 if it feeds none. Takes time in proportion to the pins that the net
+    /// feeds. Allocates nothing.
     pub fn kept(&self, net: u32) -> u64
         requires { net < self.now.nets }
         ensures { result ≡ most_waiting net self.now.sources self.now.lists }
     {
-        self.logs[net as usize].len()
+        let mut most = 0;
+        for pin in self.fed.of(net) {
+            most = self.waiting(*pin).max(most);
+        }
+        most
+    }
+
+    /// Returns how many messages of a net to keep at least, before one more is added to its log: none if all
+    /// are taken, what some pin hasn't taken if the log would have to grow, and otherwise all.
+    fn to_keep(&self, net: u32) -> usize
+        requires { net < self.now.nets }
+        ensures { most_waiting net self.now.sources self.now.lists ≤ result }
+    {
+        let log = &self.logs[net as usize];
+        if log.is_read() {
+            0
+        } else if log.is_full() {
+            self.kept(net) as usize
+        } else {
+            log.len()
+        }
+    }
+
+    /// Makes room in the log of a net by removing messages that all pins have taken. Changes no list.
+    fn make_room(&mut self, net: u32)
+        requires { net < self.old.nets }
+        ensures { self.new ≡ self.old }
+    {
+        let kept = self.to_keep(net);
+        self.logs[net as usize].cut_to(kept);
     }
 }
 
@@ -70,10 +138,12 @@ impl Fabric for Logs {
         let counts = no_counts(alloc, pins)?;
         let sources = pin_sources(alloc, design)?;
         let logs = read_logs(alloc, design)?;
+        let fed = FedPins::new(alloc, design)?;
         Ok(Logs {
             sources,
             counts,
             logs,
+            fed,
         })
     }
 
@@ -87,20 +157,18 @@ impl Fabric for Logs {
         // A send from a net that feeds no pin allocates nothing.
         ensures memory { OnErr result (0 < length (pins_fed net self.old.sources)) }
     {
+        self.make_room(net);
         self.logs[net as usize].write(message)?;
         Ok(())
     }
 
     fn take(&mut self, pin: u32) -> Option<Message> {
-        let count = self.counts[pin as usize];
-        let source = self.sources[pin as usize];
-        let message = self.logs[source as usize].read(count)?;
-        self.counts[pin as usize] = count.wrapping_add(1);
+        let message = self.waiting_messages(pin).first()?.message();
+        self.take_many(pin, 1);
         Some(message)
     }
 
     fn waiting(&self, pin: u32) -> u64 {
-        let source = self.sources[pin as usize];
-        self.logs[source as usize].unread(self.counts[pin as usize])
+        self.waiting_messages(pin).len() as u64
     }
 }

@@ -2,8 +2,9 @@ mod building;
 mod filling;
 
 use crate::fabric::Fabric;
+use crate::fed_pins::FedPins;
 use crate::message::Message;
-use building::{empty_queues, fed_pins};
+use building::empty_queues;
 use design::Design;
 use filling::{push_at_all, reserve_places};
 use std::alloc::{AllocError, Global};
@@ -16,26 +17,26 @@ use std::marker::Model;
 /// time. A message needs memory at each pin where it waits.
 #[derive(Debug, Drop)]
 pub struct Queues {
-    // The pins that each net feeds, in order.
-    fed: Vec<Vec<u32>>,
+    // The pins that each net feeds.
+    fed: FedPins,
     // The messages that wait at each pin.
     queues: Vec<VecDeque<Message>>,
 }
 
 impl Model for Queues {
     ghost use Rattle.std.specs.Prelude.{length};
-    ghost use Rattle.cmb_channels.specs.Channels.{Channels, AreFed, pins_in, sources_in};
+    ghost use Rattle.cmb_channels.specs.Channels.{Channels, AreFed, sources_in};
     ghost use Rattle.cmb_channels.specs.Waiting.{lists_in};
 
     ghost Value = { Channels };
 
     ghost view = { λ q. record {
       lists = lists_in q.queues.items;
-      sources = sources_in (pins_in q.fed.items) (length q.queues.items);
-      nets = length q.fed.items;
+      sources = sources_in q.fed (length q.queues.items);
+      nets = length q.fed;
     } };
 
-    ghost invariant = { λ q. AreFed (pins_in q.fed.items) (length q.queues.items) };
+    ghost invariant = { λ q. AreFed q.fed (length q.queues.items) };
 }
 
 impl Fabric for Queues {
@@ -49,13 +50,13 @@ impl Fabric for Queues {
 
     fn empty_for(alloc: Global, design: &Design) -> Result<Self, AllocError> {
         Ok(Queues {
-            fed: fed_pins(alloc, design)?,
+            fed: FedPins::new(alloc, design)?,
             queues: empty_queues(alloc, design.pins())?,
         })
     }
 
     fn send(&mut self, net: u32, message: Message) -> Result<(), AllocError> {
-        let pins = self.fed[net as usize].as_slice();
+        let pins = self.fed.of(net);
         reserve_places(&mut self.queues, pins)?;
         push_at_all(&mut self.queues, pins, message);
         Ok(())

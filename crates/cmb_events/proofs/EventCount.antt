@@ -1,9 +1,9 @@
 -- How many events a text can give: no more than a list of events may have.
 use Rattle.std.proofs.Common.{◌≡◌, ℕ, suc, ◌+◌, ◌*◌, ◌≤◌, Bool, true, false, cond, not, ◌==◌, List, [], ◌∷◌, length, map, filter, Ok, refl, arith}
 use Rattle.std.specs.List.{enumerate_from, onto_first}
-use Rattle.text_lines.specs.Fold.{fold_text}
-use Rattle.text_lines.proofs.CallerLemmas.{length-one_a_line}
-use Rattle.text_lines.specs.Text.{code_lines, code_of, is_empty, lines_of, longest_text, words_of}
+use Rattle.texts.specs.Fold.{fold_text}
+use Rattle.texts.proofs.CallerLemmas.{length-one_a_line}
+use Rattle.texts.specs.Text.{code_lines, code_of, is_empty, lines_of, longest_text, words_of}
 use Rattle.design.specs.Circuit.{Circuit}
 use Rattle.cmb_events.specs.declared.event.Event.{Event}
 use Rattle.cmb_events.specs.Schedule.{event_or_fault, events_after, most_events}

@@ -5,9 +5,9 @@ use Rattle.std.specs.Option.{ok_or, option_map_or}
 use Rattle.std.proofs.lemmas.Bool.Decides.{nat_tests}
 use Rattle.std.proofs.lemmas.List.Elements.{All-map}
 use Rattle.std.proofs.lemmas.Option.{slice_get-get_or}
-use Rattle.text_lines.specs.Text.{◌>>=◌, code_lines, is_plain, number_of, words_of}
-use Rattle.text_lines.specs.Fold.{fold_text}
-use Rattle.text_lines.proofs.CallerLemmas.{All-one_a_line, bind-Ok, unless_too_long-Ok}
+use Rattle.texts.specs.Text.{◌>>=◌, code_lines, is_plain, number_of, words_of}
+use Rattle.texts.specs.Fold.{fold_text}
+use Rattle.texts.proofs.CallerLemmas.{All-one_a_line, bind-Ok, unless_too_long-Ok}
 use Rattle.design.specs.Circuit.{Net, Circuit, pin_count}
 use Rattle.design.specs.Pins.{first_pin}
 use Rattle.design.proofs.CallerLemmas.{pin_below}

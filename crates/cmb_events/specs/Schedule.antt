@@ -4,8 +4,8 @@ use Rattle.std.specs.Option.{option_map_or, ok_or}
 use Rattle.rand_core.specs.Steps.{first_words}
 use Rattle.rand_core.specs.Pcg32Seed.{pcg32_seed}
 use Rattle.rand_pcg.specs.Pcg.{pcg32, pcg32_of_seed}
-use Rattle.text_lines.specs.Text.{◌>>=◌, words_of, number_of, is_plain, unless_too_long}
-use Rattle.text_lines.specs.Fold.{fold_text, one_a_line}
+use Rattle.texts.specs.Text.{◌>>=◌, words_of, number_of, is_plain, unless_too_long}
+use Rattle.texts.specs.Fold.{fold_text, one_a_line}
 use Rattle.design.specs.Circuit.{Net, Circuit, pin_count}
 use Rattle.design.specs.Pins.{first_pin}
 use Rattle.cmb_events.specs.declared.event.Event.{Event}

@@ -1,6 +1,6 @@
 //! Schedules: lists of events, from a text or from a seed.
 ghost use Rattle.std.specs.Prelude.{◌≡◌, ◌≢◌, ◌<◌, ◌≤◌, [], length, All, IfOk};
-ghost use Rattle.text_lines.specs.Text.{longest_text};
+ghost use Rattle.texts.specs.Text.{longest_text};
 ghost use Rattle.cmb_events.specs.Schedule.{delivery_at, event_of_words, event_or_fault, events_of, most_events, net_in, pick_of, picks_of, Exists};
 
 use crate::event::{Event, MOST_EVENTS};
@@ -11,7 +11,7 @@ use rand_core::utils::NextWord;
 use rand_pcg::Lcg64Xsh32;
 use std::alloc::Global;
 use std::marker::Model;
-use text_lines::{LONGEST_TEXT, Words, code_lines, is_plain, number, words_of};
+use texts::{LONGEST_TEXT, Words, code_lines, is_plain, number, words_of};
 
 /// A list of at most 10,000,000 events, each of a pin or a net of the design.
 #[derive(Debug, Drop)]

@@ -14,17 +14,17 @@ use Rattle.gate_process.specs.Step.{ProcessState, next_frontier, advanced, heard
 use Rattle.gate_process.specs.Truth.{KnowsTruth}
 use Rattle.gate_process.proofs.CallerLemmas.{get_below, next-mono}
 use Rattle.cmb_events.specs.declared.event.Event.TheVariants.{Deliver, Advance}
-use Rattle.cmb_kernel.specs.State.{State, started, nets_of, frontier_at, IsComplete}
+use Rattle.cmb_kernel.specs.State.{State, started, nets_of, frontier_at, IsComplete, waiting_at}
 use Rattle.cmb_kernel.specs.Step.{step, steps, after_deliver, deliveries_from, round_of, rounds}
 use Rattle.cmb_kernel.specs.Sound.{IsSound}
 use Rattle.cmb_kernel.proofs.Soundness.{net_at, meets_at, started_frontier, started_sound, steps_sound}
-use Rattle.cmb_kernel.proofs.LeastFrontier.{at_pin, steps-append, net_count, all_emptied, deliveries_exist, round_sound}
+use Rattle.cmb_kernel.proofs.LeastFrontier.{steps-append, net_count, all_emptied, deliveries_exist, round_sound}
 use Rattle.cmb_kernel.proofs.Completion.{frontier_within, rounds_sound}
 
 -- ---- deliveries leave the nets' frontiers
 
 pub deliver_frontier : (state : State) (pin number : ℕ) → frontier_at (step state (Deliver pin)) number ≡ frontier_at state number
-deliver_frontier state pin number = go (at_pin state pin)
+deliver_frontier state pin number = go (waiting_at state pin)
   where
     go : (waiting : List Message) → frontier_at (after_deliver state pin waiting) number ≡ frontier_at state number
     go [] = refl
@@ -112,8 +112,8 @@ delivered_process circuit ok last state sound number below = (
     delivered_sound = steps_sound circuit ok last state (deliveries_from 0 state.lists) sound
         (deliveries_exist circuit 0 state.lists (let l = sound.lists in omega arith))
 
-    empty : (pin : ℕ) → at_pin (steps state (deliveries_from 0 state.lists)) pin ≡ []
-    empty = all_emptied state 0 state.lists (zero-add (length state.lists)) (λ place. ap (λ n. at_pin state n) (zero-add place))
+    empty : (pin : ℕ) → waiting_at (steps state (deliveries_from 0 state.lists)) pin ≡ []
+    empty = all_emptied state 0 state.lists (zero-add (length state.lists)) (λ place. ap (λ n. waiting_at state n) (zero-add place))
         (λ other h. absurd (omega arith))
 
     process : (p : ProcessState) × (slice_get (steps state (deliveries_from 0 state.lists)).processes number ≡ Some p)

@@ -17,7 +17,7 @@ use Rattle.gate_process.specs.Step.{ProcessState, own_delay, safe_of, next_front
 use Rattle.gate_process.proofs.CallerLemmas.{next-farther, get_below, get_of_kept, least-bound, least-le, least_greatest, safe_greatest}
 use Rattle.cmb_events.specs.declared.event.Event.{Event}
 use Rattle.cmb_events.specs.declared.event.Event.TheVariants.{Deliver, Advance}
-use Rattle.cmb_kernel.specs.State.{State, nets_of, frontier_at, least_frontier, least_delay}
+use Rattle.cmb_kernel.specs.State.{State, nets_of, frontier_at, least_frontier, least_delay, waiting_at}
 use Rattle.cmb_kernel.specs.Step.{after_deliver, after_advance, step, steps, deliveries_from, round_events, round_of}
 use Rattle.cmb_events.specs.Schedule.{Exists}
 use Rattle.cmb_kernel.specs.Sound.{IsSound}
@@ -32,38 +32,34 @@ steps-append state (x ∷ xs) ys = steps-append (step state x) xs ys
 
 -- ---- what waits at the pins while they take it
 
--- the messages at a pin
-abbrev pub at_pin : State → ℕ → List Message
-at_pin state pin = slice_index_or state.lists pin []
-
 deliver_lists : (state : State) (pin : ℕ) → length (step state (Deliver pin)).lists ≡ length state.lists
-deliver_lists state pin = go (at_pin state pin)
+deliver_lists state pin = go (waiting_at state pin)
   where
     go : (waiting : List Message) → length (after_deliver state pin waiting).lists ≡ length state.lists
     go [] = refl
     go (message ∷ messages) = length-taken pin state.lists
 
-pub deliver_there : (state : State) (pin : ℕ) → pin < length state.lists → at_pin (step state (Deliver pin)) pin ≡ drop 1 (at_pin state pin)
-deliver_there state pin h = go (at_pin state pin) refl
+pub deliver_there : (state : State) (pin : ℕ) → pin < length state.lists → waiting_at (step state (Deliver pin)) pin ≡ drop 1 (waiting_at state pin)
+deliver_there state pin h = go (waiting_at state pin) refl
   where
-    go : (waiting : List Message) → at_pin state pin ≡ waiting → at_pin (after_deliver state pin waiting) pin ≡ drop 1 (at_pin state pin)
+    go : (waiting : List Message) → waiting_at state pin ≡ waiting → waiting_at (after_deliver state pin waiting) pin ≡ drop 1 (waiting_at state pin)
     go [] e = e ∙ sym (ap (λ ms. drop 1 ms) e)
     go (message ∷ messages) e = taken_at pin state.lists h
 
-pub deliver_elsewhere : (state : State) (pin other : ℕ) → (other ≡ pin → ⊥) → at_pin (step state (Deliver pin)) other ≡ at_pin state other
-deliver_elsewhere state pin other h = go (at_pin state pin)
+pub deliver_elsewhere : (state : State) (pin other : ℕ) → (other ≡ pin → ⊥) → waiting_at (step state (Deliver pin)) other ≡ waiting_at state other
+deliver_elsewhere state pin other h = go (waiting_at state pin)
   where
-    go : (waiting : List Message) → at_pin (after_deliver state pin waiting) other ≡ at_pin state other
+    go : (waiting : List Message) → waiting_at (after_deliver state pin waiting) other ≡ waiting_at state other
     go [] = refl
     go (message ∷ messages) = taken_elsewhere pin state.lists other h
 
 -- as many deliveries as wait at a pin empty it, and leave the other pins
 record Emptied (old new : State) (pin : ℕ) : Type 0 where
   lists : length new.lists ≡ length old.lists
-  there : at_pin new pin ≡ []
-  elsewhere : (other : ℕ) → (other ≡ pin → ⊥) → at_pin new other ≡ at_pin old other
+  there : waiting_at new pin ≡ []
+  elsewhere : (other : ℕ) → (other ≡ pin → ⊥) → waiting_at new other ≡ waiting_at old other
 
-emptied : (state : State) (pin : ℕ) (waiting : List Message) → pin < length state.lists → at_pin state pin ≡ waiting →
+emptied : (state : State) (pin : ℕ) (waiting : List Message) → pin < length state.lists → waiting_at state pin ≡ waiting →
     Emptied state (steps state (replicate (length waiting) (Deliver pin))) pin
 emptied state pin [] h e = record { lists = refl; there = e; elsewhere = λ other apart. refl }
 emptied state pin (message ∷ messages) h e =
@@ -78,20 +74,20 @@ emptied state pin (message ∷ messages) h e =
 
 -- the deliveries of a round empty all pins
 pub all_emptied : (state : State) (pin : ℕ) (lists : List (List Message)) → pin + length lists ≡ length state.lists →
-    ((place : ℕ) → at_pin state (pin + place) ≡ slice_index_or lists place []) →
-    ((other : ℕ) → other < pin → at_pin state other ≡ []) →
-    (other : ℕ) → at_pin (steps state (deliveries_from pin lists)) other ≡ []
+    ((place : ℕ) → waiting_at state (pin + place) ≡ slice_index_or lists place []) →
+    ((other : ℕ) → other < pin → waiting_at state other ≡ []) →
+    (other : ℕ) → waiting_at (steps state (deliveries_from pin lists)) other ≡ []
 all_emptied state pin [] count same before other = go (cases_lt other pin)
   where
-    go : (other < pin) ⊎ (pin ≤ other) → at_pin state other ≡ []
+    go : (other < pin) ⊎ (pin ≤ other) → waiting_at state other ≡ []
     go (inl early) = before other early
     go (inr late) = get_or_past state.lists other [] (omega arith)
 all_emptied state pin (list ∷ lists) count same before other =
-    ap (λ s. at_pin s other) (steps-append state (replicate (length list) (Deliver pin)) (deliveries_from (pin + 1) lists))
+    ap (λ s. waiting_at s other) (steps-append state (replicate (length list) (Deliver pin)) (deliveries_from (pin + 1) lists))
     ∙ all_emptied after (pin + 1) lists (omega (arith, now.lists))
     (λ place.
     now.elsewhere (pin + 1 + place) (λ e. omega arith)
-    ∙ ap (λ n. at_pin state n) (let e : pin + 1 + place ≡ pin + suc place = omega arith in e)
+    ∙ ap (λ n. waiting_at state n) (let e : pin + 1 + place ≡ pin + suc place = omega arith in e)
     ∙ same (suc place))
     (λ n early. go n early (cases_eq n pin))
     other
@@ -99,22 +95,22 @@ all_emptied state pin (list ∷ lists) count same before other =
     after : State
     after = steps state (replicate (length list) (Deliver pin))
 
-    here : at_pin state pin ≡ list
-    here = ap (λ n. at_pin state n) (sym (add-zero pin)) ∙ same 0
+    here : waiting_at state pin ≡ list
+    here = ap (λ n. waiting_at state n) (sym (add-zero pin)) ∙ same 0
 
     now : Emptied state (steps state (replicate (length list) (Deliver pin))) pin
     now = emptied state pin list (omega arith) here
 
     go : (n : ℕ) → n < pin + 1 → (n ≡ pin) ⊎ (n ≡ pin → ⊥) →
-        at_pin (steps state (replicate (length list) (Deliver pin))) n ≡ []
-    go n early (inl is) = ap (λ m. at_pin (steps state (replicate (length list) (Deliver pin))) m) is ∙ now.there
+        waiting_at (steps state (replicate (length list) (Deliver pin))) n ≡ []
+    go n early (inl is) = ap (λ m. waiting_at (steps state (replicate (length list) (Deliver pin))) m) is ∙ now.there
     go n early (inr apart) = now.elsewhere n apart ∙ before n (omega (arith, apart))
 
 -- ---- frontiers do not fall
 
 pub frontier_rises : (circuit : Circuit) (last : ℕ) (state : State) (event : Event) → IsSound circuit last state → Exists circuit event →
     (number : ℕ) → frontier_at state number ≤ frontier_at (step state event) number
-frontier_rises circuit last state (Deliver pin) sound exists number = go (at_pin state pin)
+frontier_rises circuit last state (Deliver pin) sound exists number = go (waiting_at state pin)
   where
     go : (waiting : List Message) → frontier_at state number ≤ frontier_at (after_deliver state pin waiting) number
     go [] = omega arith
@@ -181,7 +177,7 @@ pins_know_on low state net h number place process received a b = go (get_of_upda
 
 -- where no message waits a pin knows what its source knows
 pub pin_knows : (circuit : Circuit) (last low : ℕ) (state : State) → IsSound circuit last state → IsCircuit circuit →
-    (number place : ℕ) → at_pin state (first_pin circuit number + place) ≡ [] →
+    (number place : ℕ) → waiting_at state (first_pin circuit number + place) ≡ [] →
     ((source : ℕ) → source < length circuit → low ≤ frontier_at state source) → (process : ProcessState) (received : Knowledge) →
     slice_get state.processes number ≡ Some process → slice_get process.received place ≡ Some received → low ≤ received.frontier
 pin_knows circuit last low state sound ok number place empty frontiers process received a b =
@@ -199,7 +195,7 @@ pin_knows circuit last low state sound ok number place empty frontiers process r
     omega arith
 
 pub pins_know : (circuit : Circuit) (last low : ℕ) (state : State) → IsSound circuit last state → IsCircuit circuit →
-    ((pin : ℕ) → at_pin state pin ≡ []) →
+    ((pin : ℕ) → waiting_at state pin ≡ []) →
     ((number : ℕ) → number < length circuit → low ≤ frontier_at state number) → PinsKnow low state
 pins_know circuit last low state sound ok empty frontiers number place =
     pin_knows circuit last low state sound ok number place (empty (first_pin circuit number + place)) frontiers
@@ -340,7 +336,7 @@ round_raises circuit ok last state sound =
 
     known : PinsKnow (least_frontier last state) (steps state (deliveries_from 0 state.lists))
     known = pins_know circuit last (least_frontier last state) (steps state (deliveries_from 0 state.lists)) delivered_sound ok
-        (all_emptied state 0 state.lists (zero-add (length state.lists)) (λ place. ap (λ n. at_pin state n) (zero-add place))
+        (all_emptied state 0 state.lists (zero-add (length state.lists)) (λ place. ap (λ n. waiting_at state n) (zero-add place))
         (λ other h. absurd (omega arith)))
         (λ number h.
         let now = least_frontier-le circuit last state sound number h in

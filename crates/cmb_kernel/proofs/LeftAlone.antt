@@ -5,12 +5,11 @@ use Rattle.std.proofs.lemmas.List.Elements.{All-head, All-tail}
 use Rattle.design.specs.Circuit.{Circuit, IsCircuit, pin_count}
 use Rattle.cmb_channels.specs.declared.message.Message.{Message}
 use Rattle.cmb_events.specs.declared.event.Event.TheVariants.{Deliver}
-use Rattle.cmb_kernel.specs.State.{State, received_at}
+use Rattle.cmb_kernel.specs.State.{State, received_at, waiting_at}
 use Rattle.cmb_kernel.specs.Step.{step}
 use Rattle.cmb_kernel.specs.Sweeps.{pin_numbers, taken_below, caught_up, all_caught_up, swept_net, swept}
 use Rattle.cmb_kernel.specs.Sound.{IsSound}
 use Rattle.cmb_kernel.proofs.Soundness.{step_sound}
-use Rattle.cmb_kernel.proofs.LeastFrontier.{at_pin}
 use Rattle.cmb_kernel.proofs.Rises.{advance_received, deliver_elsewhere}
 use Rattle.cmb_kernel.proofs.EventsLead.{lead_sound}
 use Rattle.cmb_kernel.proofs.Sweeping.{pins_exist, catching_up_leads, swept_net_is, net_sweep_leads}
@@ -37,7 +36,7 @@ module _ (circuit : Circuit) (ok : IsCircuit circuit) (last tick pin : ℕ) (exi
       go : (pin ≡ other) ⊎ (pin ≡ other → ⊥) → received_at (caught_up tick state other) pin ≡ received_at state pin
       go (inl is) =
           ap (λ n. received_at (caught_up tick state n) pin) (sym is) ∙ ap (λ s. received_at s pin) (knows_enough tick state pin enough)
-      go (inr apart) = taking_elsewhere other there apart (at_pin state other) state sound
+      go (inr apart) = taking_elsewhere other there apart (waiting_at state other) state sound
 
   all_catching_up_leaves : (pins : List ℕ) (state : State) → IsSound circuit last state → All (λ n. n < pin_count circuit) pins →
       tick ≤ received_at state pin → received_at (all_caught_up tick state pins) pin ≡ received_at state pin

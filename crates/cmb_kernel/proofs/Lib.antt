@@ -1,6 +1,7 @@
 mod Ahead
 mod Alike
 mod Applied
+mod AtOnce
 pub mod CallerLemmas
 mod Completion
 mod Consequences
@@ -20,10 +21,12 @@ mod Refused
 mod Rises
 mod RoundExamples
 mod Running
+mod Silent
 mod Single
 mod Soundness
 mod SweepLoops
 mod Sweeping
 mod SweepsAlike
+mod Swept
 mod Together
 mod UsefulEvents

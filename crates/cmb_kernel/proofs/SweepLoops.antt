@@ -6,18 +6,17 @@ use Rattle.std.proofs.lemmas.List.{take_all, take_more}
 use Rattle.design.specs.Pins.{first_pin}
 use Rattle.cmb_channels.specs.declared.message.Message.{Message}
 use Rattle.cmb_events.specs.declared.event.Event.TheVariants.{Deliver}
-use Rattle.cmb_kernel.specs.State.{State, KernelView, received_at}
+use Rattle.cmb_kernel.specs.State.{State, KernelView, received_at, waiting_at}
 use Rattle.cmb_kernel.specs.Step.{step}
 use Rattle.cmb_kernel.specs.Sweeps.{taken_below, caught_up, all_caught_up, swept_net, swept}
 use Rattle.cmb_kernel.specs.Sound.{IsSound}
-use Rattle.cmb_kernel.proofs.LeastFrontier.{at_pin}
 use Rattle.cmb_kernel.proofs.Moved.{moved_on}
 
 -- ---- a pin
 
 -- it goes no farther where it knows enough
 pub knows_enough : (tick : ℕ) (state : State) (pin : ℕ) → tick ≤ received_at state pin → caught_up tick state pin ≡ state
-knows_enough tick state pin late = go (at_pin state pin)
+knows_enough tick state pin late = go (waiting_at state pin)
   where
     go : (waiting : List Message) → taken_below tick pin state waiting ≡ state
     go [] = refl
@@ -25,8 +24,8 @@ knows_enough tick state pin late = go (at_pin state pin)
         ap (λ b. cond b (taken_below tick pin (step state (Deliver pin)) messages) state) (le-ltb (received_at state pin) tick late)
 
 -- or where nothing waits
-pub none_waits : (tick : ℕ) (state : State) (pin : ℕ) → length (at_pin state pin) ≡ 0 → caught_up tick state pin ≡ state
-none_waits tick state pin none = go (at_pin state pin) none
+pub none_waits : (tick : ℕ) (state : State) (pin : ℕ) → length (waiting_at state pin) ≡ 0 → caught_up tick state pin ≡ state
+none_waits tick state pin none = go (waiting_at state pin) none
   where
     go : (waiting : List Message) → length waiting ≡ 0 → taken_below tick pin state waiting ≡ state
     go [] e = refl

@@ -12,12 +12,12 @@ use Rattle.cmb_channels.specs.declared.message.Message.{Message}
 use Rattle.gate_process.specs.Step.{ProcessState}
 use Rattle.gate_process.proofs.CallerLemmas.{get_below, least-bound}
 use Rattle.cmb_events.specs.declared.event.Event.TheVariants.{Deliver, Advance}
-use Rattle.cmb_kernel.specs.State.{State, frontier_at, received_at, least_frontier, least_delay}
+use Rattle.cmb_kernel.specs.State.{State, frontier_at, received_at, least_frontier, least_delay, waiting_at}
 use Rattle.cmb_kernel.specs.Step.{step}
 use Rattle.cmb_kernel.specs.Sweeps.{pin_numbers, taken_below, caught_up, all_caught_up, swept_net, swept, AllKnow, HoldsAll, EventsLead}
 use Rattle.cmb_kernel.specs.Sound.{IsSound}
 use Rattle.cmb_kernel.proofs.Soundness.{net_at, step_sound}
-use Rattle.cmb_kernel.proofs.LeastFrontier.{join, at_pin, deliver_there, NetKnows, pin_knows, net_count, advances_farther, least_frontier-le, least_frontier_greatest}
+use Rattle.cmb_kernel.proofs.LeastFrontier.{join, deliver_there, NetKnows, pin_knows, net_count, advances_farther, least_frontier-le, least_frontier_greatest}
 use Rattle.cmb_kernel.proofs.PinPlaces.{pin_exists, received_there}
 use Rattle.cmb_kernel.proofs.EventsLead.{leads_nowhere, event_leads, leads_on, lead_sound, lead_frontier, lead_received}
 
@@ -69,7 +69,7 @@ module _ (circuit : Circuit) where
       go false taken = leads_nowhere circuit state
 
   pub catching_up_leads : (tick : ℕ) (state : State) (pin : ℕ) → pin < pin_count circuit → EventsLead circuit state (caught_up tick state pin)
-  catching_up_leads tick state pin = taking_leads tick pin state (at_pin state pin)
+  catching_up_leads tick state pin = taking_leads tick pin state (waiting_at state pin)
 
   pub all_catching_up_leads : (tick : ℕ) (state : State) (pins : List ℕ) → All (λ pin. pin < pin_count circuit) pins →
       EventsLead circuit state (all_caught_up tick state pins)
@@ -111,7 +111,7 @@ module _ (circuit : Circuit) (ok : IsCircuit circuit) (last : ℕ) where
   module _ (low tick : ℕ) (in_time : low ≤ tick) where
     -- where no message waits
     idle_knows : (state : State) → IsSound circuit last state → AllKnow circuit low state → (pin : ℕ) → pin < pin_count circuit →
-        at_pin state pin ≡ [] → low ≤ received_at state pin
+        waiting_at state pin ≡ [] → low ≤ received_at state pin
     idle_knows state sound all pin exists empty =
         let there = pin_is circuit pin exists in
         let nets = net_count circuit last state sound in
@@ -124,7 +124,7 @@ module _ (circuit : Circuit) (ok : IsCircuit circuit) (last : ℕ) where
         let within = there.within in
         let received = get_below (process.0).received (place_of_pin circuit pin) (omega (arith, long, pins, within)) in
         let known = pin_knows circuit last low state sound ok (net_of_pin circuit pin) (place_of_pin circuit pin)
-        (ap (at_pin state) there.number_is ∙ empty) all process.0 received.0 process.1 received.1 in
+        (ap (waiting_at state) there.number_is ∙ empty) all process.0 received.0 process.1 received.1 in
         let is = received_there circuit ok last state sound (net_of_pin circuit pin) (place_of_pin circuit pin) process.0 received.0 process.1 received.1 in
         subst (λ n. low ≤ received_at state n) there.number_is
         (let at_least : low ≤ received_at state (first_pin circuit (net_of_pin circuit pin) + place_of_pin circuit pin) = omega (arith, known, is) in at_least)
@@ -134,7 +134,7 @@ module _ (circuit : Circuit) (ok : IsCircuit circuit) (last : ℕ) where
         join low (frontier_at old number) (frontier_at new number) (all number below) (lead_frontier circuit ok last lead sound number)
 
     taking_knows : (pin : ℕ) → pin < pin_count circuit → (messages : List Message) (state : State) → IsSound circuit last state → AllKnow circuit low state →
-        at_pin state pin ≡ messages → low ≤ received_at (taken_below tick pin state messages) pin
+        waiting_at state pin ≡ messages → low ≤ received_at (taken_below tick pin state messages) pin
     taking_knows pin exists [] state sound all waiting = idle_knows state sound all pin exists waiting
     taking_knows pin exists (message ∷ messages) state sound all waiting =
         go (nat_lt (received_at state pin) tick) refl
@@ -154,7 +154,7 @@ module _ (circuit : Circuit) (ok : IsCircuit circuit) (last : ℕ) where
     all_catching_up_knows (first ∷ pins) state sound all exist pin (zero, h, is) =
         let there = All-head (λ pin. pin < pin_count circuit) first pins exist in
         let lead = catching_up_leads circuit tick state first there in
-        let now = taking_knows first there (at_pin state first) state sound all refl in
+        let now = taking_knows first there (waiting_at state first) state sound all refl in
         let later = lead_received circuit ok last
         (all_catching_up_leads circuit tick (caught_up tick state first) pins (All-tail (λ pin. pin < pin_count circuit) first pins exist))
         (lead_sound circuit ok last lead sound) first in

@@ -6,13 +6,12 @@ use Rattle.design.specs.Pins.{net_of_pin, place_of_pin}
 use Rattle.cmb_channels.specs.declared.message.Message.{Message}
 use Rattle.gate_process.specs.Step.{ProcessState}
 use Rattle.cmb_events.specs.declared.event.Event.TheVariants.{Deliver, Advance}
-use Rattle.cmb_kernel.specs.State.{State, nets_of, received_of, received_at}
+use Rattle.cmb_kernel.specs.State.{State, nets_of, received_of, received_at, waiting_at}
 use Rattle.cmb_kernel.specs.Step.{step}
 use Rattle.cmb_kernel.specs.Sweeps.{pin_numbers, taken_below, caught_up, all_caught_up, swept_net, swept}
 use Rattle.cmb_kernel.specs.Sound.{IsSound}
 use Rattle.cmb_kernel.specs.Drains.{apart_from_waves}
 use Rattle.cmb_kernel.proofs.Soundness.{step_sound}
-use Rattle.cmb_kernel.proofs.LeastFrontier.{at_pin}
 use Rattle.cmb_kernel.proofs.Rises.{known_at, received_is}
 use Rattle.cmb_kernel.proofs.Alike.{alike_step, alike_views}
 use Rattle.cmb_kernel.proofs.EventsLead.{lead_sound}
@@ -53,7 +52,7 @@ module _ (circuit : Circuit) (ok : IsCircuit circuit) (last tick : ℕ) where
       apart_from_waves one ≡ apart_from_waves other → apart_from_waves (caught_up tick one pin) ≡ apart_from_waves (caught_up tick other pin)
   alike_catching_up pin exists one other sound_one sound_other alike =
       ap (λ lists. apart_from_waves (taken_below tick pin one (slice_index_or lists pin []))) (ap (λ (s : State). s.lists) alike)
-      ∙ alike_taking pin exists (at_pin other pin) one other sound_one sound_other alike
+      ∙ alike_taking pin exists (waiting_at other pin) one other sound_one sound_other alike
 
   all_alike : (pins : List ℕ) → All (λ pin. pin < pin_count circuit) pins → (one other : State) →
       IsSound circuit last one → IsSound circuit last other → apart_from_waves one ≡ apart_from_waves other →

@@ -3,7 +3,9 @@ use Rattle.std.specs.Prelude.{◌≡◌, ℕ, ◌==◌, if◌then◌else◌, Lis
 use Rattle.std.specs.Option.{option_map_or}
 use Rattle.logic3.specs.declared.value.Value.TheVariants.{Unknown}
 use Rattle.logic3.specs.declared.change.Change.{Change}
-use Rattle.design.specs.Circuit.{Circuit}
+use Rattle.logic3.specs.Wave.{changes_between}
+use Rattle.design.specs.Circuit.{Circuit, IsCircuit}
+use Rattle.design.specs.Equations.{value_of}
 use Rattle.gate_process.specs.Step.{ProcessState, drained_changes}
 use Rattle.cmb_events.specs.declared.event.Event.{Event}
 use Rattle.cmb_events.specs.Schedule.{Exists}
@@ -42,6 +44,10 @@ abbrev pub CanAct : Circuit → State → List Action → Type 0
 CanAct circuit state [] = Unit {0}
 CanAct circuit state (action ∷ actions) = IsAllowed circuit state action × CanAct circuit (acted state action) actions
 
+-- this holds of any actions that are allowed when they come
+abbrev pub ForActions : Circuit → State → (List Action → Type 0) → Type 0
+ForActions circuit state P = (actions : List Action) → CanAct circuit state actions → P actions
+
 -- the changes of a net that an action hands out
 abbrev pub given_out : ℕ → State → Action → List Change
 given_out net state (happens event) = []
@@ -57,6 +63,10 @@ handed_out net state (action ∷ actions) = given_out net state action ++ handed
 abbrev pub AllComesOut : State → List Action → (ℕ → ProcessState → List Change) → Type 0
 AllComesOut state actions changes =
     EachNet (all_acted state actions) (λ net process. handed_out net state actions ++ process.known.wave.changes ≡ changes net process)
+
+-- the changes that the equations give a net, from a tick up to another
+abbrev pub changes_given : Circuit → ℕ → ℕ → ℕ → List Change
+changes_given circuit net from to = changes_between (value_of circuit net) from to
 
 -- some actions complete a run from its beginning
 pub record CompleteRun (circuit : Circuit) (last : ℕ) (actions : List Action) : Type 0 where
@@ -77,3 +87,8 @@ pub record AreAlike (circuit : Circuit) (last : ℕ) (one other : State) : Type 
   pub one_sound : IsSound circuit last one
   pub other_sound : IsSound circuit last other
   pub alike : apart_from_waves one ≡ apart_from_waves other
+
+-- this holds of any two such states: of their circuit and of them
+abbrev pub ForAlike : (Circuit → State → State → Type 0) → Type 0
+ForAlike P =
+    (circuit : Circuit) → IsCircuit circuit → (last : ℕ) (one other : State) → AreAlike circuit last one other → P circuit one other

@@ -1,5 +1,5 @@
 -- What is true of every state that a run reaches.
-use Rattle.std.specs.Prelude.{◌≡◌, ℕ, ◌+◌, ◌<◌, ◌≤◌, List, [], length, map, slice_get, slice_index_or, Some}
+use Rattle.std.specs.Prelude.{◌≡◌, ℕ, ◌+◌, ◌<◌, ◌≤◌, List, length, map, slice_get, Some}
 use Rattle.std.specs.List.{range_with_len}
 use Rattle.logic3.specs.Wave.{Wave, value_at, wave_of}
 use Rattle.design.specs.Circuit.{Circuit, IsCircuit, pin_count}
@@ -7,9 +7,9 @@ use Rattle.design.specs.Equations.{value_of}
 use Rattle.cmb_channels.specs.declared.message.Message.{Message}
 use Rattle.design.specs.Pins.{first_pin}
 use Rattle.gate_process.specs.Knowledge.{Knowledge, told_all, Tells}
-use Rattle.gate_process.specs.Step.{ProcessState}
+use Rattle.gate_process.specs.Step.{ProcessState, kept_from}
 use Rattle.gate_process.specs.Truth.{KnowsTruth}
-use Rattle.cmb_kernel.specs.State.{State, nets_of, frontier_at, floor_at}
+use Rattle.cmb_kernel.specs.State.{State, nets_of, frontier_at, floor_at, waiting_at}
 
 -- ---- the nets and pins of a state
 
@@ -26,7 +26,7 @@ EachPin state P =
 
 -- the messages on the way to the pin of a net at a place
 abbrev pub coming_to : Circuit → State → ℕ → ℕ → List Message
-coming_to circuit state number place = slice_index_or state.lists (first_pin circuit number + place) []
+coming_to circuit state number place = waiting_at state (first_pin circuit number + place)
 
 -- changes of a net can be taken out before a tick that is neither before its floor nor past its frontier
 abbrev pub CanDrain : State → ℕ → ℕ → Type 0
@@ -64,3 +64,8 @@ waves_kept circuit to state = map (λ net. wave_of (value_of circuit net) (floor
 pub record HearsSource (circuit : Circuit) (source reached keep : ℕ) (received : Knowledge) (coming : List Message) : Type 0 where
   pub frontier : (told_all received coming).frontier ≡ reached
   pub values : (tick : ℕ) → keep ≤ tick → tick < reached → value_at (told_all received coming).wave tick ≡ value_of circuit source tick
+
+-- the pin of a net at a place hears its source so, up to where the source is known, at the ticks that it keeps
+abbrev pub HearsItsSource : Circuit → State → ℕ → ℕ → ℕ → ProcessState → Knowledge → Type 0
+HearsItsSource circuit state number place source process received =
+    HearsSource circuit source (frontier_at state source) (kept_from process place received.frontier) received (coming_to circuit state number place)

@@ -1,4 +1,4 @@
-use Rattle.std.specs.Prelude.{◌≡◌, ℕ, ◌+◌, ◌-◌, ◌/◌, ◌==◌, Bool, false, List, [], map, replicate, All, slice_get, slice_index_or}
+use Rattle.std.specs.Prelude.{◌≡◌, ℕ, ◌+◌, ◌-◌, ◌/◌, ◌==◌, min, Bool, false, List, [], map, replicate, All, slice_get, slice_index_or}
 use Rattle.std.specs.List.{list_all}
 use Rattle.std.specs.Option.{option_map_or}
 use Rattle.logic3.specs.Wave.{Wave}
@@ -49,6 +49,10 @@ received_at state pin =
     option_map_or (λ (process : ProcessState). received_of process (place_of_pin (nets_of state) pin))
     (slice_get state.processes (net_of_pin (nets_of state) pin)) 0
 
+-- the messages that wait at a pin
+abbrev pub waiting_at : State → ℕ → List Message
+waiting_at state pin = slice_index_or state.lists pin []
+
 -- the least frontier of all nets
 abbrev pub least_frontier : ℕ → State → ℕ
 least_frontier end state = least end (map (λ (process : ProcessState). process.known.frontier) state.processes)
@@ -56,6 +60,10 @@ least_frontier end state = least end (map (λ (process : ProcessState). process.
 -- the least delay of a gate or flip-flop, or the end if there is none
 abbrev pub least_delay : ℕ → Circuit → ℕ
 least_delay end circuit = least end (map (λ (net : Net). own_delay net.part end net.timing.delay) circuit)
+
+-- the least delay past the least frontier, or the end if that is earlier
+abbrev pub past_least : ℕ → Circuit → State → ℕ
+past_least end circuit state = min end (least_frontier end state + least_delay end circuit)
 
 -- this number of rounds is enough: each raises the least frontier by at least the least delay, or to the end
 abbrev pub most_rounds : ℕ → Circuit → ℕ

@@ -1,4 +1,4 @@
-use Rattle.std.specs.Prelude.{ℕ, zero, suc, ◌+◌, min, if◌then◌else◌, List, [], ◌∷◌, ◌++◌, length, map, replicate, count_by, slice_get, slice_index_or}
+use Rattle.std.specs.Prelude.{ℕ, zero, suc, ◌+◌, min, if◌then◌else◌, List, [], ◌∷◌, ◌++◌, length, map, replicate, count_by, All, slice_get}
 use Rattle.std.specs.List.{range_with_len}
 use Rattle.std.specs.Option.{option_map_or}
 use Rattle.cmb_kernel.specs.declared.counts.Counts.{Counts}
@@ -7,9 +7,11 @@ use Rattle.cmb_events.specs.declared.event.Event.TheVariants.{Deliver, Advance}
 use Rattle.cmb_channels.specs.declared.message.Message.{Message}
 use Rattle.cmb_channels.specs.Kinds.{is_change, is_null}
 use Rattle.cmb_channels.specs.Lists.{update, sent, taken}
+use Rattle.cmb_events.specs.Schedule.{Exists}
+use Rattle.design.specs.Circuit.{Circuit}
 use Rattle.design.specs.Pins.{sources_of, net_of_pin, place_of_pin}
 use Rattle.gate_process.specs.Step.{advanced, news, heard, drained}
-use Rattle.cmb_kernel.specs.State.{State, nets_of, is_complete}
+use Rattle.cmb_kernel.specs.State.{State, nets_of, waiting_at, IsComplete, is_complete}
 
 -- one more, but at most the greatest u64
 abbrev pub one_more : ℕ → ℕ
@@ -24,6 +26,11 @@ counted counts messages =
       nulls = counts.nulls + count_by is_null messages;
       rounds = counts.rounds;
     }
+
+-- the counts after this number of events that sent nothing
+abbrev pub counted_silent : ℕ → Counts → Counts
+counted_silent zero counts = counts
+counted_silent (suc events) counts = counted_silent events (counted counts [])
 
 -- the messages that the process of a net has to send
 abbrev pub news_at : State → ℕ → List Message
@@ -50,7 +57,7 @@ after_deliver state pin (message ∷ messages) =
 
 -- the state after an event
 abbrev pub step : State → Event → State
-step state (Deliver pin) = after_deliver state pin (slice_index_or state.lists pin [])
+step state (Deliver pin) = after_deliver state pin (waiting_at state pin)
 step state (Advance net) = after_advance state net
 
 -- the state after a net's changes before a tick were taken out
@@ -61,6 +68,14 @@ after_drain state net bound = record state { processes = update (drained bound) 
 abbrev pub steps : State → List Event → State
 steps state [] = state
 steps state (event ∷ events) = steps (step state event) events
+
+-- this holds of any events of a circuit
+abbrev pub ForEvents : Circuit → (List Event → Type 0) → Type 0
+ForEvents circuit P = (events : List Event) → All (Exists circuit) events → P events
+
+-- this holds of any events that complete a run from a state
+abbrev pub ForCompletions : Circuit → State → (List Event → Type 0) → Type 0
+ForCompletions circuit state P = ForEvents circuit (λ events. IsComplete (steps state events) → P events)
 
 -- a delivery for each waiting message, of the pins from one on
 abbrev pub deliveries_from : ℕ → List (List Message) → List Event

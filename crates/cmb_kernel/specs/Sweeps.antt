@@ -1,5 +1,5 @@
 -- Sweeps: nets in some order take what they need to reach a tick, and advance.
-use Rattle.std.specs.Prelude.{◌≡◌, ℕ, ◌<◌, ◌≤◌, nat_lt, if◌then◌else◌, List, [], ◌∷◌, All, length, slice_get, slice_index_or}
+use Rattle.std.specs.Prelude.{◌≡◌, ℕ, ◌+◌, ◌<◌, ◌≤◌, min, nat_lt, if◌then◌else◌, List, [], ◌∷◌, All, length, slice_get}
 use Rattle.std.specs.List.{range_with_len, Contains}
 use Rattle.std.specs.Option.{option_map_or}
 use Rattle.design.specs.Circuit.{Net, Circuit}
@@ -8,8 +8,9 @@ use Rattle.cmb_channels.specs.declared.message.Message.{Message}
 use Rattle.cmb_events.specs.Schedule.{Exists}
 use Rattle.cmb_events.specs.declared.event.Event.{Event}
 use Rattle.cmb_events.specs.declared.event.Event.TheVariants.{Deliver, Advance}
-use Rattle.cmb_kernel.specs.State.{State, nets_of, frontier_at, received_at}
+use Rattle.cmb_kernel.specs.State.{State, KernelView, nets_of, frontier_at, floor_at, received_at, waiting_at, least_frontier, least_delay, past_least}
 use Rattle.cmb_kernel.specs.Step.{step, steps}
+use Rattle.cmb_kernel.specs.Useful.{NoneFalls}
 
 -- the numbers of a net's pins
 abbrev pub pin_numbers : Circuit → ℕ → List ℕ
@@ -24,7 +25,7 @@ taken_below tick pin state (message ∷ messages) =
 
 -- the state after a pin catches up with a tick, as far as what waits there goes
 abbrev pub caught_up : ℕ → State → ℕ → State
-caught_up tick state pin = taken_below tick pin state (slice_index_or state.lists pin [])
+caught_up tick state pin = taken_below tick pin state (waiting_at state pin)
 
 -- the state after these pins catch up, one after another
 abbrev pub all_caught_up : ℕ → State → List ℕ → State
@@ -40,6 +41,10 @@ abbrev pub swept : ℕ → List ℕ → State → State
 swept tick [] state = state
 swept tick (net ∷ order) state = swept tick order (swept_net tick state net)
 
+-- this holds of each sweep of a circuit: of its tick and its nets
+abbrev pub ForSweeps : Circuit → (ℕ → List ℕ → Type 0) → Type 0
+ForSweeps circuit P = (tick : ℕ) (order : List ℕ) → All (λ net. net < length circuit) order → P tick order
+
 -- the list holds every net of a circuit
 abbrev pub HoldsAll : Circuit → List ℕ → Type 0
 HoldsAll circuit order = (net : ℕ) → net < length circuit → Contains order net
@@ -47,6 +52,20 @@ HoldsAll circuit order = (net : ℕ) → net < length circuit → Contains order
 -- each net of a circuit is known up to a tick
 abbrev pub AllKnow : Circuit → ℕ → State → Type 0
 AllKnow circuit tick state = (net : ℕ) → net < length circuit → tick ≤ frontier_at state net
+
+-- what a sweep over some nets to a tick makes of a kernel
+pub record IsSwept (tick : ℕ) (order : List ℕ) (old new : KernelView) : Type 0 where
+  -- if it goes over all nets, to a tick that is not below the least frontier, it raises that by at least the least delay, or to the end
+  pub raises : HoldsAll old.circuit order → least_frontier old.end old.state ≤ tick →
+      past_least old.end old.circuit old.state ≤ least_frontier new.end new.state
+  pub rises : HoldsAll old.circuit order → least_frontier old.end old.state ≤ tick → least_frontier old.end old.state < old.end →
+      least_frontier old.end old.state < least_frontier new.end new.state
+  -- if every net is known up to a tick, each net of the list is then known at least the least delay past it, or to the end
+  pub farther : (low : ℕ) → AllKnow old.circuit low old.state → low ≤ tick → low ≤ old.end →
+      All (λ net. min old.end (low + least_delay old.end old.circuit) ≤ frontier_at new.state net) order
+  pub none_falls : NoneFalls old.state new.state
+  -- it takes out no changes
+  pub floors : (net : ℕ) → floor_at new.state net ≡ floor_at old.state net
 
 -- some events, each of a pin or net that exists, lead from the one state to the other
 pub record EventsLead (circuit : Circuit) (old new : State) : Type 0 where

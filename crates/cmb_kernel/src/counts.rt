@@ -1,5 +1,5 @@
 ghost use Rattle.std.specs.Prelude.{◌≡◌, ◌+◌, ◌^◌, ◌<◌, length};
-ghost use Rattle.cmb_kernel.specs.Step.{counted};
+ghost use Rattle.cmb_kernel.specs.Step.{counted, counted_silent};
 
 use cmb_channels::Message;
 
@@ -29,5 +29,12 @@ impl Counts {
                 Message::Null(_) => self.nulls += 1,
             }
         }
+    }
+
+    /// Counts this number of events that sent nothing.
+    pub(crate) fn add_silent(&mut self, events: u64)
+        ensures { self.new ≡ counted_silent events self.old }
+    {
+        self.events = self.events.saturating_add(events);
     }
 }

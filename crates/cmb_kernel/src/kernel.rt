@@ -1,11 +1,12 @@
-ghost use Rattle.std.specs.Prelude.{◌≡◌, ◌≢◌, ◌+◌, ◌<◌, ◌≤◌, false, length, replicate, slice_index_or, []};
+ghost use Rattle.std.specs.Prelude.{◌≡◌, ◌≢◌, ◌+◌, ◌<◌, ◌≤◌, false, length, replicate, []};
 ghost use Rattle.design.specs.Circuit.{IsCircuit, pin_count};
 ghost use Rattle.design.specs.Equations.{value_of};
 ghost use Rattle.design.specs.Pins.{sources_of};
 ghost use Rattle.logic3.specs.Wave.{wave_of};
-ghost use Rattle.cmb_kernel.specs.State.{fresh, frontier_at, floor_at, received_at};
+ghost use Rattle.cmb_kernel.specs.State.{fresh, frontier_at, floor_at, received_at, waiting_at};
 ghost use Rattle.cmb_kernel.specs.Sound.{IsSound};
 
+mod at_once;
 mod drains;
 mod events;
 mod frontiers;
@@ -174,7 +175,7 @@ impl<'d, F: Fabric> Kernel<'d, F> {
     pub fn waiting(&self, pin: u32) -> u64
         requires running { self.now.failed ≡ false }
         requires pin { pin < pin_count self.now.circuit }
-        ensures { result ≡ length (slice_index_or self.now.state.lists pin []) }
+        ensures { result ≡ length (waiting_at self.now.state pin) }
     {
         self.fabric.waiting(pin)
     }

@@ -1,5 +1,5 @@
 -- The files of a run and its settings, as options give them.
-use Rattle.std.specs.Prelude.{ℕ, List, Option, None, Some, Vec, codes}
+use Rattle.std.specs.Prelude.{ℕ, ◌==◌, if◌then◌else◌, List, [], Option, None, Some, Vec, codes}
 use Rattle.std.specs.declared.alloc.Global.{Global}
 use denote.Ref.{Bor}
 use Rattle.prepared_runs.specs.declared.run_texts.RunTexts.{RunTexts}
@@ -69,3 +69,14 @@ source_from options texts = record {
   period = options.period;
   picks = picks_of_options options.picks texts.schedule.items;
 }
+
+-- ---- what is noted
+
+-- a seed is given, and no events are drawn
+abbrev pub drawn_note : ℕ → List ℕ
+drawn_note picks = if picks == 0 then codes "note: --seed has no effect without --picks\n" else []
+
+abbrev pub picks_note : PickOptions → List ℕ
+picks_note Nothing = []
+picks_note (File name) = []
+picks_note (Seeded seed picks) = drawn_note picks

@@ -3,7 +3,7 @@ ghost use Rattle.std.specs.Prelude.{◌≡◌};
 ghost use Rattle.prepared_runs.specs.Events.{seen_picks};
 ghost use Rattle.prepared_runs.specs.RunTexts.{seen};
 ghost use Rattle.prepared_runs.specs.Source.{seen_source};
-ghost use Rattle.command_line.specs.Sources.{file_of_bench, files_of_options, names_of_files, picks_of_options, schedule_file, source_from};
+ghost use Rattle.command_line.specs.Sources.{drawn_note, file_of_bench, files_of_options, names_of_files, picks_note, picks_of_options, schedule_file, source_from};
 
 use prepared_runs::{Picks, RunTexts, SECTIONS, Source};
 
@@ -70,7 +70,7 @@ pub(crate) fn names_of_files<'a>(files: &Files<'a>) -> RunTexts<&'a str>
 
 impl<'a> SourceOptions<'a> {
     /// Returns the files that are named.
-    pub fn files(&self) -> Files<'a>
+    pub(crate) fn files(&self) -> Files<'a>
         ensures { result ≡ files_of_options self.now }
     {
         RunTexts {
@@ -97,6 +97,16 @@ impl<'a> SourceOptions<'a> {
 }
 
 impl<'a> PickOptions<'a> {
+    /// Returns the note on a seed that is given although no events are drawn, or the empty text.
+    pub fn note(&self) -> &'static str
+        ensures { result.now ≡ picks_note self.now }
+    {
+        match *self {
+            PickOptions::Seeded { picks, .. } => drawn_note(picks),
+            PickOptions::Nothing | PickOptions::File(_) => "",
+        }
+    }
+
     /// Returns the file of the schedule, if any.
     fn file(&self) -> Option<&'a str>
         ensures { result ≡ schedule_file self.now }
@@ -116,5 +126,15 @@ impl<'a> PickOptions<'a> {
             PickOptions::File(_) => Picks::Text(schedule),
             PickOptions::Seeded { seed, picks } => Picks::Seeded { seed, picks },
         }
+    }
+}
+
+fn drawn_note(picks: u64) -> &'static str
+    ensures { result.now ≡ drawn_note picks }
+{
+    if picks == 0 {
+        "note: --seed has no effect without --picks\n"
+    } else {
+        ""
     }
 }

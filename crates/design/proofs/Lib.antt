@@ -1,5 +1,4 @@
 mod AskedTicks
-mod Behind
 mod Built
 pub mod CallerLemmas
 mod Cutting
@@ -10,6 +9,7 @@ mod Numbers
 mod OnePeriod
 mod Ordered
 mod Parts
+mod Passing
 mod Picked
 mod Ranks
 mod SampleTicks
@@ -17,7 +17,5 @@ mod Solution
 mod Starts
 mod Stored
 mod Ticks
-mod Times
-mod WalkEnds
-mod Walking
+mod Untimed
 mod WellFormed

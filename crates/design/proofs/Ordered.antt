@@ -1,16 +1,19 @@
 -- Inputs, gates and flip-flops in one list.
-use Rattle.std.proofs.Common.{◌≡◌, ◌≢◌, ℕ, ◌+◌, ◌==◌, ◌<◌, ◌≤◌, Bool, true, false, cond, List, [], ◌++◌, length, get_or, take, refl, sym, ap, ◌∙◌, arith, All, AllPairs, Contains, inl, inr, ⊎_elim, length-append}
+use Rattle.std.proofs.Common.{◌≡◌, ◌≢◌, ℕ, ◌+◌, ◌==◌, ◌<◌, ◌≤◌, Bool, true, false, cond, List, [], ◌++◌, length, get_or, map, refl, sym, ap, ◌∙◌, arith, All, AllPairs, Contains, ⊎_elim, length-append}
 use Rattle.std.specs.List.{range_with_len}
 use Rattle.std.proofs.lemmas.Bool.{eqb-true, cases_lt}
 use Rattle.std.proofs.lemmas.Bool.Decides.{nat_tests}
 use Rattle.std.proofs.lemmas.List.{get_or_append_left, get_or-append_right}
-use Rattle.std.proofs.lemmas.List.Elements.{All-append, All-weaker, All-contains_itself, Contains-append_right, filter_passes}
+use Rattle.std.proofs.lemmas.List.Elements.{All-append, All-weaker, All-contains_itself, filter_passes}
+use Rattle.netlist.specs.Flow.{is_gate_in}
+use Rattle.netlist.specs.Repeats.{times}
+use Rattle.netlist.proofs.CallerLemmas.{contains_from_times, follows_between, once_from_times, some_time, test_fails, the_count, times-append}
 use Rattle.design.specs.Circuit.{Circuit}
-use Rattle.design.specs.Flow.{rank_at, IsGate, FollowsFlow}
-use Rattle.design.specs.Walk.{times, nets_of_rank, with_gates, IsGateOrder}
+use Rattle.design.specs.Design.{untimed}
+use Rattle.design.specs.Flow.{rank_at, nets_of_rank, FollowsFlow}
+use Rattle.design.proofs.Passing.{times_past, times_within}
 use Rattle.design.proofs.Ranks.{rank_within, rank_past}
-use Rattle.design.proofs.Times.{test_fails, the_count, times-append, some_time, contains_from_times, once_from_times, times_past, times_within}
-use Rattle.design.proofs.Behind.{Behind, AtEach, AtEach-append, follows_from_each, each_from_follows}
+use Rattle.design.proofs.Untimed.{gate_rank}
 
 -- ---- lists of a rank
 
@@ -55,15 +58,18 @@ no_test r high = grind (arith, nat_tests)
 
 -- ---- the whole order
 
-module _ (circuit : Circuit) (gates : List ℕ) (known : IsGateOrder circuit gates) where
-  abbrev order : List ℕ
-  order = with_gates circuit gates
+module _ (circuit : Circuit) (gates : List ℕ) (each : (net : ℕ) → times net gates ≡ cond (is_gate_in (map untimed circuit) net) 1 0) where
+  abbrev pub order : List ℕ
+  order = nets_of_rank circuit 0 ++ gates ++ nets_of_rank circuit 2
+
+  gate_times : (net : ℕ) → times net gates ≡ cond (rank_at circuit net == 1) 1 0
+  gate_times net = each net ∙ ap the_count (gate_rank circuit net)
 
   times_in_all : (net : ℕ) → times net order ≡ tests (rank_at circuit net)
   times_in_all net =
       let inputs = times_of_rank circuit 0 net (omega arith) in
       let flops = times_of_rank circuit 2 net (omega arith) in
-      omega (arith, times-append net (nets_of_rank circuit 0 ++ gates) (nets_of_rank circuit 2), times-append net (nets_of_rank circuit 0) gates, inputs, known.each net, flops)
+      omega (arith, times-append net (nets_of_rank circuit 0 ++ gates) (nets_of_rank circuit 2), times-append net (nets_of_rank circuit 0) gates, inputs, gate_times net, flops)
 
   pub order_once : AllPairs (λ (earlier later : ℕ). earlier ≢ later) order
   order_once = once_from_times order (λ net. omega (arith, times_in_all net, one_test (rank_at circuit net)))
@@ -77,9 +83,9 @@ module _ (circuit : Circuit) (gates : List ℕ) (known : IsGateOrder circuit gat
       (λ past. absurd (omega (arith, some_time net order at, times_in_all net, no_test (rank_at circuit net) (omega (arith, rank_past circuit net past)))))
       (cases_lt net (length circuit))) order (All-contains_itself order)
 
-  all_gates : All (IsGate circuit) gates
-  all_gates = All-weaker (Contains gates) (IsGate circuit) (λ net at.
-      eqb-true (rank_at circuit net) 1 (passes (rank_at circuit net == 1) (omega (arith, some_time net gates at, known.each net)))) gates (All-contains_itself gates)
+  all_gates : All (λ net. rank_at circuit net ≡ 1) gates
+  all_gates = All-weaker (Contains gates) (λ net. rank_at circuit net ≡ 1) (λ net at.
+      eqb-true (rank_at circuit net) 1 (passes (rank_at circuit net == 1) (omega (arith, some_time net gates at, gate_times net)))) gates (All-contains_itself gates)
 
   pub order_parts : AllPairs (λ (earlier later : ℕ). rank_at circuit earlier ≤ rank_at circuit later) order
   order_parts =
@@ -91,22 +97,16 @@ module _ (circuit : Circuit) (gates : List ℕ) (known : IsGateOrder circuit gat
       all_gates)
       (All-append (λ net. rank_at circuit net ≤ 2) (nets_of_rank circuit 0) gates
       (All-weaker (λ net. rank_at circuit net ≡ 0) (λ net. rank_at circuit net ≤ 2) (λ net e. omega (arith, e)) (nets_of_rank circuit 0) inputs)
-      (All-weaker (IsGate circuit) (λ net. rank_at circuit net ≤ 2) (λ net e. omega (arith, e)) gates all_gates))
+      (All-weaker (λ net. rank_at circuit net ≡ 1) (λ net. rank_at circuit net ≤ 2) (λ net e. omega (arith, e)) gates all_gates))
       (all_of_rank circuit 2)
 
-  -- what is no gate has nothing to stand behind
-  no_gates : (r : ℕ) → r ≢ 1 → (before : List ℕ) → AtEach (λ more. Behind circuit (before ++ more)) (nets_of_rank circuit r)
-  no_gates r other before place d within source gate feeds =
-      absurd (other (sym (all_of_rank circuit r place d within) ∙ feeds.is_gate))
+  no_gates : (r : ℕ) → r ≢ 1 → All (λ net. is_gate_in (map untimed circuit) net ≡ false) (nets_of_rank circuit r)
+  no_gates r other =
+      All-weaker (λ net. rank_at circuit net ≡ r) (λ net. is_gate_in (map untimed circuit) net ≡ false)
+      (λ net is. gate_rank circuit net ∙ test_fails (rank_at circuit net) 1 (λ one. other (sym is ∙ one)))
+      (nets_of_rank circuit r) (all_of_rank circuit r)
 
-  pub order_follows : FollowsFlow circuit order
-  order_follows =
-      follows_from_each circuit order
-      (AtEach-append (Behind circuit) (nets_of_rank circuit 0 ++ gates) (nets_of_rank circuit 2)
-      (AtEach-append (Behind circuit) (nets_of_rank circuit 0) gates
-      (no_gates 0 (λ same. omega (arith, same)) [])
-      (λ place d within source gate feeds. ⊎_elim
-      (λ at. inl (Contains-append_right (nets_of_rank circuit 0) (take place gates) source at))
-      (λ flows. inr flows)
-      (each_from_follows circuit gates known.follows place d within source gate feeds)))
-      (no_gates 2 (λ same. omega (arith, same)) (nets_of_rank circuit 0 ++ gates)))
+  pub order_follows : FollowsFlow circuit gates → FollowsFlow circuit order
+  order_follows follows =
+      follows_between (map untimed circuit) (nets_of_rank circuit 0) gates (nets_of_rank circuit 2)
+      (no_gates 0 (λ same. omega (arith, same))) (no_gates 2 (λ same. omega (arith, same))) follows

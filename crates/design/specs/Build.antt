@@ -2,7 +2,7 @@
 use Rattle.std.specs.Prelude.{ℕ, List, map, Result, Ok, Err}
 use Rattle.std.specs.Option.{option_map_or}
 use Rattle.std.specs.Result.{result_map_both}
-use Rattle.text_lines.specs.Text.{◌>>=◌}
+use Rattle.texts.specs.Text.{◌>>=◌}
 use Rattle.netlist.specs.Netlist.{NetView, NetlistView}
 use Rattle.design.specs.declared.fault.BuildFault.{BuildFault}
 use Rattle.design.specs.declared.fault.BuildFault.TheVariants.{Setting, Timing, Stimulus}

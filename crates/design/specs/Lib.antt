@@ -2,8 +2,8 @@ pub use Rattle.logic3.specs.Value
 pub use Rattle.logic3.specs.Gate
 pub use Rattle.logic3.specs.Wave
 pub use Rattle.logic3.specs.Rising
-pub use Rattle.text_lines.specs.Text
-pub use Rattle.text_lines.specs.Fold
+pub use Rattle.texts.specs.Text
+pub use Rattle.texts.specs.Fold
 pub use Rattle.netlist.specs.Netlist
 pub mod Circuit
 pub mod Design
@@ -13,7 +13,6 @@ pub mod Equations
 pub mod OnePeriod
 pub mod Pins
 pub mod Flow
-pub mod Walk
 pub mod Segments
 pub mod Build
 pub mod PickedDesign

@@ -73,7 +73,6 @@ fn gates_ahead(alloc: Global, design: &Design, order: &[u32]) -> Result<Vec<usiz
 }
 
 /// Returns the greatest entry for the gates at the pins of a gate; 0 if there are none.
-#[tactic(auto, using(crate::proofs::Ranks::gate_by_rank))]
 fn past_gates(design: &Design, net: u32, past: &[usize]) -> usize
     requires net { net < length design.now.circuit }
     requires size { length past.now ≡ length design.now.circuit }
@@ -82,7 +81,7 @@ fn past_gates(design: &Design, net: u32, past: &[usize]) -> usize
     ensures there { 0 < result → (source : ℕ) × IsGate design.now.circuit source × Feeds design.now.circuit source net
         × (past_of past.now source ≡ result) }
 {
-    let _ = design.nets();
+    prove!(net < design.nets());
     if !design.part(net).is_gate() {
         return 0;
     }

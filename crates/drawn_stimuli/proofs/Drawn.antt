@@ -2,7 +2,7 @@
 use Rattle.std.proofs.Common.{◌≡◌, ◌≢◌, ℕ, ◌∙◌, cond, List, [], Option, None, Some, Result, Ok, Err, refl, sym, ap}
 use Rattle.std.specs.Option.{option_map_or}
 use Rattle.std.proofs.lemmas.Bool.{ne_eqb}
-use Rattle.text_lines.specs.Text.{unless_too_long}
+use Rattle.texts.specs.Text.{unless_too_long}
 use Rattle.netlist.specs.Netlist.{NetlistView}
 use Rattle.drawn_stimuli.specs.declared.drive.Drive.{Drive}
 use Rattle.drawn_stimuli.specs.declared.drive.Draws.{Draws}

@@ -11,8 +11,8 @@ use Rattle.logic3.specs.declared.change.Change.{Change}
 use Rattle.logic3.specs.Value.{is_same}
 use Rattle.logic3.specs.Wave.{change_at, changes_between, value_after, value_before}
 use Rattle.logic3.proofs.CallerLemmas.{value_at-wave_of}
-use Rattle.text_lines.specs.Text.{◌>>=◌, code_lines_from}
-use Rattle.text_lines.specs.Fold.{fold_lines}
+use Rattle.texts.specs.Text.{◌>>=◌, code_lines_from}
+use Rattle.texts.specs.Fold.{fold_lines}
 use Rattle.netlist.specs.Netlist.{NetlistView}
 use Rattle.netlist.proofs.CallerLemmas.{bytes_eq-other, bytes_eq-same}
 use Rattle.timing_text.specs.declared.fault.StimulusFault.{StimulusFault}

@@ -10,8 +10,8 @@ use Rattle.logic3.specs.declared.value.Value.{Value}
 use Rattle.logic3.specs.declared.change.Change.{Change}
 use Rattle.logic3.specs.Value.{is_same, is_same_equiv}
 use Rattle.logic3.specs.Wave.{change_at, value_before}
-use Rattle.text_lines.specs.Text.{longest_text, unless_too_long}
-use Rattle.text_lines.proofs.CallerLemmas.{unless_too_long-short}
+use Rattle.texts.specs.Text.{longest_text, unless_too_long}
+use Rattle.texts.proofs.CallerLemmas.{unless_too_long-short}
 use Rattle.netlist.specs.Netlist.{NetlistView}
 use Rattle.drawn_stimuli.specs.declared.drive.Drive.TheVariants.{Clock, Hold, Pulse}
 use Rattle.drawn_stimuli.specs.declared.drive.Rounds.{Rounds}

@@ -2,9 +2,9 @@
 use Rattle.std.proofs.Common.{◌≡◌, ℕ, ◌==◌, ◌≤◌, nat_lt, Bool, true, false, cond, List, [], length, Option, None, Some, Ok, Err, refl, sym, ap, ◌∙◌, subst}
 use Rattle.std.specs.Option.{option_map_or}
 use Rattle.std.proofs.lemmas.Bool.{ltb-false}
-use Rattle.text_lines.specs.Text.{longest_text}
-use Rattle.text_lines.specs.Fold.{fold_text}
-use Rattle.text_lines.proofs.CallerLemmas.{unless_too_long-short}
+use Rattle.texts.specs.Text.{longest_text}
+use Rattle.texts.specs.Fold.{fold_text}
+use Rattle.texts.proofs.CallerLemmas.{unless_too_long-short}
 use Rattle.netlist.specs.Netlist.{IsNetlist, NetlistView}
 use Rattle.timing_text.specs.declared.fault.StimulusFault.TheVariants as stimulus
 use Rattle.timing_text.specs.Ranges.{most_ticks}

@@ -13,8 +13,8 @@ use Rattle.std.proofs.lemmas.List.Sums.{AllPass-from_list_all, list_all-from_All
 use Rattle.std.proofs.lemmas.Str.Parse.{digit_from_value}
 use Rattle.logic3.specs.declared.value.Value.{Value}
 use Rattle.logic3.specs.declared.value.Value.TheVariants.{Zero, One, Unknown}
-use Rattle.text_lines.specs.Text.{code_lines_from, code_of, is_empty, is_white, lines_of, words_of}
-use Rattle.text_lines.proofs.CallerLemmas.{code_of-no_hash, number_of-decimal}
+use Rattle.texts.specs.Text.{code_lines_from, code_of, is_empty, is_white, lines_of, words_of}
+use Rattle.texts.proofs.CallerLemmas.{code_of-no_hash, number_of-decimal}
 use Rattle.netlist.specs.Name.{IsName, is_name_byte}
 use Rattle.netlist.specs.Netlist.{NetView, NetlistView}
 use Rattle.timing_text.specs.declared.fault.StimulusFault.TheVariants.{BadLine}

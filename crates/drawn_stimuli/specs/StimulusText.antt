@@ -7,7 +7,7 @@ use Rattle.logic3.specs.declared.value.Value.{Value}
 use Rattle.logic3.specs.declared.value.Value.TheVariants.{Unknown}
 use Rattle.logic3.specs.Value.{value_text}
 use Rattle.logic3.specs.Wave.{change_at, value_after}
-use Rattle.text_lines.specs.Text.{unless_too_long}
+use Rattle.texts.specs.Text.{unless_too_long}
 use Rattle.netlist.specs.Netlist.{IsNetlist, NetlistView}
 use Rattle.timing_text.specs.Stimuli.{NamedChange, stimuli_named}
 use Rattle.drawn_stimuli.specs.declared.drive.Draws.{Draws}

@@ -8,18 +8,17 @@ ghost use Rattle.drawn_stimuli.specs.StimulusText.{change_line, input_text, tick
 use crate::drive::Rounds;
 use crate::input::InputNet;
 use crate::signals::{value_before, value_of};
-use itoa::Buffer;
 use logic3::Value;
 use netlist::Netlist;
 use std::alloc::AllocError;
+use texts::push_number;
 
 /// Adds the line of a change.
 fn push_change(text: &mut Vec<u8>, tick: u64, name: &[u8], value: Value) -> Result<(), AllocError>
     ensures { OnOk result (text.new.items
         ≡ text.old.items ++ change_line (record { name = name.now; change = record { tick = tick; value = value } })) }
 {
-    let mut buffer = Buffer::new();
-    text.extend_from_slice(buffer.format(tick).as_bytes())?;
+    push_number(text, tick)?;
     text.extend_from_slice(b" ")?;
     text.extend_from_slice(name)?;
     text.extend_from_slice(b" ")?;

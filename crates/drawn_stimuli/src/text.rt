@@ -1,7 +1,7 @@
 //! The stimulus text of drives and draws.
 ghost use Rattle.std.specs.Prelude.{◌≡◌, ◌≢◌, ◌≤◌, ◌++◌, All, length, map, filter, IfOk, OnOk, Ok, Err};
 ghost use Rattle.std.specs.Result.{result_map_both};
-ghost use Rattle.text_lines.specs.Text.{longest_text};
+ghost use Rattle.texts.specs.Text.{longest_text};
 ghost use Rattle.netlist.specs.Netlist.{NetlistView};
 ghost use Rattle.timing_text.specs.Ranges.{most_ticks};
 ghost use Rattle.drawn_stimuli.specs.declared.input.InputNet.{InputNet as TheInputNet};
@@ -17,7 +17,7 @@ use crate::lines::push_tick;
 use crate::ticks::{moving_inputs, next_tick};
 use netlist::Netlist;
 use std::alloc::{AllocError, Global};
-use text_lines::LONGEST_TEXT;
+use texts::LONGEST_TEXT;
 use timing_text::Horizon;
 
 /// Adds the lines of a tick: at a tick of draws any input may change, and at others only those with a

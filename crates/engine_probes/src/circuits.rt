@@ -3,7 +3,7 @@ use crate::telling::Teller;
 use bench_text::read;
 use circuit_info::{Depths, fan_ins, fan_outs, levels_of};
 use fanin_cone::outside;
-use netlist::Netlist;
+use netlist::{Netlist, gate_order};
 use std::alloc::{AllocError, Global};
 use std::io::Write;
 
@@ -19,6 +19,13 @@ const RING: &[u8] = b"a = NOT(b)\nb = NOT(c)\nc = NOT(d)\nd = NOT(e)\ne = NOT(a)
 pub(crate) fn probe<W: Write>(alloc: Global, teller: &mut Teller<W>) -> Option<()> {
     let netlist = teller.told("bench_text::read", read(alloc, CHAIN))?;
     counts(alloc, teller, &netlist)?;
+    let gates = gate_order(alloc, &netlist);
+    lists(
+        teller,
+        "gate_order",
+        gates,
+        &[5, 4, 3, 2, 1, 0, 7, 8, 9, 10, 11],
+    )?;
     levels(alloc, teller, &netlist)?;
     let nets = outside(alloc, &netlist, netlist.outputs());
     lists(teller, "fanin_cone::outside", nets, &[7, 8, 9, 10, 11])?;

@@ -1,8 +1,8 @@
 //! Timing diagrams: one that isn't drawn leaves the output unchanged.
 
+use crate::circuit_texts::inverter;
 use crate::following::Follower;
 use crate::telling::Teller;
-use crate::texts::inverter;
 use Form::{Svg, Text};
 use design::{Design, plain_waves};
 use logic3::Waveform;

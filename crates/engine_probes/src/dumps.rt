@@ -2,9 +2,9 @@
 ghost use Rattle.std.specs.Prelude.{◌≡◌, ◌+◌, ◌<◌, ◌≤◌, [], ◌∷◌, false, true, length, All, IfOk, IfSome, OnOk, OnErr};
 ghost use Rattle.vcd_dump.specs.Spans.{begun, with_parts, spanned, changes_in, IsPart};
 
+use crate::circuit_texts::oscillator;
 use crate::following::Follower;
 use crate::telling::Teller;
-use crate::texts::oscillator;
 use Value::{One, Zero};
 use design::Design;
 use logic3::{Change, Value, Waveform};

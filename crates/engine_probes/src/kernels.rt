@@ -1,8 +1,8 @@
 //! The kernel, over both fabrics: if it runs out of memory, it has failed, and says so.
 ghost use Rattle.std.specs.Prelude.{◌≡◌, ◌<◌, length, IfSome, Ok};
 
+use crate::circuit_texts::{design, horizon};
 use crate::telling::Teller;
-use crate::texts::{design, horizon};
 use Event::{Advance, Deliver};
 use cmb_channels::{Fabric, Logs, Queues};
 use cmb_events::Event;

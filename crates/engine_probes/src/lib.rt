@@ -3,6 +3,7 @@
 #![tactic(auto)]
 
 mod channels;
+mod circuit_texts;
 mod circuits;
 mod diagrams;
 mod dumps;
@@ -11,7 +12,6 @@ mod following;
 mod kernels;
 mod processes;
 mod telling;
-mod texts;
 mod waves;
 
 pub use following::Follower;
@@ -22,8 +22,8 @@ pub use telling::Teller;
 /// Makes all calls, each group to its end or up to a call that runs out of memory.
 pub fn probe<W: Write>(alloc: Global, teller: &mut Teller<W>) {
     let _ = waves::probe(alloc, teller);
-    let _ = texts::probe(alloc, teller);
-    let _ = texts::probe_designs(alloc, teller);
+    let _ = circuit_texts::probe(alloc, teller);
+    let _ = circuit_texts::probe_designs(alloc, teller);
     let _ = circuits::probe(alloc, teller);
     let _ = channels::probe(alloc, teller);
     let _ = processes::probe(alloc, teller);

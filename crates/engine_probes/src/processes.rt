@@ -4,8 +4,8 @@ ghost use Rattle.std.specs.Prelude.{◌≡◌, ◌<◌, false, length, slice_get
 ghost use Rattle.std.specs.Option.{ForSome};
 ghost use Rattle.gate_process.specs.Step.{ProcessView};
 
+use crate::circuit_texts::inverter;
 use crate::telling::Teller;
-use crate::texts::inverter;
 use Value::{One, Zero};
 use cmb_channels::Message;
 use design::Design;

@@ -127,3 +127,27 @@ fn steps_of_channels(rt: HostRuntime) -> Result<(), Fail> {
     let two_gates = b"INPUT(a)\nINPUT(b)\ny = AND(b, a)\nz = NOT(a)\n";
     follow_both(&rt, rt.alloc(), two_gates, (4, 3), &AT_TWO_GATES)
 }
+
+// One pin takes each message as it is sent, and the other one stays three behind, so a log that has kept
+// sixteen messages loses those that both have taken.
+fn stays_behind<F: Fabric>(rt: &impl Abort, alloc: Global, design: &Design) -> Result<(), Fail> {
+    let mut channels: Channels<F> = Channels::empty_for(alloc, design)?;
+    for bound in 0..99 {
+        channels.step(rt, Sends(1, Null(bound)))?;
+        channels.step(rt, Takes(1, Some(Null(bound))))?;
+        if bound >= 3 {
+            channels.step(rt, Takes(2, Some(Null(bound - 3))))?;
+        }
+    }
+    channels.step(rt, Waits(1, 0))?;
+    channels.step(rt, Waits(2, 3))?;
+    Ok(())
+}
+
+#[test]
+fn one_pin_behind(rt: HostRuntime) -> Result<(), Fail> {
+    let two_gates = b"INPUT(a)\nINPUT(b)\ny = AND(a, b)\nz = NOT(b)\n";
+    let design = built(rt.alloc(), two_gates, b"", b"", 10)?;
+    stays_behind::<Queues>(&rt, rt.alloc(), &design)?;
+    stays_behind::<Logs>(&rt, rt.alloc(), &design)
+}

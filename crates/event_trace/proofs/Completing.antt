@@ -11,9 +11,8 @@ use Rattle.cmb_kernel.specs.State.{State, KernelView, IsComplete, is_complete, l
 use Rattle.cmb_kernel.specs.Step.{one_more, step, steps, after_deliver, with_round, round_events, round_of, rounds, completed_within}
 use Rattle.cmb_kernel.specs.Sound.{IsSound}
 use Rattle.cmb_kernel.proofs.CallerLemmas.{falls, rises_by_delay, is_complete-from}
-use Rattle.vcd_dump.specs.Bytes.{AppendsPrefix}
-use Rattle.vcd_dump.specs.Written.{GoesOut}
-use Rattle.vcd_dump.proofs.CallerLemmas.{GoesOut-then, GoesOut-fault}
+use Rattle.texts.specs.Written.{AppendsPrefix, GoesOut}
+use Rattle.texts.proofs.CallerLemmas.{GoesOut-then, GoesOut-fault}
 use Rattle.event_trace.specs.Lines.{Line, begins, line_text, lines_text}
 use Rattle.event_trace.specs.Trace.{line_of, lines_of, round_lines, lines_within}
 use Rattle.event_trace.proofs.GoingOut.{GoesOut-none}

@@ -2,9 +2,8 @@
 use Rattle.std.proofs.Common.{◌≡◌, ℕ, List, [], ◌++◌, Option, refl, subst, sym}
 use Rattle.std.specs.Io.KnownBytes.{Appends}
 use Rattle.std.proofs.KnownBytes.{Appends-nil}
-use Rattle.vcd_dump.specs.Bytes.{AppendsPrefix}
-use Rattle.vcd_dump.specs.Written.{GoesOut}
-use Rattle.vcd_dump.proofs.CallerLemmas.{AppendsPrefix-longer, GoesOut-stopped, GoesOut-sent, GoesOut-broken, GoesOut-behind, GoesOut-next}
+use Rattle.texts.specs.Written.{AppendsPrefix, GoesOut}
+use Rattle.texts.proofs.CallerLemmas.{AppendsPrefix-longer, GoesOut-stopped, GoesOut-sent, GoesOut-broken, GoesOut-behind, GoesOut-next}
 
 -- nothing went out yet
 pub GoesOut-none : (out : Option (List ℕ)) (text : List ℕ) → GoesOut out out text text

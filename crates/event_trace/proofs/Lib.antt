@@ -1,11 +1,12 @@
 mod Completing
-mod Cuts
+mod CountsLine
 mod EventLines
 mod GoingOut
 mod News
 mod Messages
 mod RoundEvents
 mod Tallies
+mod Traces
 mod Walking
 mod Waveforms
 mod WholeTrace

@@ -3,8 +3,7 @@ use Rattle.std.proofs.Common.{◌≡◌, ℕ, List, [], ◌∷◌, ◌++◌, Opt
 use Rattle.std.specs.List.{flat_map}
 use Rattle.std.proofs.lemmas.Grind.{flat_map-append}
 use Rattle.std.specs.Io.KnownBytes.{Appends}
-use Rattle.vcd_dump.specs.Bytes.{AppendsPrefix}
-use Rattle.vcd_dump.specs.Written.{GoesOut}
+use Rattle.texts.specs.Written.{AppendsPrefix, GoesOut}
 use Rattle.design.specs.Circuit.{Circuit}
 use Rattle.cmb_events.specs.declared.event.Event.{Event}
 use Rattle.cmb_kernel.specs.declared.counts.Counts.{Counts}

@@ -4,7 +4,7 @@ use Rattle.logic3.specs.Value.{value_text}
 use Rattle.cmb_channels.specs.declared.message.Message.{Message}
 use Rattle.cmb_channels.specs.declared.message.Message.TheVariants.{Change as Changes, Null}
 use Rattle.design.specs.Circuit.{Circuit}
-use Rattle.vcd_dump.specs.Dump.{line}
+use Rattle.texts.specs.Written.{line}
 use Rattle.vcd_dump.specs.Traces.{name_of}
 use Rattle.cmb_kernel.specs.declared.counts.Counts.{Counts}
 

@@ -1,6 +1,9 @@
 -- The changes of a net in a trace.
-use Rattle.std.specs.Prelude.{ℕ, ◌==◌, if◌then◌else◌, List, [], ◌∷◌, flat_map}
+use Rattle.std.specs.Prelude.{◌≡◌, ℕ, ◌<◌, ◌==◌, if◌then◌else◌, List, [], ◌∷◌, length, flat_map}
 use Rattle.logic3.specs.declared.change.Change.{Change}
+use Rattle.logic3.specs.Wave.{wave_of}
+use Rattle.design.specs.Circuit.{Circuit}
+use Rattle.design.specs.Equations.{value_of}
 use Rattle.cmb_channels.specs.declared.message.Message.{Message}
 use Rattle.cmb_channels.specs.declared.message.Message.TheVariants.{Change as Changes, Null}
 use Rattle.event_trace.specs.Lines.{Line, begins, advances, delivers, ends}
@@ -21,3 +24,8 @@ told_of net (ends counts) = []
 -- the changes of a net in some lines, in order
 abbrev pub changes_told_of : ℕ → List Line → List Change
 changes_told_of net lines = flat_map (told_of net) lines
+
+-- the changes of each net in some lines are those that the equations give it before an end
+abbrev pub ShowWaveforms : Circuit → ℕ → List Line → Type 0
+ShowWaveforms circuit end lines =
+    (net : ℕ) → net < length circuit → changes_told_of net lines ≡ (wave_of (value_of circuit net) 0 end).changes

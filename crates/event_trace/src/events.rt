@@ -9,7 +9,6 @@ ghost use Rattle.event_trace.specs.Lines.{line_text};
 ghost use Rattle.event_trace.specs.Trace.{line_of};
 
 use crate::lines::{push_advance, push_delivery};
-use crate::spans::changes_between;
 use cmb_channels::Logs;
 use cmb_events::Event;
 use cmb_kernel::Kernel;
@@ -69,7 +68,7 @@ fn push_advanced(
     let from = kernel.frontier(net);
     apply(kernel, Event::Advance(net))?;
     let to = kernel.frontier(net);
-    let changes = changes_between(kernel.waveform(net), from, to);
+    let changes = kernel.waveform(net).changes_within(from, to);
     push_advance(text, design.name(net), from, to, changes)?;
     Ok(())
 }
@@ -96,7 +95,8 @@ fn push_delivered(
     let from = kernel.received(pin);
     apply(kernel, Event::Deliver(pin))?;
     let to = kernel.received(pin);
-    let changes = changes_between(kernel.waveform(design.pin_source(pin)), from, to);
+    let source = design.pin_source(pin);
+    let changes = kernel.waveform(source).changes_within(from, to);
     push_delivery(text, design.name(net), place, from, to, changes)?;
     Ok(())
 }

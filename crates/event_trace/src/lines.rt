@@ -7,7 +7,7 @@ ghost use Rattle.event_trace.specs.Told.{told_by, told_to};
 use cmb_kernel::Counts;
 use logic3::Change;
 use std::alloc::AllocError;
-use vcd_dump::push_numbered;
+use texts::push_numbered;
 
 fn push_change(text: &mut Vec<u8>, change: Change) -> Result<(), AllocError>
     ensures { OnOk result (text.new.items ≡ text.old.items ++ spaced_text (Changes change)) }

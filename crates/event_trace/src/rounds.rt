@@ -1,13 +1,12 @@
 //! Rounds with their lines.
-ghost use Rattle.std.specs.Prelude.{◌≡◌, ◌≢◌, ◌++◌, ◌∷◌, false, [], length, replicate, slice_index_or, IfErr, IfOk, OnOk, OnErr};
+ghost use Rattle.std.specs.Prelude.{◌≡◌, ◌≢◌, ◌++◌, false, [], length, replicate, slice_index_or, IfErr, IfOk, OnOk, OnErr};
 ghost use Rattle.cmb_events.specs.Schedule.{Exists};
 ghost use Rattle.cmb_events.specs.declared.event.Event.TheVariants.{Deliver};
 ghost use Rattle.cmb_kernel.specs.State.{IsUndrained, most_rounds};
 ghost use Rattle.cmb_kernel.specs.Step.{round_events, steps, completed_within};
-ghost use Rattle.vcd_dump.specs.Bytes.{AppendsPrefix};
-ghost use Rattle.vcd_dump.specs.Written.{GoesOut};
-ghost use Rattle.event_trace.specs.Lines.{begins, lines_text};
-ghost use Rattle.event_trace.specs.Trace.{lines_of, lines_within};
+ghost use Rattle.texts.specs.Written.{AppendsPrefix, GoesOut};
+ghost use Rattle.event_trace.specs.Lines.{lines_text};
+ghost use Rattle.event_trace.specs.Trace.{numbered_round, rounds_lines};
 
 use crate::events::TracedKernel;
 use crate::lines::push_round;
@@ -73,11 +72,9 @@ fn walk_round<W: Write>(
     ensures state { OnOk result
         (kernel.new ≡ record kernel.old { state = steps kernel.old.state (round_events kernel.old.state) }) }
     ensures ok { OnOk result (GoesOut (W.contents out.old) (W.contents out.new)
-        (text.old.items ++ lines_text design.now.circuit
-        (begins number ∷ lines_of kernel.old.state (round_events kernel.old.state))) text.new.items) }
+        (text.old.items ++ lines_text design.now.circuit (numbered_round number kernel.old.state)) text.new.items) }
     ensures err { OnErr result (AppendsPrefix (W.contents out.old) (W.contents out.new)
-        (text.old.items ++ lines_text design.now.circuit
-        (begins number ∷ lines_of kernel.old.state (round_events kernel.old.state)))) }
+        (text.old.items ++ lines_text design.now.circuit (numbered_round number kernel.old.state))) }
     ensures fault { IfErr result (λ fault. fault ≢ DumpFault.Failed) }
 {
     prove!(!kernel.is_failed());
@@ -101,11 +98,9 @@ pub fn walk_rounds<W: Write>(
     ensures counts { IfOk result (λ counts. counts ≡
         (completed_within (most_rounds kernel.old.end kernel.old.circuit) kernel.old.state).counts) }
     ensures ok { OnOk result (GoesOut (W.contents out.old) (W.contents out.new)
-        (text.old.items ++ lines_text design.now.circuit
-        (lines_within (most_rounds kernel.old.end kernel.old.circuit) kernel.old.state)) text.new.items) }
+        (text.old.items ++ lines_text design.now.circuit (rounds_lines kernel.old)) text.new.items) }
     ensures err { OnErr result (AppendsPrefix (W.contents out.old) (W.contents out.new)
-        (text.old.items ++ lines_text design.now.circuit
-        (lines_within (most_rounds kernel.old.end kernel.old.circuit) kernel.old.state))) }
+        (text.old.items ++ lines_text design.now.circuit (rounds_lines kernel.old))) }
     ensures fault { IfErr result (λ fault. fault ≢ DumpFault.Failed) }
 {
     // Each round makes progress.

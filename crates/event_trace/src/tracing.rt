@@ -3,9 +3,9 @@ ghost use Rattle.std.specs.Io.KnownBytes.{Appends};
 ghost use Rattle.cmb_events.specs.Schedule.{Exists};
 ghost use Rattle.cmb_kernel.specs.State.{IsUndrained, most_rounds};
 ghost use Rattle.cmb_kernel.specs.Step.{completed_within, steps};
-ghost use Rattle.vcd_dump.specs.Bytes.{AppendsPrefix};
+ghost use Rattle.texts.specs.Written.{AppendsPrefix};
 ghost use Rattle.event_trace.specs.Lines.{lines_text};
-ghost use Rattle.event_trace.specs.Trace.{lines_from, state_at_end, trace_text};
+ghost use Rattle.event_trace.specs.Trace.{run_lines, state_at_end, trace_text};
 
 use crate::events::{TracedKernel, fresh_kernel};
 use crate::lines::push_counts;
@@ -16,8 +16,9 @@ use cmb_kernel::Counts;
 use design::Design;
 use std::alloc::Global;
 use std::io::Write;
+use texts::write_all_bytes;
 use timing_text::Horizon;
-use vcd_dump::{DumpFault, write_all_bytes};
+use vcd_dump::DumpFault;
 
 /// Runs a design up to a horizon, and writes a line for each event that the kernel applies: first the
 /// given events, each of a pin or a net of the design, in order, and then those of rounds, until each
@@ -38,7 +39,7 @@ use vcd_dump::{DumpFault, write_all_bytes};
 /// [`DumpFault::Write`] if a `write` returns an error, including an interruption,
 /// [`DumpFault::WroteNothing`] if a `write` takes none of its bytes, and [`DumpFault::Memory`] if an
 /// allocation fails; never [`DumpFault::Failed`]. A prefix of the trace has been written then.
-pub fn trace<W: Write>(
+pub fn trace_events<W: Write>(
     alloc: Global,
     out: &mut W,
     design: &Design,
@@ -73,9 +74,9 @@ fn trace_kernel<W: Write>(
     ensures counts { IfOk result (λ counts. counts ≡
         (completed_within (most_rounds kernel.old.end kernel.old.circuit) (steps kernel.old.state events.now)).counts) }
     ensures ok { OnOk result (Appends (W.contents out.old) (W.contents out.new) (lines_text design.now.circuit
-        (lines_from kernel.old.state (most_rounds kernel.old.end kernel.old.circuit) events.now))) }
+        (run_lines kernel.old events.now))) }
     ensures err { OnErr result (AppendsPrefix (W.contents out.old) (W.contents out.new) (lines_text design.now.circuit
-        (lines_from kernel.old.state (most_rounds kernel.old.end kernel.old.circuit) events.now))) }
+        (run_lines kernel.old events.now))) }
     ensures fault { IfErr result (λ fault. fault ≢ DumpFault.Failed) }
 {
     let mut text = Vec::new(alloc);

@@ -3,8 +3,7 @@ ghost use Rattle.std.specs.Prelude.{◌≡◌, ◌≢◌, ◌++◌, false, All, 
 ghost use Rattle.cmb_events.specs.Schedule.{Exists};
 ghost use Rattle.cmb_kernel.specs.State.{IsUndrained};
 ghost use Rattle.cmb_kernel.specs.Step.{steps};
-ghost use Rattle.vcd_dump.specs.Bytes.{AppendsPrefix};
-ghost use Rattle.vcd_dump.specs.Written.{GoesOut};
+ghost use Rattle.texts.specs.Written.{AppendsPrefix, GoesOut};
 ghost use Rattle.event_trace.specs.Lines.{lines_text};
 ghost use Rattle.event_trace.specs.Trace.{lines_of};
 
@@ -12,7 +11,8 @@ use crate::events::{TracedKernel, push_event};
 use cmb_events::Event;
 use design::Design;
 use std::io::Write;
-use vcd_dump::{DumpFault, send_long};
+use texts::send_long;
+use vcd_dump::DumpFault;
 
 /// Applies some events in order, and writes their lines after the waiting text.
 pub fn walk<W: Write>(

@@ -6,7 +6,7 @@ use Rattle.std.specs.Str.{str_eq_ignore_ascii_case}
 use Rattle.explanations.specs.declared.subject.Subject.{Subject}
 use Rattle.explanations.specs.declared.subject.Subject.TheVariants.{Bench, Delays, Stimuli, Schedule}
 use Rattle.explanations.specs.Excerpt.{line_at, line_told, shown_line}
-use Rattle.text_lines.specs.Text.{code_lines, code_of, is_empty, is_plain, is_white, words_of}
+use Rattle.texts.specs.Text.{code_lines, code_of, is_empty, is_plain, is_white, words_of}
 
 -- ---- the words of a line without its comment
 

@@ -1,6 +1,6 @@
 -- Lines of a text, as they are shown.
 use Rattle.std.specs.Prelude.{ℕ, ◌-◌, ◌==◌, ◌||◌, ◌&&◌, nat_lt, if◌then◌else◌, List, [], ◌++◌, map, take, length, slice_get, codes, decimal, Option, None, Some}
-use Rattle.text_lines.specs.Text.{lines_of}
+use Rattle.texts.specs.Text.{lines_of}
 
 -- the line of a text by its number, from 1
 abbrev pub line_at : ℕ → List ℕ → Option (List ℕ)

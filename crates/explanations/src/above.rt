@@ -5,7 +5,7 @@ ghost use Rattle.explanations.specs.Seen.{seen_topic};
 
 use crate::subject::Subject;
 use crate::topic::{Topic, is_same, topic_of};
-use text_lines::code_lines;
+use texts::code_lines;
 
 /// Returns the number of the last line before the one with this number that has the same topic, or 0
 /// if there is none. Reads the text once.

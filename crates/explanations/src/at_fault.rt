@@ -2,7 +2,7 @@
 ghost use Rattle.std.specs.Prelude.{◌≡◌, ◌++◌, option_map, None, OnOk};
 ghost use Rattle.std.specs.List.{find, last_or};
 ghost use Rattle.explanations.specs.AtFault.{at_fault, at_fault_in, bench_word, earlier_line, is_among, is_unplain, of_nets, of_repeats, of_thirds, too, topic_of, word_at_fault, word_told};
-ghost use Rattle.text_lines.specs.Text.{words_of};
+ghost use Rattle.texts.specs.Text.{words_of};
 
 use crate::above::line_above;
 use crate::bench_lines::{long_net, nth_name};
@@ -11,7 +11,7 @@ use crate::subject::Subject;
 use crate::topic::{topic_of, word_at};
 use crate::undefined::undefined_in;
 use std::alloc::{AllocError, Global};
-use text_lines::{code_of, is_plain, words_of};
+use texts::{code_of, is_plain, words_of};
 
 /// Adds the message about the word at fault, if the text is known and has the line with this number.
 pub(crate) fn push_at_fault(

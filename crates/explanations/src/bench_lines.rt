@@ -4,7 +4,7 @@ ghost use Rattle.std.specs.List.{find};
 ghost use Rattle.explanations.specs.AtFault.{begins_with_input, defined_by, is_assignment, is_gap, is_long, long_net, names_in, nth_name, used_by};
 
 use std::alloc::{AllocError, Global};
-use text_lines::is_white;
+use texts::is_white;
 
 /// The largest number of bytes in a name.
 const LONGEST_NAME: usize = 255;

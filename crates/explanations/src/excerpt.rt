@@ -1,7 +1,7 @@
 //! The line at fault, as it is shown.
 ghost use Rattle.std.specs.Prelude.{◌≡◌, ◌++◌, OnOk, option_map, slice_get, take};
 ghost use Rattle.explanations.specs.Excerpt.{cut_mark, excerpt, line_at, line_told, shown_byte, shown_line};
-ghost use Rattle.text_lines.specs.Text.{lines_of};
+ghost use Rattle.texts.specs.Text.{lines_of};
 
 use std::alloc::{AllocError, Global};
 

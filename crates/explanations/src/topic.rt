@@ -3,11 +3,11 @@ ghost use Rattle.std.specs.Prelude.{◌≡◌, ◌==◌, ◌≤◌, length, opti
 ghost use Rattle.std.specs.List.{prefix_len};
 ghost use Rattle.explanations.specs.AtFault.{delay_topic, is_same, of_net, pin_of, topic_of, without_zeros, word_at};
 ghost use Rattle.explanations.specs.Seen.{seen_topic};
-ghost use Rattle.text_lines.specs.Text.{words_of};
+ghost use Rattle.texts.specs.Text.{words_of};
 
 use crate::bench_lines::defined_by;
 use crate::subject::Subject;
-use text_lines::words_of;
+use texts::words_of;
 
 /// The topic of a line: its net; in a delay text of version 2 also its first word, and for wires the
 /// place of the pin, without leading zeros. An absent part is empty.

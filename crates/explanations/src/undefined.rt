@@ -4,7 +4,7 @@ ghost use Rattle.explanations.specs.AtFault.{is_net, undefined_in};
 
 use crate::bench_lines::{defined_by, used_by};
 use std::alloc::{AllocError, Global};
-use text_lines::code_lines;
+use texts::code_lines;
 
 /// Returns the first name that a line without its comment uses and no line of the text defines. Reads the
 /// text once, for any number of names.

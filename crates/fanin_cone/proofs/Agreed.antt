@@ -8,7 +8,7 @@ use Rattle.logic3.specs.declared.value.Value.{Value}
 use Rattle.logic3.specs.declared.value.Value.TheVariants.{Unknown}
 use Rattle.logic3.specs.declared.change.Change.{Change}
 use Rattle.logic3.specs.Gate.{value_of_gate, only_pin}
-use Rattle.logic3.specs.Wave.{value_after}
+use Rattle.logic3.specs.Wave.{changes_until, value_after}
 use Rattle.netlist.specs.declared.part.Part.{Part}
 use Rattle.netlist.specs.declared.part.Part.TheVariants.{Input, Gate, Flop}
 use Rattle.netlist.specs.Netlist.{NetView, net_named, name_at}
@@ -20,7 +20,7 @@ use Rattle.design.specs.Equations.{pin_signals, values_at, equation_of_part, val
 use Rattle.design.proofs.CallerLemmas.{net_named-circuit, asked-early, same_asked, same_later, source_tick-is, length-circuit, timed_at, pins_at, IsCircuit-from_IsDesign}
 use Rattle.netlist.proofs.CallerLemmas.{no_net, net_at-named}
 use Rattle.fanin_cone.specs.Cone.{pin_names, IsClosed}
-use Rattle.fanin_cone.specs.Agreement.{net_of, stimuli_to, IsSameNet, AgreesAt, AgreesOn}
+use Rattle.fanin_cone.specs.Agreement.{net_of, IsSameNet, AgreesAt, AgreesOn}
 use Rattle.fanin_cone.proofs.DesignNets.{net_at-untimed}
 use Rattle.fanin_cone.proofs.NetOf.{own_number, net_of-found}
 
@@ -29,13 +29,13 @@ lt-leb x y h = grind (arith, nat_tests)
 
 -- what comes after the horizon changes nothing up to it
 value_after-filter : (v : Value) (changes : List Change) (horizon tick : ℕ) → tick ≤ horizon →
-    value_after v (stimuli_to horizon changes) tick ≡ value_after v changes tick
+    value_after v (changes_until horizon changes) tick ≡ value_after v changes tick
 value_after-filter v [] horizon tick h = refl
 value_after-filter v (change ∷ changes) horizon tick h =
     go (cases_lt horizon change.tick) (λ w. value_after-filter w changes horizon tick h)
   where
     kept : List Change
-    kept = stimuli_to horizon changes
+    kept = changes_until horizon changes
 
     go : (horizon < change.tick) ⊎ (change.tick ≤ horizon) → ((w : Value) → value_after w kept tick ≡ value_after w changes tick) →
         value_after v (cond (nat_le change.tick horizon) (change ∷ kept) kept) tick
@@ -45,7 +45,7 @@ value_after-filter v (change ∷ changes) horizon tick h =
 
 -- the same signals at each earlier tick give the same value
 same_equation : (part : Part) (x y : Net) (f g : ℕ → ℕ → Value) (horizon tick : ℕ) → HasTiming part x.timing →
-    x.timing ≡ y.timing → stimuli_to horizon x.stimuli ≡ stimuli_to horizon y.stimuli → tick ≤ horizon →
+    x.timing ≡ y.timing → changes_until horizon x.stimuli ≡ changes_until horizon y.stimuli → tick ≤ horizon →
     ((at : ℕ) → at < tick → values_at at (pin_signals f x.pins x.wires) ≡ values_at at (pin_signals g y.pins y.wires)) →
     equation_of_part part x (pin_signals f x.pins x.wires) tick ≡ equation_of_part part y (pin_signals g y.pins y.wires) tick
 same_equation Input x y f g horizon tick timed timing stimuli h pins =

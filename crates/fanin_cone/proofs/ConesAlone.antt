@@ -3,6 +3,7 @@ use Rattle.std.proofs.Common.{◌≡◌, ◌≢◌, ℕ, ◌<◌, List, [], ◌�
 use Rattle.std.proofs.lemmas.List.{get_or-map, length-map}
 use Rattle.std.proofs.lemmas.List.Elements.{All-head, All-tail}
 use Rattle.std.proofs.lemmas.Option.{slice_get-get_or, slice_get_within, get_or_from_slice_get, none-some, same_Some}
+use Rattle.logic3.specs.Wave.{changes_until}
 use Rattle.netlist.specs.Netlist.{NetView, NetlistView, IsNetlist, name_at, net_named}
 use Rattle.netlist.specs.Pick.{place_in, picked}
 use Rattle.netlist.specs.Repeats.{distinct}
@@ -12,7 +13,7 @@ use Rattle.design.specs.Design.{DesignView}
 use Rattle.design.specs.Equations.{value_of}
 use Rattle.design.specs.PickedDesign.{kept_net, net_in}
 use Rattle.design.proofs.CallerLemmas.{net_named-circuit, length-circuit}
-use Rattle.fanin_cone.specs.Agreement.{net_of, stimuli_to, HasSameTiming}
+use Rattle.fanin_cone.specs.Agreement.{net_of, HasSameTiming}
 use Rattle.fanin_cone.specs.Extract.{IsDesignOfCones, IsDesignOfExtract, IsExtract, KeepsTiming}
 use Rattle.fanin_cone.proofs.DesignNets.{net_at-untimed}
 use Rattle.fanin_cone.proofs.Extracted.{extract_shows, name_at-picked, pin_names-picked, place_in-kept}
@@ -98,7 +99,7 @@ module _ (whole part : DesignView) (nets : List ℕ) (below : All (λ net. net <
           record {
             timing = ap (λ (n : Net). n.timing) x_is ∙ ap (λ (n : Net). n.timing) y_is;
             wires = ap (λ (n : Net). n.wires) x_is ∙ ap (λ (n : Net). n.wires) y_is;
-            stimuli = ap (λ (n : Net). stimuli_to horizon n.stimuli) x_is ∙ ap (λ (n : Net). stimuli_to horizon n.stimuli) y_is;
+            stimuli = ap (λ (n : Net). changes_until horizon n.stimuli) x_is ∙ ap (λ (n : Net). changes_until horizon n.stimuli) y_is;
           }
 
   pub IsDesignOfExtract-cones : (horizon : ℕ) → IsDesignOfExtract whole part names horizon

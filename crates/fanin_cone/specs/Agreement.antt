@@ -1,6 +1,6 @@
 -- Two designs that agree on a set of names.
-use Rattle.std.specs.Prelude.{◌≡◌, ℕ, ◌≤◌, nat_le, List, filter, find, Option, Some, IsSome, bytes_eq}
-use Rattle.logic3.specs.declared.change.Change.{Change}
+use Rattle.std.specs.Prelude.{◌≡◌, ℕ, ◌≤◌, List, find, Option, Some, IsSome, bytes_eq}
+use Rattle.logic3.specs.Wave.{changes_until}
 use Rattle.netlist.specs.Netlist.{net_named}
 use Rattle.design.specs.Circuit.{Net}
 use Rattle.design.specs.Design.{DesignView, IsDesign}
@@ -15,16 +15,12 @@ net_of design name = find (λ (net : Net). bytes_eq net.name name) design.circui
 abbrev pub HasNet : DesignView → List ℕ → Type 0
 HasNet design name = IsSome (net_of design name)
 
--- the stimuli at ticks up to the horizon
-abbrev pub stimuli_to : ℕ → List Change → List Change
-stimuli_to horizon stimuli = filter (λ (change : Change). nat_le change.tick horizon) stimuli
-
 -- the same delay, for a flip-flop the same clock and initial value, the same wire delays at the pins in order, and the same
 -- stimuli up to the horizon
 pub record HasSameTiming (horizon : ℕ) (x y : Net) : Type 0 where
   pub timing : x.timing ≡ y.timing
   pub wires : x.wires ≡ y.wires
-  pub stimuli : stimuli_to horizon x.stimuli ≡ stimuli_to horizon y.stimuli
+  pub stimuli : changes_until horizon x.stimuli ≡ changes_until horizon y.stimuli
 
 -- the same part, pin names in order, and timing; numbers play no part
 pub record IsSameNet (a b : DesignView) (horizon : ℕ) (x y : Net) : Type 0 where

@@ -1,7 +1,7 @@
 pub use Rattle.logic3.specs.Value
 pub use Rattle.logic3.specs.Gate
 pub use Rattle.logic3.specs.Wave
-pub use Rattle.text_lines.specs.Text
+pub use Rattle.texts.specs.Text
 pub use Rattle.netlist.specs.Netlist
 pub use Rattle.netlist.specs.Repeats
 pub use Rattle.netlist.specs.Pick

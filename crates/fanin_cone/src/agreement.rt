@@ -1,15 +1,16 @@
 //! Whether two designs agree on a net's fan-in cone.
 ghost use Rattle.std.specs.Prelude.{◌≡◌, ◌∷◌, [], ◌<◌, ◌↔◌, length, All, IfOk, IfSome, IsSome, IsTrue, slice_get, Some};
 ghost use Rattle.logic3.specs.Rising.{TicksRise};
+ghost use Rattle.logic3.specs.Wave.{changes_until};
 ghost use Rattle.design.specs.Circuit.{Net};
 ghost use Rattle.design.specs.Design.{IsDesign};
 ghost use Rattle.netlist.specs.Netlist.{name_at};
 ghost use Rattle.fanin_cone.specs.Cone.{pin_names, InCone};
-ghost use Rattle.fanin_cone.specs.Agreement.{net_of, stimuli_to, IsSameNet, AgreesAt, AgreesOn};
+ghost use Rattle.fanin_cone.specs.Agreement.{net_of, IsSameNet, AgreesAt, AgreesOn};
 
 use crate::cones::cone;
 use design::Design;
-use logic3::Change;
+use logic3::{Change, changes_until};
 use std::alloc::{AllocError, Global};
 use timing_text::Horizon;
 
@@ -106,16 +107,8 @@ fn has_same_names(first: &Design, pins: &[u32], second: &Design, others: &[u32])
 fn has_same_stimuli(stimuli: &[Change], others: &[Change], horizon: Horizon) -> bool
     requires stimuli { TicksRise stimuli.now }
     requires others { TicksRise others.now }
-    ensures { IsTrue result ↔ (stimuli_to horizon stimuli.now ≡ stimuli_to horizon others.now) }
+    ensures { IsTrue result ↔ (changes_until horizon stimuli.now ≡ changes_until horizon others.now) }
 {
-    up_to(stimuli, horizon) == up_to(others, horizon)
-}
-
-/// Returns the stimuli at ticks up to the horizon.
-fn up_to(stimuli: &[Change], horizon: Horizon) -> &[Change]
-    requires { TicksRise stimuli.now }
-    ensures { result.now ≡ stimuli_to horizon stimuli.now }
-{
-    let end = stimuli.partition_point(|change| change.tick <= horizon.ticks());
-    &stimuli[..end]
+    let end = horizon.ticks();
+    changes_until(stimuli, end) == changes_until(others, end)
 }

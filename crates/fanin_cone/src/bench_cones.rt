@@ -1,7 +1,7 @@
 //! The nets in fan-in cones, from a .bench text and as one.
 ghost use Rattle.std.specs.Prelude.{◌≡◌, ◌≢◌, ◌<◌, length, Err};
 ghost use Rattle.std.specs.Result.{result_map_both};
-ghost use Rattle.text_lines.specs.Text.{longest_text};
+ghost use Rattle.texts.specs.Text.{longest_text};
 ghost use Rattle.netlist.specs.Names.{seen_names};
 ghost use Rattle.bench_text.specs.declared.fault.BenchFault.TheVariants.{TooLong};
 ghost use Rattle.fanin_cone.specs.declared.fault.ConeTextFault.TheVariants.{Bench};

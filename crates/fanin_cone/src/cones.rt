@@ -1,6 +1,6 @@
 //! The walk from nets back over their pins.
 ghost use Rattle.std.specs.Prelude.{◌≡◌, ◌<◌, ◌≤◌, ◌^◌, ◌∷◌, [], length, map, not, All, IfOk, OnOk};
-ghost use Rattle.netlist.specs.Netlist.{name_at};
+ghost use Rattle.netlist.specs.Netlist.{most_nets, name_at};
 ghost use Rattle.fanin_cone.specs.Cone.{IsConeOf, IsOutsideOf};
 ghost use Rattle.fanin_cone.specs.Walk.{Marks, MarksCone, NumbersMarked};
 
@@ -71,7 +71,7 @@ pub(crate) fn marked_cone(
     starts: &[u32],
 ) -> Result<Vec<bool>, AllocError>
     requires { All (λ start. start < length netlist.now.nets) starts.now }
-    ensures few { IfOk result (λ marks. length marks.items ≤ 100_000) }
+    ensures few { IfOk result (λ marks. length marks.items ≤ most_nets) }
     ensures size { IfOk result (λ marks. length marks.items ≡ length netlist.now.nets) }
     ensures cone { IfOk result
         (λ marks. MarksCone netlist.now (map (name_at netlist.now) starts.now) marks.items) }

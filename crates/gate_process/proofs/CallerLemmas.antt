@@ -4,6 +4,8 @@ pub use Rattle.gate_process.proofs.Events.{advanced_knows, get_below, get_of_map
 pub use Rattle.gate_process.proofs.Farther.{next-mono}
 pub use Rattle.gate_process.proofs.Frontiers.{least-bound, least-le, least_greatest}
 pub use Rattle.gate_process.proofs.Heard.{can_hear_change, can_hear_null}
+pub use Rattle.gate_process.proofs.HeardAll.{can_hear_all, can_hear_first, wanted_there}
+pub use Rattle.gate_process.proofs.Hears.{known_after-told, wanted-le}
 pub use Rattle.gate_process.proofs.Kept.{get_of_kept}
 pub use Rattle.gate_process.proofs.Lasting.{Lasting, lasts_advanced, lasts_drained, lasts_heard}
 pub use Rattle.gate_process.proofs.Quiet.{no_news}

@@ -11,7 +11,7 @@ use Rattle.logic3.specs.declared.change.Change.{Change}
 use Rattle.logic3.specs.Rising.{TicksRise}
 use Rattle.logic3.specs.Wave.{Wave, value_after, value_at, value_in_the_end}
 use Rattle.design.specs.Equations.{later}
-use Rattle.gate_process.specs.Knowledge.{Knowledge, delayed, delayed_changes, seen, unknown_from, as_known}
+use Rattle.gate_process.specs.Knowledge.{Knowledge, delayed, delayed_changes, unknown_from, as_known}
 use Rattle.gate_process.proofs.Passed.{due_by}
 
 -- a change, so many ticks later

@@ -22,7 +22,7 @@ pub nothing_forgotten : (process : ProcessState) (place : ℕ) (known : Knowledg
 nothing_forgotten process place known ok at none =
     ap (λ (k : Knowledge). k.wave.before) (ok.heard place known at) ∙ ap (value_before (value_at known.wave)) none
 
-told-before : (known : Knowledge) (message : Message) → (told known message).wave.before ≡ known.wave.before
+pub told-before : (known : Knowledge) (message : Message) → (told known message).wave.before ≡ known.wave.before
 told-before known (Changes change) = refl
 told-before known (Null bound) = refl
 
@@ -65,7 +65,7 @@ nothing_forgotten_farther process farther place known ok at same ahead none =
 -- ---- what can be heard
 
 -- what a pin keeps is a waveform that is past its frontier
-kept_known : (process : ProcessState) (place : ℕ) (known : Knowledge) → IsProcess process → slice_get process.received place ≡ Some known →
+pub kept_known : (process : ProcessState) (place : ℕ) (known : Knowledge) → IsProcess process → slice_get process.received place ≡ Some known →
     IsKnowledge known
 kept_known process place known ok at =
     subst IsKnowledge (sym (ok.heard place known at))

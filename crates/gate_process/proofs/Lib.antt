@@ -8,6 +8,8 @@ mod Farther
 mod Forgets
 mod Frontiers
 mod Heard
+mod HeardAll
+mod Hears
 mod Kept
 mod Lasting
 mod Nets

@@ -1,5 +1,5 @@
 -- What is known of a net, and the messages that report it.
-use Rattle.std.specs.Prelude.{◌≡◌, ◌==◌, if◌then◌else◌, ℕ, ◌+◌, ◌-◌, ◌<◌, ◌≤◌, min, List, [], ◌∷◌, ◌++◌, map, All, Option, None, Some}
+use Rattle.std.specs.Prelude.{◌≡◌, ◌==◌, nat_lt, if◌then◌else◌, ℕ, suc, ◌+◌, ◌-◌, ◌<◌, ◌≤◌, min, List, [], ◌∷◌, ◌++◌, map, All, Option, None, Some}
 use Rattle.logic3.specs.declared.value.Value.{Value}
 use Rattle.logic3.specs.declared.value.Value.TheVariants.{Unknown}
 use Rattle.logic3.specs.Wave.{Wave, IsWave, value_at, changes_between, wave_of}
@@ -63,10 +63,30 @@ told known (Changes change) =
     record { wave = record { before = known.wave.before; changes = known.wave.changes ++ change ∷ [] }; frontier = change.tick + 1 }
 told known (Null bound) = record { wave = known.wave; frontier = bound }
 
+-- how many ticks are known after a message
+abbrev pub known_after : Message → ℕ
+known_after (Changes change) = change.tick + 1
+known_after (Null bound) = bound
+
 -- what is known after some messages
 abbrev pub told_all : Knowledge → List Message → Knowledge
 told_all known [] = known
 told_all known (message ∷ messages) = told_all (told known message) messages
+
+-- how many of some messages a pin with a number of known ticks takes: one after another, as long as it is known to less than a tick
+abbrev pub wanted : ℕ → ℕ → List Message → ℕ
+wanted tick known [] = 0
+wanted tick known (message ∷ messages) = if nat_lt known tick then suc (wanted tick (known_after message) messages) else 0
+
+-- a message raises what is known, not past a limit, and continues its waveform
+abbrev pub Continues : ℕ → Knowledge → Message → Type 0
+Continues limit known message =
+    (known.frontier < (told known message).frontier) × ((told known message).frontier ≤ limit) × IsWave (told known message).wave
+
+-- some messages do so, one after another
+abbrev pub ContinueAll : ℕ → Knowledge → List Message → Type 0
+ContinueAll limit known [] = Unit {0}
+ContinueAll limit known (message ∷ messages) = Continues limit known message × ContinueAll limit (told known message) messages
 
 -- the first of the known ticks that is kept: the oldest that is asked for, or the last one known if that is earlier
 abbrev pub kept_since : ℕ → ℕ → ℕ
@@ -85,6 +105,10 @@ abbrev pub news_of : List Change → ℕ → List Message
 news_of [] to = Null to ∷ []
 news_of (change ∷ []) to = Changes change ∷ (if change.tick + 1 == to then [] else Null to ∷ [])
 news_of (change ∷ changes) to = Changes change ∷ news_of changes to
+
+-- the messages that report a signal from a frontier up to another, none if they are the same
+abbrev pub news_between : (ℕ → Value) → ℕ → ℕ → List Message
+news_between signal from to = if to == from then [] else news_of (changes_between signal from to) to
 
 -- these messages report a signal, from a tick known so far up to another, and each raises what is known
 abbrev pub Tells : (ℕ → Value) → ℕ → ℕ → List Message → Type 0

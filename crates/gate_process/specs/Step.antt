@@ -1,5 +1,5 @@
 -- The state of a net's process and its steps.
-use Rattle.std.specs.Prelude.{ℕ, zero, suc, Bool, false, ◌+◌, ◌-◌, nat_lt, ◌==◌, if◌then◌else◌, min, max, List, [], ◌∷◌, map, slice_get, Option, option_map}
+use Rattle.std.specs.Prelude.{ℕ, zero, suc, Bool, false, ◌+◌, ◌-◌, nat_lt, if◌then◌else◌, min, max, List, [], ◌∷◌, map, take, slice_get, Option, option_map}
 use Rattle.std.specs.Option.{option_map_or}
 use Rattle.logic3.specs.declared.value.Value.{Value}
 use Rattle.logic3.specs.declared.value.Value.TheVariants.{Unknown}
@@ -13,7 +13,7 @@ use Rattle.design.specs.Samples.{first_asker, wire_at}
 use Rattle.design.specs.Equations.{equation}
 use Rattle.cmb_channels.specs.declared.message.Message.{Message}
 use Rattle.cmb_channels.specs.Lists.{update}
-use Rattle.gate_process.specs.Knowledge.{Knowledge, nothing_known, knowledge_of, seen_pins, as_known, told, kept_since, forgetting, news_of}
+use Rattle.gate_process.specs.Knowledge.{Knowledge, nothing_known, knowledge_of, seen_pins, as_known, told, wanted, kept_since, forgetting, news_between}
 
 -- the least of these and a bound
 abbrev pub least : ℕ → List ℕ → ℕ
@@ -105,9 +105,17 @@ all_kept process place (received ∷ others) = kept process place received ∷ a
 abbrev pub signals_of : List Knowledge → List (ℕ → Value)
 signals_of received = map (λ (known : Knowledge). value_at (as_known known)) received
 
+-- what a net shows over what is known of its pins
+abbrev pub signal_over : Net → List Knowledge → ℕ → Value
+signal_over net received = equation net (signals_of (seen_pins net.wires received))
+
 -- how far a net is computed from a frontier on, if its pins show these signals and all of them are known up to a tick
 abbrev pub reach : Net → ℕ → ℕ → ℕ → List (ℕ → Value) → ℕ
 reach net end frontier safe signals = reach_of_part net.part (equation net signals) end frontier (frontier_of net end safe)
+
+-- how far its net can be computed from ticks at which all its pins are known
+abbrev pub sure_frontier : ProcessState → ℕ
+sure_frontier process = frontier_of process.net process.end (safe_of process)
 
 abbrev pub next_frontier : ProcessState → ℕ
 next_frontier process =
@@ -117,9 +125,13 @@ next_frontier process =
 abbrev pub continued : Wave → ℕ → (ℕ → Value) → ℕ → Value
 continued wave from signal tick = if nat_lt tick from then value_at wave tick else signal tick
 
+-- what its net shows over what it knows of the pins
+abbrev pub signal_so_far : ProcessState → ℕ → Value
+signal_so_far process = signal_over process.net process.received
+
 -- the net's signal as the process computes it: what it knew, and from its frontier on its equation over what its pins show
 abbrev pub reckoned : ProcessState → ℕ → Value
-reckoned process = continued process.known.wave process.known.frontier (equation process.net (signals_of (seen_by process)))
+reckoned process = continued process.known.wave process.known.frontier (signal_so_far process)
 
 -- the process after it has computed its net as far as it can
 abbrev pub extended : ProcessState → ProcessState
@@ -131,9 +143,7 @@ advanced process = record (extended process) { received = all_kept (extended pro
 
 -- the messages that it then sends
 abbrev pub news : ProcessState → List Message
-news process =
-    if next_frontier process == process.known.frontier then [] else
-    news_of (changes_between (reckoned process) process.known.frontier (next_frontier process)) (next_frontier process)
+news process = news_between (reckoned process) process.known.frontier (next_frontier process)
 
 -- the process after it receives a message at a place
 abbrev pub heard : ℕ → Message → ProcessState → ProcessState
@@ -141,6 +151,23 @@ heard place message process =
     record process {
       received = update (λ (known : Knowledge). kept process place (told known message)) place process.received;
     }
+
+-- the process after it receives some messages at a place, one after another
+abbrev pub heard_all : ℕ → List Message → ProcessState → ProcessState
+heard_all place [] process = process
+heard_all place (message ∷ messages) process = heard_all place messages (heard place message process)
+
+-- how many of some messages the pin at a place takes to be known up to a tick
+abbrev pub wanted_at : ℕ → ProcessState → ℕ → List Message → ℕ
+wanted_at tick process place messages = option_map_or (λ known. wanted tick known messages) (pin_frontier process place) 0
+
+-- those messages
+abbrev pub wanted_messages : ℕ → ProcessState → ℕ → List Message → List Message
+wanted_messages tick process place messages = take (wanted_at tick process place messages) messages
+
+-- the process after it receives those
+abbrev pub heard_below : ℕ → ℕ → List Message → ProcessState → ProcessState
+heard_below tick place messages process = heard_all place (wanted_messages tick process place messages) process
 
 -- the process after its changes before a tick were taken out: its waveform is kept from there on, or from its old floor
 -- if that is later

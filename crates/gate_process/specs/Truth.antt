@@ -1,5 +1,5 @@
 -- What is true of a process, and of one that receives true messages.
-use Rattle.std.specs.Prelude.{◌≡◌, ◌≢◌, ℕ, ◌+◌, ◌<◌, ◌≤◌, true, List, [], length, slice_get, slice_index_or, Some}
+use Rattle.std.specs.Prelude.{◌≡◌, ◌≢◌, ℕ, ◌+◌, ◌<◌, ◌≤◌, true, List, [], ◌∷◌, length, slice_get, slice_index_or, Some}
 use Rattle.logic3.specs.declared.value.Value.{Value}
 use Rattle.logic3.specs.declared.value.Value.TheVariants.{Unknown}
 use Rattle.logic3.specs.declared.change.Change.{Change}
@@ -9,10 +9,9 @@ use Rattle.design.specs.Circuit.{Net, Circuit, IsTimed}
 use Rattle.timing_text.specs.Ranges.{most_ticks}
 use Rattle.design.specs.Samples.{asked_tick}
 use Rattle.design.specs.Equations.{equation, pin_signals}
-use Rattle.logic3.specs.Wave.{IsWave}
 use Rattle.cmb_channels.specs.declared.message.Message.{Message}
-use Rattle.gate_process.specs.Knowledge.{Knowledge, knowledge_of, told, forgetting, Tells}
-use Rattle.gate_process.specs.Step.{ProcessState, pin_frontier, pin_last, next_frontier, kept_from, kept}
+use Rattle.gate_process.specs.Knowledge.{Knowledge, knowledge_of, Continues, forgetting, Tells}
+use Rattle.gate_process.specs.Step.{ProcessState, pin_frontier, pin_last, next_frontier, kept_from, kept, heard}
 
 -- a signal of a family meets a net's equation, over the others
 pub record Meets (signals : ℕ → ℕ → Value) (number : ℕ) (net : Net) : Type 0 where
@@ -39,6 +38,10 @@ pub record IsTruthful (signals : ℕ → ℕ → Value) (number : ℕ) (process 
   pub meets : Meets signals number process.net
   pub knows : KnowsTruth signals number process
 
+-- this holds of each truthful process: of the signals, the number of its net, and itself
+abbrev pub ForTruthful : ((ℕ → ℕ → Value) → ℕ → ProcessState → Type 0) → Type 0
+ForTruthful P = (signals : ℕ → ℕ → Value) (number : ℕ) (process : ProcessState) → IsTruthful signals number process → P signals number process
+
 -- messages come to a truthful process at a place: they report the source of its pin, from what was received so far up to a tick
 pub record HearsTruth (signals : ℕ → ℕ → Value) (number : ℕ) (process : ProcessState) (place to : ℕ) (messages : List Message) : Type 0 where
   pub truthful : IsTruthful signals number process
@@ -47,6 +50,13 @@ pub record HearsTruth (signals : ℕ → ℕ → Value) (number : ℕ) (process 
   pub pin : slice_get process.net.pins place ≡ Some source
   pub so_far : slice_get process.received place ≡ Some received
   pub tells : Tells (signals source) received.frontier to messages
+
+-- this holds of each process and the first of the messages that come to it: of the signals, the number of its net, itself, the
+-- place and the message
+abbrev pub ForHearers : ((ℕ → ℕ → Value) → ℕ → ProcessState → ℕ → Message → Type 0) → Type 0
+ForHearers P =
+    (signals : ℕ → ℕ → Value) (number : ℕ) (process : ProcessState) (place to : ℕ) (message : Message) (rest : List Message) →
+    HearsTruth signals number process place to (message ∷ rest) → P signals number process place message
 
 -- the net with a number; past the last net, the result doesn't matter
 abbrev pub net_at : Circuit → ℕ → Net
@@ -81,9 +91,12 @@ pub record IsProcess (process : ProcessState) : Type 0 where
 
 -- the process can receive this message at a place: it raises what the pin knows, continues its waveform, and isn't past the end
 abbrev pub CanHear : ProcessState → ℕ → Message → Type 0
-CanHear process place message =
-    (known : Knowledge) → slice_get process.received place ≡ Some known →
-    (known.frontier < (told known message).frontier) × ((told known message).frontier ≤ process.end) × IsWave (told known message).wave
+CanHear process place message = (known : Knowledge) → slice_get process.received place ≡ Some known → Continues process.end known message
+
+-- the process can receive these messages at a place, one after another
+abbrev pub CanHearAll : ProcessState → ℕ → List Message → Type 0
+CanHearAll process place [] = Unit {0}
+CanHearAll process place (message ∷ messages) = CanHear process place message × CanHearAll (heard place message process) place messages
 
 -- a change that continues what the pin at a place has received: later than all that is known, up to the end, and to another value
 pub record GoesOn (process : ProcessState) (place frontier : ℕ) (last : Value) (change : Change) : Type 0 where

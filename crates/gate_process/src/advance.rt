@@ -1,15 +1,14 @@
 //! The steps of an advance.
-ghost use Rattle.std.specs.Prelude.{◌≡◌, ◌≢◌, ◌⊎◌, ℕ, ◌+◌, ◌-◌, ◌<◌, ◌≤◌, ◌==◌, nat_lt, true, false, max, if◌then◌else◌, [], ◌∷◌, ◌++◌, All, slice_get, Some, length, IfOk, OnOk, OnErr};
+ghost use Rattle.std.specs.Prelude.{◌≡◌, ◌≢◌, ◌⊎◌, ℕ, ◌+◌, ◌-◌, ◌<◌, ◌≤◌, nat_lt, true, false, max, if◌then◌else◌, [], ◌∷◌, ◌++◌, All, slice_get, Some, length, IfOk, OnOk, OnErr};
 ghost use Rattle.logic3.specs.declared.value.Value.TheVariants.{Unknown};
 ghost use Rattle.logic3.specs.declared.change.Change.{Change};
 ghost use Rattle.logic3.specs.Wave.{value_at, value_before, last_value, joined, changes_between};
 ghost use Rattle.netlist.specs.declared.part.Part.TheVariants.{Input};
 ghost use Rattle.timing_text.specs.Ranges.{most_ticks};
-ghost use Rattle.design.specs.Equations.{equation};
 ghost use Rattle.cmb_channels.specs.declared.message.Message.TheVariants.{Null};
-ghost use Rattle.gate_process.specs.Knowledge.{Knowledge, seen_pins, news_of, kept_since, keeping};
+ghost use Rattle.gate_process.specs.Knowledge.{Knowledge, news_between, kept_since, keeping};
 ghost use Rattle.gate_process.specs.Reading.{reads, shown};
-ghost use Rattle.gate_process.specs.Step.{signals_of, continued, first_unknown, oldest_asked, reach_of_part};
+ghost use Rattle.gate_process.specs.Step.{signal_over, continued, first_unknown, oldest_asked, reach_of_part};
 
 use crate::cursor::Cursor;
 use crate::own_net::OwnNet;
@@ -45,17 +44,17 @@ pub fn extend(
     requires end { span.end ≤ most_ticks + 1 }
     requires inputs { net.now.part ≡ Input → span.sure ≡ span.end }
     requires ahead { span.from ≤ reach_of_part net.now.part
-        (equation net.now (signals_of (seen_pins net.now.wires received.now))) span.end span.from span.sure }
+        (signal_over net.now received.now) span.end span.from span.sure }
     requires past { All (λ (change : Change). change.tick < span.from) wave.old.changes }
     requires last { last_value wave.old ≡ value_before (value_at wave.old) span.from }
     ensures to { IfOk result (λ to. to ≡ reach_of_part net.now.part
-        (equation net.now (signals_of (seen_pins net.now.wires received.now))) span.end span.from span.sure) }
+        (signal_over net.now received.now) span.end span.from span.sure) }
     ensures wave { IfOk result (λ to. wave.new ≡ joined wave.old (changes_between
-        (continued wave.old span.from (equation net.now (signals_of (seen_pins net.now.wires received.now)))) span.from to)) }
-    ensures news { IfOk result (λ to. messages.new.items ≡ (if to == span.from then [] else news_of (changes_between
-        (continued wave.old span.from (equation net.now (signals_of (seen_pins net.now.wires received.now)))) span.from to) to)) }
+        (continued wave.old span.from (signal_over net.now received.now)) span.from to)) }
+    ensures news { IfOk result (λ to. messages.new.items ≡
+        news_between (continued wave.old span.from (signal_over net.now received.now)) span.from to) }
     ensures memory { OnErr result (span.from < reach_of_part net.now.part
-        (equation net.now (signals_of (seen_pins net.now.wires received.now))) span.end span.from span.sure) }
+        (signal_over net.now received.now) span.end span.from span.sure) }
 {
     let most = net.most(span.end, span.sure);
     if stays(net, received, span, most) {
@@ -70,9 +69,9 @@ pub fn goes_on(net: &OwnNet<'_>, received: &[Received], span: Span) -> bool
     requires sure { span.sure ≤ span.end }
     requires inputs { net.now.part ≡ Input → span.sure ≡ span.end }
     requires ahead { span.from ≤ reach_of_part net.now.part
-        (equation net.now (signals_of (seen_pins net.now.wires received.now))) span.end span.from span.sure }
+        (signal_over net.now received.now) span.end span.from span.sure }
     ensures { result ≡ nat_lt span.from (reach_of_part net.now.part
-        (equation net.now (signals_of (seen_pins net.now.wires received.now))) span.end span.from span.sure) }
+        (signal_over net.now received.now) span.end span.from span.sure) }
 {
     let most = net.most(span.end, span.sure);
     !stays(net, received, span, most)
@@ -95,12 +94,12 @@ fn reckon(
     requires end { most ≤ most_ticks + 1 }
     requires past { All (λ (change : Change). change.tick < span.from) wave.old.changes }
     requires last { last_value wave.old ≡ value_before (value_at wave.old) span.from }
-    ensures to { IfOk result (λ to. to ≡ first_unknown (equation net.now (signals_of (seen_pins net.now.wires received.now)))
+    ensures to { IfOk result (λ to. to ≡ first_unknown (signal_over net.now received.now)
         (max span.from span.sure) (most - max span.from span.sure)) }
     ensures wave { IfOk result (λ to. wave.new ≡ joined wave.old (changes_between
-        (continued wave.old span.from (equation net.now (signals_of (seen_pins net.now.wires received.now)))) span.from to)) }
-    ensures news { IfOk result (λ to. messages.new.items ≡ (if to == span.from then [] else news_of (changes_between
-        (continued wave.old span.from (equation net.now (signals_of (seen_pins net.now.wires received.now)))) span.from to) to)) }
+        (continued wave.old span.from (signal_over net.now received.now)) span.from to)) }
+    ensures news { IfOk result (λ to. messages.new.items ≡
+        news_between (continued wave.old span.from (signal_over net.now received.now)) span.from to) }
 {
     let wires = net.wires();
     // Most gates have one or two pins, which need no list of cursors. Only an input has none.
@@ -123,9 +122,9 @@ fn stays(net: &OwnNet<'_>, received: &[Received], span: Span, most: u64) -> bool
     requires pins { length received.now ≡ length net.now.pins }
     requires inputs { net.now.part ≡ Input → most ≤ span.sure }
     ensures yes { result ≡ true → (most ≤ span.from) ⊎ ((span.sure ≤ span.from) ×
-        (equation net.now (signals_of (seen_pins net.now.wires received.now)) span.from ≡ Unknown)) }
+        (signal_over net.now received.now span.from ≡ Unknown)) }
     ensures no { result ≡ false → (span.from < most) × ((span.from < span.sure) ⊎
-        (equation net.now (signals_of (seen_pins net.now.wires received.now)) span.from ≢ Unknown)) }
+        (signal_over net.now received.now span.from ≢ Unknown)) }
 {
     if span.from >= most {
         return true;
@@ -155,8 +154,8 @@ fn walk(
         first_unknown (shown net.now read.old) (max span.from span.sure) (most - max span.from span.sure)) }
     ensures wave { IfOk result (λ to. wave.new ≡ joined wave.old
         (changes_between (continued wave.old span.from (shown net.now read.old)) span.from to)) }
-    ensures news { IfOk result (λ to. messages.new.items ≡ (if to == span.from then [] else
-        news_of (changes_between (continued wave.old span.from (shown net.now read.old)) span.from to) to)) }
+    ensures news { IfOk result (λ to. messages.new.items ≡
+        news_between (continued wave.old span.from (shown net.now read.old)) span.from to) }
 {
     // The messages so far report the net up to here.
     let mut told = span.from;

@@ -9,9 +9,6 @@ use logic3::{Change, Value};
 use std::alloc::{AllocError, Global};
 use std::marker::Model;
 
-/// The number of changes for which memory is kept even if the list is empty.
-const FEW: usize = 16;
-
 /// A change in eight bytes: four hold the tick of any run, and pins keep many changes.
 #[derive(Debug, Drop)]
 pub struct KeptChange {
@@ -52,7 +49,8 @@ impl KeptChange {
 
 /// The changes that a pin keeps: added at the end, and dropped from the front.
 ///
-/// Both take constant time on average, and the memory in use follows the number of changes kept.
+/// Both take constant time on average. Memory is kept for later changes, so it follows the largest number of
+/// changes that were kept at a time.
 #[derive(Debug, Drop)]
 pub struct KeptChanges {
     changes: Vec<KeptChange>,
@@ -102,7 +100,7 @@ impl KeptChanges {
         Ok(())
     }
 
-    /// Drops this number of changes from the front. If few of many are left, it frees memory.
+    /// Drops this number of changes from the front. Their memory is kept for later ones.
     pub fn drop_front(&mut self, count: usize)
         requires { count ≤ length self.old }
         ensures { self.new ≡ drop count self.old }
@@ -111,22 +109,10 @@ impl KeptChanges {
         if self.start == self.changes.len() {
             self.changes.clear();
             self.start = 0;
-            self.give_back();
         } else if self.start > self.changes.len() / 2 {
             self.changes.rotate_left(self.start);
             self.changes.truncate(self.changes.len() - self.start);
             self.start = 0;
-            self.give_back();
-        }
-    }
-
-    /// Frees memory if there is room for more than a few changes and less than a quarter is used.
-    fn give_back(&mut self)
-        ensures { self.new ≡ self.old }
-    {
-        let used = self.changes.len();
-        if used < self.changes.capacity() / 4 {
-            self.changes.shrink_to(FEW.max(2 * used));
         }
     }
 }

@@ -1,30 +1,25 @@
 //! Facts about the definitions alone.
-ghost use Rattle.std.specs.Prelude.{◌≡◌, ◌≢◌, ◌⊎◌, ◌<◌, ◌≤◌, ℕ, List, ◌∷◌, Some};
+ghost use Rattle.std.specs.Prelude.{◌≡◌, ◌≢◌, ◌⊎◌, ◌<◌, ◌≤◌, ℕ, List, Some};
 ghost use Rattle.logic3.specs.declared.value.Value.{Value};
 ghost use Rattle.logic3.specs.declared.value.Value.TheVariants.{Unknown};
 ghost use Rattle.logic3.specs.declared.gates.GateKind.{GateKind};
 ghost use Rattle.logic3.specs.declared.change.Change.{Change};
 ghost use Rattle.netlist.specs.declared.part.Part.TheVariants.{Input, Gate, Flop};
-ghost use Rattle.design.specs.Equations.{equation};
 ghost use Rattle.cmb_channels.specs.declared.message.Message.{Message};
 ghost use Rattle.cmb_channels.specs.declared.message.Message.TheVariants.{Change as Changes, Null};
 ghost use Rattle.gate_process.specs.Knowledge.{Tells, knowledge_of, told_all};
-ghost use Rattle.gate_process.specs.Step.{ProcessState, pin_frontier, seen_by, safe_of, signals_of, frontier_of, next_frontier, advanced, news, heard};
-ghost use Rattle.gate_process.specs.Truth.{KnowsTruth, IsTruthful, HearsTruth, IsProcess, CanHear, GoesOn};
+ghost use Rattle.gate_process.specs.Step.{ProcessState, pin_frontier, signal_so_far, sure_frontier, next_frontier, advanced, news, heard};
+ghost use Rattle.gate_process.specs.Truth.{KnowsTruth, ForTruthful, ForHearers, IsProcess, CanHear, GoesOn};
 
 /// What a process knows stays true if the signals meet its net's equation: after it advances, and after it
 /// receives the first of some messages that are true of a pin's source. The messages that it sends are true,
 /// too.
 pub fn truth_stays()
-    ensures advanced { (signals : ℕ → ℕ → Value) (number : ℕ) (process : ProcessState) →
-        IsTruthful signals number process → KnowsTruth signals number (advanced process) }
-    ensures heard { (signals : ℕ → ℕ → Value) (number place to : ℕ) (process : ProcessState)
-        (message : Message) (rest : List Message) →
-        HearsTruth signals number process place to (message ∷ rest) →
-        KnowsTruth signals number (heard place message process) }
-    ensures news { (signals : ℕ → ℕ → Value) (number : ℕ) (process : ProcessState) →
-        IsTruthful signals number process →
-        Tells (signals number) process.known.frontier (next_frontier process) (news process) }
+    ensures advanced { ForTruthful (λ signals number process. KnowsTruth signals number (advanced process)) }
+    ensures heard { ForHearers (λ signals number process place message.
+        KnowsTruth signals number (heard place message process)) }
+    ensures news { ForTruthful (λ signals number process.
+        Tells (signals number) process.known.frontier (next_frontier process) (news process)) }
 {}
 
 /// How far a process advances: never back, never past the end, and at least as far as its net can be computed
@@ -34,16 +29,15 @@ pub fn truth_stays()
 pub fn lookahead()
     ensures never_back { (process : ProcessState) → IsProcess process → process.known.frontier ≤ next_frontier process }
     ensures within { (process : ProcessState) → next_frontier process ≤ process.end }
-    ensures known_pins { (process : ProcessState) →
-        frontier_of process.net process.end (safe_of process) ≤ next_frontier process }
+    ensures known_pins { (process : ProcessState) → sure_frontier process ≤ next_frontier process }
     ensures others { (process : ProcessState) → (process.net.part ≡ Input) ⊎ (process.net.part ≡ Flop) →
-        next_frontier process ≡ frontier_of process.net process.end (safe_of process) }
-    ensures settled { (process : ProcessState) (tick : ℕ) → process.known.frontier ≤ tick →
-        frontier_of process.net process.end (safe_of process) ≤ tick → tick < next_frontier process →
-        equation process.net (signals_of (seen_by process)) tick ≢ Unknown }
-    ensures stops { (process : ProcessState) (kind : GateKind) → IsProcess process → process.net.part ≡ Gate kind →
-        next_frontier process < process.end →
-        equation process.net (signals_of (seen_by process)) (next_frontier process) ≡ Unknown }
+        next_frontier process ≡ sure_frontier process }
+    ensures settled { (process : ProcessState) (tick : ℕ) →
+        process.known.frontier ≤ tick → sure_frontier process ≤ tick → tick < next_frontier process →
+        signal_so_far process tick ≢ Unknown }
+    ensures stops { (process : ProcessState) (kind : GateKind) →
+        IsProcess process → process.net.part ≡ Gate kind → next_frontier process < process.end →
+        signal_so_far process (next_frontier process) ≡ Unknown }
 {}
 
 /// A pin that knows a signal up to one tick, and receives messages that report it from there up to another,

@@ -1,14 +1,15 @@
 ghost use Rattle.std.specs.Prelude.{◌≡◌, ◌+◌, ◌++◌, ◌<◌, ◌≤◌, nat_lt, true, false, length, slice_get, Some, IfOk, IfSome, OnOk, OnErr};
+ghost use Rattle.std.specs.List.{list_any};
 ghost use Rattle.timing_text.specs.Ranges.{most_ticks};
 ghost use Rattle.cmb_channels.specs.Kinds.{is_change};
-ghost use Rattle.gate_process.specs.Step.{running, started_process, pin_frontier, pin_last, heard, safe_of, next_frontier, advanced, news, drained, drained_changes};
+ghost use Rattle.gate_process.specs.Step.{running, started_process, pin_frontier, pin_last, heard, heard_below, wanted_at, wanted_messages, safe_of, next_frontier, advanced, news, drained, drained_changes};
 ghost use Rattle.gate_process.specs.Quiet.{IsQuiet};
-ghost use Rattle.gate_process.specs.Truth.{IsProcess, CanHear};
+ghost use Rattle.gate_process.specs.Truth.{IsProcess, CanHear, CanHearAll};
 
 use crate::advance::{Span, extend, goes_on, keep_all};
 use crate::own_net::OwnNet;
 use crate::received::{Received, least_frontier, nothing_received};
-use cmb_channels::Message;
+use cmb_channels::{Logged, Message};
 use design::Design;
 use logic3::{Change, Value, Waveform};
 use std::alloc::{AllocError, Global};
@@ -22,8 +23,8 @@ use timing_text::Horizon;
 /// What a pin receives is kept at the source's ticks; the net sees it later, by the delay of the wire to the
 /// pin.
 ///
-/// If [`advance`](Self::advance) runs out of memory, the process has failed, and only
-/// [`is_failed`](Self::is_failed) may be called.
+/// If [`advance`](Self::advance) or [`receive_below`](Self::receive_below) runs out of memory, the process has
+/// failed, and only [`is_failed`](Self::is_failed) may be called.
 #[derive(Debug, Drop)]
 pub struct Process<'d> {
     net: OwnNet<'d>,
@@ -111,6 +112,36 @@ impl<'d> Process<'d> {
         received.hear(message)?;
         received.keep(self.net.oldest_asked(place as usize, self.frontier));
         Ok(())
+    }
+
+    /// Receives the first of some messages at the pin at this place, one after another as
+    /// [`receive`](Self::receive) does, as long as the pin is known to less than a tick. Returns how many.
+    ///
+    /// Null messages take no memory. After an `AllocError` the process has failed.
+    pub fn receive_below(
+        &mut self,
+        place: u32,
+        messages: &[Logged],
+        tick: u64,
+    ) -> Result<usize, AllocError>
+        requires running { self.old.failed ≡ false }
+        requires place { place < length self.old.state.received }
+        requires can_hear { CanHearAll self.old.state place
+            (wanted_messages tick self.old.state place messages.now) }
+        ensures count { IfOk result (λ count. count ≡ wanted_at tick self.old.state place messages.now) }
+        ensures ok { OnOk result (self.new ≡
+            running (heard_below tick place messages.now self.old.state)) }
+        ensures err { OnErr result (self.new.failed ≡ true) }
+        ensures memory { OnErr result
+            (list_any is_change (wanted_messages tick self.old.state place messages.now) ≡ true) }
+    {
+        self.failed = true;
+        let pin = &mut self.received[place as usize];
+        let count = pin.hear_below(messages, tick)?;
+        // Once is enough: what is kept after the last message was kept after each.
+        pin.keep(self.net.oldest_asked(place as usize, self.frontier));
+        self.failed = false;
+        Ok(count)
     }
 
     /// Computes the net as far as its pins allow, and returns the messages: each change, in order, and at the

@@ -1,13 +1,14 @@
 //! The processes of a design.
 ghost use Rattle.std.specs.Prelude.{◌≡◌, ◌+◌, ◌<◌, ◌≤◌, ◌++◌, true, false, length, map, replicate, slice_get, slice_set, Some, IfOk, OnOk, OnErr};
+ghost use Rattle.std.specs.List.{list_any};
 ghost use Rattle.std.specs.Option.{ForSome};
 ghost use Rattle.cmb_channels.specs.Kinds.{is_change};
 ghost use Rattle.design.specs.Design.{IsDesign};
-ghost use Rattle.gate_process.specs.Step.{ProcessView, running, started_process, next_frontier, advanced, news, heard, drained, drained_changes};
-ghost use Rattle.gate_process.specs.Truth.{CanHear};
+ghost use Rattle.gate_process.specs.Step.{ProcessView, running, started_process, next_frontier, advanced, news, heard, heard_below, wanted_at, wanted_messages, drained, drained_changes};
+ghost use Rattle.gate_process.specs.Truth.{CanHear, CanHearAll};
 
 use crate::process::Process;
-use cmb_channels::Message;
+use cmb_channels::{Logged, Message};
 use design::Design;
 use logic3::Change;
 use std::alloc::{AllocError, Global};
@@ -86,6 +87,39 @@ impl<'d> Processes<'d> {
         self.quiet[net as usize] = false;
         self.processes[net as usize].receive(place, message)?;
         Ok(())
+    }
+
+    /// Lets the process of a net receive the first of some messages, as [`Process::receive_below`] does. One
+    /// that receives none stays quiet. After an `AllocError` the process has failed, and the others are
+    /// unchanged.
+    pub fn receive_below(
+        &mut self,
+        net: u32,
+        place: u32,
+        messages: &[Logged],
+        tick: u64,
+    ) -> Result<usize, AllocError>
+        requires net { net < length self.old }
+        requires running { ForSome (slice_get self.old net) (λ (process : ProcessView). process.failed ≡ false) }
+        requires place { ForSome (slice_get self.old net) (λ (process : ProcessView).
+            place < length process.state.received) }
+        requires can_hear { ForSome (slice_get self.old net) (λ (process : ProcessView).
+            CanHearAll process.state place (wanted_messages tick process.state place messages.now)) }
+        ensures count { IfOk result (λ count. ForSome (slice_get self.old net) (λ (process : ProcessView).
+            count ≡ wanted_at tick process.state place messages.now)) }
+        ensures ok { OnOk result (ForSome (slice_get self.old net) (λ (process : ProcessView).
+            self.new ≡ slice_set self.old net
+            (running (heard_below tick place messages.now process.state)))) }
+        ensures err { OnErr result ((process : ProcessView) × (process.failed ≡ true)
+            × (self.new ≡ slice_set self.old net process)) }
+        ensures memory { OnErr result (ForSome (slice_get self.old net) (λ (process : ProcessView).
+            list_any is_change (wanted_messages tick process.state place messages.now) ≡ true)) }
+    {
+        let count = self.processes[net as usize].receive_below(place, messages, tick)?;
+        if count > 0 {
+            self.quiet[net as usize] = false;
+        }
+        Ok(count)
     }
 
     /// Advances the process of a net, as [`Process::advance_into`] does. A quiet one isn't touched, sends

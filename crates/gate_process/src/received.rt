@@ -1,16 +1,17 @@
-ghost use Rattle.std.specs.Prelude.{◌≡◌, true, ◌+◌, ◌<◌, ◌≤◌, length, map, replicate, IfOk, OnOk, OnErr};
+ghost use Rattle.std.specs.Prelude.{◌≡◌, true, ◌+◌, ◌<◌, ◌≤◌, length, map, replicate, take, IfOk, OnOk, OnErr};
+ghost use Rattle.std.specs.List.{list_any};
 ghost use Rattle.logic3.specs.declared.value.Value.TheVariants.{Unknown};
 ghost use Rattle.logic3.specs.Summary.{summary_of};
 ghost use Rattle.logic3.specs.Wave.{IsWave, last_value};
 ghost use Rattle.timing_text.specs.Ranges.{most_delay, most_ticks, HasWires};
 ghost use Rattle.design.specs.Equations.{values_at};
 ghost use Rattle.cmb_channels.specs.Kinds.{is_change};
-ghost use Rattle.gate_process.specs.Knowledge.{Knowledge, seen, seen_pins, as_known, nothing_known, told, kept_since, forgetting, keeping};
+ghost use Rattle.gate_process.specs.Knowledge.{Knowledge, seen, seen_pins, as_known, nothing_known, told, told_all, wanted, ContinueAll, kept_since, forgetting, keeping};
 ghost use Rattle.gate_process.specs.Step.{least_or, signals_of};
 
 use crate::cursor::{Cursor, FEW};
 use crate::kept_changes::{KeptChanges, kept_below, last_kept};
-use cmb_channels::Message;
+use cmb_channels::{Logged, Message};
 use logic3::{Summary, Value};
 use smallvec::SmallVec;
 use std::alloc::{AllocError, Global};
@@ -73,6 +74,26 @@ impl Received {
             Message::Null(bound) => self.frontier = bound,
         }
         Ok(())
+    }
+
+    /// Adds the first of some messages to what is known, one after another as long as less than a tick is
+    /// known, and returns how many. Null messages take no memory. After an `AllocError` some of them are added.
+    pub fn hear_below(&mut self, messages: &[Logged], tick: u64) -> Result<usize, AllocError>
+        requires { ContinueAll (most_ticks + 1) self.old
+            (take (wanted tick self.old.frontier messages.now) messages.now) }
+        ensures count { IfOk result (λ count. count ≡ wanted tick self.old.frontier messages.now) }
+        ensures ok { OnOk result (self.new ≡ told_all self.old
+            (take (wanted tick self.old.frontier messages.now) messages.now)) }
+        ensures memory { OnErr result (list_any is_change
+            (take (wanted tick self.old.frontier messages.now) messages.now) ≡ true) }
+    {
+        for (count, message) in messages.iter().enumerate() {
+            if self.frontier >= tick {
+                return Ok(count);
+            }
+            self.hear(message.message())?;
+        }
+        Ok(messages.len())
     }
 
     /// Forgets the ticks before the oldest that is asked for, but never the last one known.

@@ -1,7 +1,7 @@
 -- A run that is accepted ends complete.
 use Rattle.std.proofs.Common.{◌≡◌, ℕ, ◌+◌, ◌<◌, List, [], length, All, Result, Ok, Err, OnOk, IsOkAnd, refl, ap, subst, ◌∙◌, arith}
 use Rattle.std.proofs.lemmas.List.Elements.{All-nil}
-use Rattle.text_lines.specs.Text.{◌>>=◌}
+use Rattle.texts.specs.Text.{◌>>=◌}
 use Rattle.design.specs.Circuit.{Circuit}
 use Rattle.design.specs.Design.{DesignView, IsDesign}
 use Rattle.design.proofs.CallerLemmas.{IsCircuit-from_IsDesign, length-circuit}

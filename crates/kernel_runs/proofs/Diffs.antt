@@ -4,7 +4,7 @@ use Rattle.std.specs.List.{list_all}
 use Rattle.std.proofs.lemmas.List.{flat_map_more, get_or-map, length-map, map-append, take_more}
 use Rattle.std.proofs.lemmas.List.Elements.{All-head, All-push, All-tail}
 use Rattle.std.proofs.lemmas.List.Folds.{list_all-append}
-use Rattle.text_lines.specs.Text.{◌>>=◌}
+use Rattle.texts.specs.Text.{◌>>=◌}
 use Rattle.logic3.specs.declared.value.Value.{Value}
 use Rattle.logic3.specs.Wave.{Wave, value_at, wave_of}
 use Rattle.logic3.proofs.CallerLemmas.{value_at-wave_of}

@@ -13,5 +13,4 @@ mod Reports
 mod Simulated
 mod Streamed
 mod Streams
-mod Traces
 mod Twins

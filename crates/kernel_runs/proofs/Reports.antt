@@ -1,6 +1,6 @@
 -- The answer to a source by the kernel, step by step.
 use Rattle.std.proofs.Common.{◌≡◌, ℕ, Bool, true, false, cond, IfOk, IsTrue, List, Result, Ok, Err, refl, ap}
-use Rattle.text_lines.specs.Text.{◌>>=◌}
+use Rattle.texts.specs.Text.{◌>>=◌}
 use Rattle.design.specs.Design.{DesignView}
 use Rattle.cmb_events.specs.declared.event.Event.{Event}
 use Rattle.prepared_runs.specs.declared.view.DumpView.{DumpView}

@@ -8,11 +8,12 @@ use Rattle.design.specs.Equations.{value_of}
 use Rattle.vcd_dump.specs.declared.unit.TimeUnit.{TimeUnit}
 use Rattle.vcd_dump.specs.declared.fault.DumpFault.{DumpFault}
 use Rattle.vcd_dump.specs.declared.fault.DumpFault.TheVariants.{Failed}
-use Rattle.vcd_dump.specs.Bytes.{AppendsPrefix}
+use Rattle.texts.specs.Written.{AppendsPrefix}
+use Rattle.texts.proofs.CallerLemmas.{AppendsPrefix-after, AppendsPrefix-longer, AppendsPrefix-whole}
 use Rattle.vcd_dump.specs.Dump.{declarations, dump_text}
 use Rattle.vcd_dump.specs.Spans.{StreamView, last_text, parts_of, span_text, stream_at}
 use Rattle.vcd_dump.specs.Traces.{named}
-use Rattle.vcd_dump.proofs.CallerLemmas.{AppendsPrefix-after, AppendsPrefix-longer, dump_text-nets, span_text-more, AppendsPrefix-whole}
+use Rattle.vcd_dump.proofs.CallerLemmas.{dump_text-nets, span_text-more}
 use Rattle.prepared_runs.specs.declared.fault.SimFault.{SimFault}
 use Rattle.prepared_runs.specs.declared.fault.SimFault.TheVariants.{Dump, Memory}
 use Rattle.kernel_runs.specs.Drained.{values_of}

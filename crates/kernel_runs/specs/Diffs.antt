@@ -1,7 +1,7 @@
 -- Two runs to one horizon, compared net by net.
 use Rattle.std.specs.Prelude.{◌≡◌, ℕ, ◌||◌, ◌↔◌, not, Bool, IsTrue, if◌then◌else◌, List, [], ◌∷◌, ◌++◌, map, filter, flat_map, All, Option, Some, None, is_some, Result, Ok, Err, bytes_eq}
 use Rattle.std.specs.List.{list_all, list_any}
-use Rattle.text_lines.specs.Text.{◌>>=◌}
+use Rattle.texts.specs.Text.{◌>>=◌}
 use Rattle.netlist.specs.Netlist.{NetlistView, name_at, net_named}
 use Rattle.timing_text.specs.Options.{horizon_of}
 use Rattle.design.specs.Equations.{value_of}

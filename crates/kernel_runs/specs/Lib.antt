@@ -1,4 +1,5 @@
 pub mod Alone
+pub mod AnswerText
 pub mod AtEnd
 pub mod Checked
 pub mod Drained
@@ -6,7 +7,6 @@ pub mod Isolation
 pub mod KnownTicks
 pub mod Paces
 pub mod Simulated
-pub mod Traced
 pub mod Windows
 pub mod Diffs
 pub mod Twins

@@ -1,7 +1,7 @@
 -- A run by the kernel: what it reports, and its answer.
 use Rattle.std.specs.Prelude.{◌≡◌, ℕ, ◌+◌, ◌<◌, ◌≤◌, List, [], length, Option, Some, IfSome, Result, IsOkAnd}
 use Rattle.std.specs.Result.{result_map_both}
-use Rattle.text_lines.specs.Text.{◌>>=◌}
+use Rattle.texts.specs.Text.{◌>>=◌}
 use Rattle.design.specs.Circuit.{Circuit}
 use Rattle.cmb_kernel.specs.State.{KernelView, State, fresh, started, frontier_at, least_frontier, most_rounds, IsComplete}
 use Rattle.cmb_kernel.specs.Step.{steps, completed_within}

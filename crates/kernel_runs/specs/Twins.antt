@@ -1,7 +1,7 @@
 -- Two runs to one horizon, and what they show of one net.
 use Rattle.std.specs.Prelude.{◌≡◌, ℕ, ◌+◌, ◌≤◌, ◌↔◌, IsTrue, List, [], ◌∷◌, length, Result, Ok, Err, All}
 use Rattle.logic3.specs.Wave.{wave_of}
-use Rattle.text_lines.specs.Text.{◌>>=◌}
+use Rattle.texts.specs.Text.{◌>>=◌}
 use Rattle.design.specs.Design.{IsDesign}
 use Rattle.design.specs.Equations.{value_of}
 use Rattle.cmb_events.specs.Schedule.{most_events, Exists}

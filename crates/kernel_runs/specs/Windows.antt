@@ -1,11 +1,15 @@
 -- How far past what every net knows a sweep goes.
 use Rattle.std.specs.Prelude.{ℕ, ◌*◌, ◌/◌, nat_lt, if◌then◌else◌, min, max}
 
--- the most changes that a sweep over this number of nets should send
-abbrev pub most_sent : ℕ → ℕ
-most_sent nets = max 57_344 (2 * nets)
+-- the most changes that a sweep over few nets should send
+abbrev pub most_sent_by_few : ℕ
+most_sent_by_few = 57_344
 
--- a window past the longest run
+-- the most changes that a sweep over this number of nets should send: two for each net, if they are many
+abbrev pub most_sent : ℕ → ℕ
+most_sent nets = max most_sent_by_few (2 * nets)
+
+-- the widest window: past the longest run
 abbrev pub widest : ℕ
 widest = 16_777_216
 

@@ -1,5 +1,5 @@
 //! Changes taken out of a run's kernel, below a tick up to which every net is known.
-ghost use Rattle.std.specs.Prelude.{◌≡◌, ◌≢◌, ℕ, ◌<◌, ◌≤◌, [], false, length, map, All, AllPairs, IfErr, OnOk};
+ghost use Rattle.std.specs.Prelude.{◌≡◌, ◌≢◌, ℕ, ◌+◌, ◌<◌, ◌≤◌, [], false, length, map, All, AllPairs, IfErr, OnOk};
 ghost use Rattle.logic3.specs.Wave.{changes_between};
 ghost use Rattle.design.specs.Equations.{value_of};
 ghost use Rattle.cmb_kernel.specs.State.{floor_at, least_frontier};
@@ -28,6 +28,7 @@ pub(crate) fn give_parts(
     requires once { AllPairs (λ (earlier later : ℕ). earlier ≢ later) nets.now }
     requires floors { EachFloor kernel.old (λ floor. floor ≤ bound) }
     requires known { bound ≤ least_frontier kernel.old.end kernel.old.state }
+    requires end { bound ≤ stream.old.horizon + 1 }
     requires streams { stream.old.failed ≡ false }
     requires each { length nets.now ≡ stream.old.nets }
     requires none_yet { with_parts stream.old [] ≡ stream.old }

@@ -2,6 +2,7 @@
 #![tactic(auto)]
 
 mod alone;
+mod answer_text;
 mod check_run;
 mod diff_fault;
 mod diff_names;
@@ -16,15 +17,14 @@ mod simulation;
 mod streaming;
 mod sweep_run;
 mod sweeps;
-mod trace_run;
 mod twin_run;
 mod windows;
 
+pub use answer_text::{check_text, twin_text};
 pub use check_run::{CheckAnswer, check};
 pub use diff_fault::DiffFault;
 pub use diff_run::{DiffAnswer, diff};
-pub use simulation::{Report, RunKernel, simulate, simulate_with_progress};
-pub use sweep_run::{complete, sweep, sweep_with_progress};
-pub use trace_run::trace;
+pub use simulation::{Report, simulate, simulate_with_progress};
+pub use sweep_run::{sweep, sweep_with_progress};
 pub use twin_run::{TwinAnswer, TwinFault, twin};
 pub use wave_diff::{DiffTicks, Side};

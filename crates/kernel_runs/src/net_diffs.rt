@@ -7,8 +7,9 @@ ghost use Rattle.kernel_runs.specs.AtEnd.{IsAtEnd};
 ghost use Rattle.kernel_runs.specs.Twins.{CanCompare};
 
 use crate::diff_run::DiffAnswer;
+use crate::simulation::RunKernel;
+use crate::sweep_run::complete;
 use crate::twin_run::is_agreed;
-use crate::{RunKernel, complete};
 use prepared_runs::{PreparedRun, SimFault};
 use std::alloc::Global;
 use wave_diff::{Compared, Comparison, Side, first_difference, push_line};

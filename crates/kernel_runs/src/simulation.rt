@@ -25,7 +25,7 @@ use std::io::Write;
 use vcd_dump::TimeUnit;
 
 /// The kernel of every run, and the channels that its messages go through.
-pub type RunKernel<'r> = Kernel<'r, Logs>;
+pub(crate) type RunKernel<'r> = Kernel<'r, Logs>;
 
 /// How much happened in a run.
 #[derive(Clone, Copy, Debug, PartialEq, Eq)]

@@ -133,7 +133,7 @@ fn dump_by_sweeps<W: Write, P: Progress>(
 ///
 /// # Errors
 /// [`SimFault::Memory`] only: a prepared run can't cause the kernel's other faults.
-pub fn complete<'r>(alloc: Global, run: &'r PreparedRun) -> Result<RunKernel<'r>, SimFault>
+pub(crate) fn complete<'r>(alloc: Global, run: &'r PreparedRun) -> Result<RunKernel<'r>, SimFault>
     requires exist { All (Exists run.now.design.circuit) run.now.schedule }
     requires few { length run.now.schedule ≤ most_events }
     ensures ok { IfOk result (IsAtEnd run.now) }

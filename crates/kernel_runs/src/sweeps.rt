@@ -134,7 +134,7 @@ fn sweep_once(kernel: &mut RunKernel<'_>, nets: &[u32], tick: u64) -> Result<(),
     prove!(!kernel.is_failed());
     // A sweep consists only of events.
     laws::sweeps();
-    match kernel.sweep(nets, tick) {
+    match kernel.sweep_at_once(nets, tick) {
         Ok(()) => Ok(()),
         Err(_) => Err(AllocError),
     }

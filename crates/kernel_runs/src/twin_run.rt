@@ -11,7 +11,7 @@ ghost use Rattle.kernel_runs.specs.Simulated.{EndsComplete};
 ghost use Rattle.kernel_runs.specs.Twins.{CanCompare, IsComparison, IsTwinRefusal, twins_in, twins_of};
 ghost use Rattle.prepared_runs.specs.declared.fault.SimFault.TheVariants.{Memory};
 
-use crate::complete;
+use crate::sweep_run::complete;
 use fanin_cone::agree;
 use logic3::Waveform;
 use prepared_runs::{PreparedRun, SimFault, Source, net_named, prepare_run};

@@ -9,7 +9,7 @@ ghost use Rattle.kernel_runs.specs.Windows.{most_sent, next_width};
 pub(crate) const FIRST_WIDTH: u64 = 64;
 
 /// The most changes that a sweep over few nets should send.
-const MOST_SENT: u64 = 57_344;
+const MOST_SENT_BY_FEW: u64 = 57_344;
 
 /// The greatest width: longer than the longest run.
 const WIDEST: u64 = 16_777_216;
@@ -19,7 +19,7 @@ const WIDEST: u64 = 16_777_216;
 pub(crate) fn most_sent(nets: u32) -> u64
     ensures { result ≡ most_sent nets }
 {
-    MOST_SENT.max(2 * u64::from(nets))
+    MOST_SENT_BY_FEW.max(2 * u64::from(nets))
 }
 
 /// Returns the tick up to which the next sweep goes, given the number of ticks known of every net.

@@ -9,10 +9,10 @@ use bench_text::{BenchFault, read};
 use cmb_channels::Logs;
 use cmb_kernel::{Kernel, KernelFault};
 use design::{BuildFault, Design};
-use itoa::Buffer;
 use logic3::Change;
 use netlist::{Netlist, Part};
 use std::alloc::{AllocError, Global};
+use texts::push_number;
 use thiserror::Error;
 use timing_text::{Horizon, OptionFault};
 
@@ -172,8 +172,7 @@ fn is_input(netlist: &Netlist, name: &[u8]) -> bool {
 /// Adds a line for each change of a net.
 fn push_changes(text: &mut Vec<u8>, name: &[u8], changes: &[Change]) -> Result<(), AllocError> {
     for change in changes {
-        let mut buffer = Buffer::new();
-        text.extend_from_slice(buffer.format(change.tick).as_bytes())?;
+        push_number(text, change.tick)?;
         text.extend_from_slice(b" ")?;
         text.extend_from_slice(name)?;
         text.extend_from_slice(b" ")?;

@@ -4,9 +4,10 @@ use Rattle.std.specs.List.{filter, prefix_len}
 use Rattle.std.specs.List.Sorted.{IsPartitionPoint}
 use Rattle.std.proofs.lemmas.Bool.{le-leb, lt-leb, lt-ltb, le-ltb, cases_lt}
 use Rattle.std.proofs.lemmas.List.Elements.{All-head, All-tail, filter-append}
+use Rattle.std.proofs.lemmas.List.Sums.{count_by-le-length, length-filter}
 use Rattle.logic3.specs.declared.value.Value.{Value}
 use Rattle.logic3.specs.declared.change.Change.{Change}
-use Rattle.logic3.specs.Wave.{value_before, value_in_the_end, changes_between, changes_below, without_below, wave_of, Alternates}
+use Rattle.logic3.specs.Wave.{value_before, value_in_the_end, changes_between, changes_below, changes_from, changes_within, without_below, wave_of, Alternates}
 use Rattle.logic3.proofs.Waves.{changes_between-split, all_from, last_value-wave_of}
 
 -- ---- what passes a test, and what fails it
@@ -43,7 +44,7 @@ none_early before low tick (first ∷ changes) h rise =
     rw (le-ltb first.tick tick (omega (arith, rise.0))) (none_early first.value (first.tick + 1) tick changes (omega (arith, rise.0)) rise.2)
 
 all_stay : (before : Value) (low tick : ℕ) (changes : List Change) → tick ≤ low → Alternates before low changes →
-    filter (λ (change : Change). nat_le tick change.tick) changes ≡ changes
+    changes_from tick changes ≡ changes
 all_stay before low tick [] h rise = refl
 all_stay before low tick (first ∷ changes) h rise =
     rw (le-leb tick first.tick (omega (arith, rise.0)))
@@ -63,18 +64,36 @@ first_below before low tick (first ∷ changes) rise =
         rw (le-ltb first.tick tick late) (sym (none_early first.value (first.tick + 1) tick changes (omega (arith, late)) rise.2))
 
 pub rest_behind : (before : Value) (low tick : ℕ) (changes : List Change) → Alternates before low changes →
-    drop (due_below tick changes) changes ≡ filter (λ (change : Change). nat_le tick change.tick) changes
+    drop (due_below tick changes) changes ≡ changes_from tick changes
 rest_behind before low tick [] rise = refl
 rest_behind before low tick (first ∷ changes) rise =
     go (cases_lt first.tick tick) (rest_behind first.value (first.tick + 1) tick changes rise.2)
   where
     go : (first.tick < tick) ⊎ (tick ≤ first.tick) →
-        drop (due_below tick changes) changes ≡ filter (λ (change : Change). nat_le tick change.tick) changes →
-        drop (due_below tick (first ∷ changes)) (first ∷ changes) ≡ filter (λ (change : Change). nat_le tick change.tick) (first ∷ changes)
+        drop (due_below tick changes) changes ≡ changes_from tick changes →
+        drop (due_below tick (first ∷ changes)) (first ∷ changes) ≡ changes_from tick (first ∷ changes)
     go (inl early) rest = rw (lt-ltb first.tick tick early, lt-leb tick first.tick early, one-add (due_below tick changes)) rest
     go (inr late) rest =
         rw (le-ltb first.tick tick late, le-leb tick first.tick late)
         (ap (λ cs. first ∷ cs) (sym (all_stay first.value (first.tick + 1) tick changes (omega (arith, late)) rise.2)))
+
+-- as many are dropped as are before the tick
+pub rest_from : (before : Value) (low tick : ℕ) (changes : List Change) → Alternates before low changes →
+    drop (length (changes_below tick changes)) changes ≡ changes_from tick changes
+rest_from before low tick [] rise = refl
+rest_from before low tick (first ∷ changes) rise =
+    go (cases_lt first.tick tick) (rest_from first.value (first.tick + 1) tick changes rise.2)
+  where
+    go : (first.tick < tick) ⊎ (tick ≤ first.tick) → drop (length (changes_below tick changes)) changes ≡ changes_from tick changes →
+        drop (length (changes_below tick (first ∷ changes))) (first ∷ changes) ≡ changes_from tick (first ∷ changes)
+    go (inl early) rest = rw (lt-ltb first.tick tick early, lt-leb tick first.tick early) rest
+    go (inr late) rest =
+        rw (le-ltb first.tick tick late, le-leb tick first.tick late, none_early first.value (first.tick + 1) tick changes (omega (arith, late)) rise.2)
+        (ap (λ cs. first ∷ cs) (sym (all_stay first.value (first.tick + 1) tick changes (omega (arith, late)) rise.2)))
+
+-- those that pass a test are at most as many as all
+pub length-filter_le : {A : Type 0} (test : A → Bool) (xs : List A) → length (filter test xs) ≤ length xs
+length-filter_le test xs = rw (length-filter test xs) (count_by-le-length test xs)
 
 -- changes that alternate from a tick on do so from an earlier one on
 Alternates-earlier : (before : Value) (low lower : ℕ) (changes : List Change) → lower ≤ low → Alternates before low changes → Alternates before lower changes
@@ -104,13 +123,13 @@ none_below signal from to mid h =
     (all_from (λ (change : Change). nat_lt change.tick mid ≡ false) signal from (to - from) (λ tick a b differs. le-ltb tick mid (omega arith)))
 
 all_late : (signal : ℕ → Value) (from to mid : ℕ) → mid ≤ from →
-    filter (λ (change : Change). nat_le mid change.tick) (changes_between signal from to) ≡ changes_between signal from to
+    changes_from mid (changes_between signal from to) ≡ changes_between signal from to
 all_late signal from to mid h =
     filter-all (λ (change : Change). nat_le mid change.tick) (changes_between signal from to)
     (all_from (λ (change : Change). nat_le mid change.tick ≡ true) signal from (to - from) (λ tick a b differs. le-leb mid tick (omega arith)))
 
 none_late : (signal : ℕ → Value) (from to mid : ℕ) → to ≤ mid →
-    filter (λ (change : Change). nat_le mid change.tick) (changes_between signal from to) ≡ []
+    changes_from mid (changes_between signal from to) ≡ []
 none_late signal from to mid h =
     filter-none (λ (change : Change). nat_le mid change.tick) (changes_between signal from to)
     (all_from (λ (change : Change). nat_le mid change.tick ≡ false) signal from (to - from) (λ tick a b differs. lt-leb mid tick (omega arith)))
@@ -133,14 +152,26 @@ changes_below-between signal from to mid h = go (cases_lt mid from)
         ∙ ap (λ cs. changes_between signal from mid ++ cs) (none_below signal mid to mid (omega arith))
         ∙ append-nil (changes_between signal from mid)
 
+-- those from a tick on are the changes from there up to the end
+pub changes_from-between : (signal : ℕ → Value) (from to mid : ℕ) → from ≤ mid → mid ≤ to →
+    changes_from mid (changes_between signal from to) ≡ changes_between signal mid to
+changes_from-between signal from to mid late h =
+    ap (changes_from mid) (changes_between-split signal from mid to late h)
+    ∙ filter-append (λ (change : Change). nat_le mid change.tick) (changes_between signal from mid) (changes_between signal mid to)
+    ∙ ap (λ cs. cs ++ changes_from mid (changes_between signal mid to)) (none_late signal from mid mid (omega arith))
+    ∙ all_late signal mid to mid (omega arith)
+
+-- and those within a smaller span are the changes of that
+pub changes_within-between : (signal : ℕ → Value) (low known from to : ℕ) → low ≤ from → from ≤ to → to ≤ known →
+    changes_within from to (changes_between signal low known) ≡ changes_between signal from to
+changes_within-between signal low known from to begin ordered end =
+    ap (changes_below to) (changes_from-between signal low known from begin (omega arith)) ∙ changes_below-between signal from known to end
+
 -- a signal's waveform without its changes before a tick is that from the tick on
 pub without_below-wave_of : (signal : ℕ → Value) (from to mid : ℕ) → mid ≤ to →
     without_below mid (wave_of signal from to) ≡ wave_of signal (max from mid) to
 without_below-wave_of signal from to mid h = go (cases_lt mid from)
   where
-    later : ℕ → List Change
-    later start = filter (λ (change : Change). nat_le mid change.tick) (changes_between signal start to)
-
     go : (mid < from) ⊎ (from ≤ mid) → without_below mid (wave_of signal from to) ≡ wave_of signal (max from mid) to
     go (inl early) =
         let same : max from mid ≡ from = omega arith in
@@ -151,8 +182,5 @@ without_below-wave_of signal from to mid h = go (cases_lt mid from)
         let same : max from mid ≡ mid = omega arith in
         let before = ap (value_in_the_end (value_before signal from)) (changes_below-between signal from to mid h)
         ∙ last_value-wave_of signal from mid late in
-        let changes = ap (filter (λ (change : Change). nat_le mid change.tick)) (changes_between-split signal from mid to late h)
-        ∙ filter-append (λ (change : Change). nat_le mid change.tick) (changes_between signal from mid) (changes_between signal mid to)
-        ∙ ap (λ cs. cs ++ later mid) (none_late signal from mid mid (omega arith))
-        ∙ all_late signal mid to mid (omega arith) in
+        let changes = changes_from-between signal from to mid late h in
         (λ i. record { before = before i; changes = changes i }) ∙ ap (λ n. wave_of signal n to) (sym same)

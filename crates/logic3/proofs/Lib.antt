@@ -2,6 +2,7 @@ pub mod CallerLemmas
 mod Cuts
 mod Equal
 mod GateLemmas
+mod NextChange
 mod Results
 mod Rising
 mod Shown

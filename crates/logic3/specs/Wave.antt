@@ -1,4 +1,4 @@
-use Rattle.std.specs.Prelude.{◌≢◌, ℕ, zero, suc, ◌+◌, ◌-◌, ◌≤◌, nat_le, ◌==◌, nat_lt, Bool, if◌then◌else◌, List, [], ◌∷◌, ◌++◌, flat_map, filter}
+use Rattle.std.specs.Prelude.{◌≡◌, ◌≢◌, ℕ, zero, suc, ◌+◌, ◌-◌, ◌<◌, ◌≤◌, nat_le, ◌==◌, nat_lt, Bool, if◌then◌else◌, List, [], ◌∷◌, ◌++◌, flat_map, filter, Option, None, Some}
 use Rattle.std.specs.List.{range_with_len}
 use Rattle.std.specs.Ordering.{on, eq_of_both}
 use Rattle.std.specs.Cmp.{IsEquivalence, and_equiv, on_equiv, nat_eq_equiv}
@@ -38,17 +38,41 @@ joined wave changes = record wave { changes = wave.changes ++ changes }
 abbrev pub changes_below : ℕ → List Change → List Change
 changes_below tick changes = filter (λ (change : Change). nat_lt change.tick tick) changes
 
+-- the changes that are not after a tick
+abbrev pub changes_until : ℕ → List Change → List Change
+changes_until tick changes = filter (λ (change : Change). nat_le change.tick tick) changes
+
+-- the changes from a tick on
+abbrev pub changes_from : ℕ → List Change → List Change
+changes_from tick changes = filter (λ (change : Change). nat_le tick change.tick) changes
+
+-- the changes from one tick up to but not including another
+abbrev pub changes_within : ℕ → ℕ → List Change → List Change
+changes_within from to changes = changes_below to (changes_from from changes)
+
 -- a waveform without its changes before a tick: the last of them, if any, gives the value before the others
 abbrev pub without_below : ℕ → Wave → Wave
 without_below tick wave = record {
   before = value_in_the_end wave.before (changes_below tick wave.changes);
-  changes = filter (λ (change : Change). nat_le tick change.tick) wave.changes;
+  changes = changes_from tick wave.changes;
 }
+
+-- the tick is before the optional one; true if there is none
+abbrev pub IsBefore : ℕ → Option ℕ → Type 0
+IsBefore tick None = Unit {0}
+IsBefore tick (Some end) = tick < end
 
 -- the value one tick earlier; before tick 0 it is X
 abbrev pub value_before : (ℕ → Value) → ℕ → Value
 value_before signal zero = Unknown
 value_before signal (suc tick) = signal tick
+
+-- a change of a signal, at a tick from one up to but not including another
+pub record IsChangeOf (signal : ℕ → Value) (from to : ℕ) (change : Change) : Type 0 where
+  pub from_start : from ≤ change.tick
+  pub before_end : change.tick < to
+  pub shown : signal change.tick ≡ change.value
+  pub differs : value_before signal change.tick ≢ change.value
 
 -- the change at a tick, if any
 abbrev pub change_at : (ℕ → Value) → ℕ → List Change

@@ -2,7 +2,7 @@ ghost use Rattle.std.specs.Prelude.{◌≡◌, ◌≤◌, length, nat_lt};
 ghost use Rattle.std.specs.List.{prefix_len};
 ghost use Rattle.logic3.specs.declared.change.Change.{Change};
 ghost use Rattle.logic3.specs.Rising.{TicksRise};
-ghost use Rattle.logic3.specs.Wave.{value_after};
+ghost use Rattle.logic3.specs.Wave.{changes_below, changes_until, value_after};
 
 use crate::value::Value;
 
@@ -13,6 +13,28 @@ pub struct Change {
     pub value: Value,
 }
 
+/// Returns the changes that are not after a tick.
+///
+/// Takes logarithmic time.
+pub fn changes_until(changes: &[Change], tick: u64) -> &[Change]
+    requires { TicksRise changes.now }
+    ensures { result.now ≡ changes_until tick changes.now }
+{
+    let due = changes.partition_point(|change| change.tick <= tick);
+    &changes[..due]
+}
+
+/// Returns the changes before a tick.
+///
+/// Takes logarithmic time.
+pub fn changes_below(changes: &[Change], tick: u64) -> &[Change]
+    requires { TicksRise changes.now }
+    ensures { result.now ≡ changes_below tick changes.now }
+{
+    let early = changes.partition_point(|change| change.tick < tick);
+    &changes[..early]
+}
+
 /// Returns the value of the last change that is not after the tick, else `before`.
 ///
 /// Takes logarithmic time.
@@ -20,8 +42,9 @@ pub fn value_after(before: Value, changes: &[Change], tick: u64) -> Value
     requires { TicksRise changes.now }
     ensures { result ≡ value_after before changes.now tick }
 {
-    let due = changes.partition_point(|change| change.tick <= tick);
-    changes[..due].last().map_or(before, |change| change.value)
+    changes_until(changes, tick)
+        .last()
+        .map_or(before, |change| change.value)
 }
 
 /// Returns the number of changes at the front that are before a tick. Takes a step for each of them.

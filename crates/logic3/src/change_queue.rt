@@ -4,12 +4,10 @@ use crate::change::Change;
 use std::alloc::{AllocError, Global};
 use std::marker::Model;
 
-/// The number of changes for which an empty queue may keep memory.
-const FEW: usize = 8;
-
 /// A list of changes that grows at the end and is dropped from the front.
 ///
-/// Both operations take amortized constant time, and the memory is in proportion to the changes kept.
+/// Both operations take amortized constant time. Memory is kept for the next changes, so it is in
+/// proportion to the most changes that the queue had at a time.
 #[derive(Debug, Drop)]
 pub struct ChangeQueue {
     changes: Vec<Change>,
@@ -62,7 +60,7 @@ impl ChangeQueue {
         Ok(())
     }
 
-    /// Drops the first `count` changes. If few of many are left, it gives memory back.
+    /// Drops the first `count` changes. Frees no memory.
     pub fn drop_front(&mut self, count: usize)
         requires { count ≤ length self.old }
         ensures { self.new ≡ drop count self.old }
@@ -71,22 +69,10 @@ impl ChangeQueue {
         if self.start == self.changes.len() {
             self.changes.clear();
             self.start = 0;
-            self.give_back();
         } else if self.start > self.changes.len() / 2 {
             self.changes.rotate_left(self.start);
             self.changes.truncate(self.changes.len() - self.start);
             self.start = 0;
-            self.give_back();
-        }
-    }
-
-    /// Gives memory back if it is for more than a few changes and less than a quarter of it is used.
-    fn give_back(&mut self)
-        ensures { self.new ≡ self.old }
-    {
-        let used = self.changes.len();
-        if used < self.changes.capacity() / 4 {
-            self.changes.shrink_to(FEW.max(2 * used));
         }
     }
 

@@ -2,10 +2,11 @@
 ghost use Rattle.std.specs.Prelude.{◌≡◌, ◌≢◌, ◌↔◌, ℕ, ◌+◌, ◌<◌, ◌≤◌, List, length, All, Contains, Some, slice_get, slice_set};
 ghost use Rattle.logic3.specs.declared.value.Value.{Value};
 ghost use Rattle.logic3.specs.declared.value.Value.TheVariants.{Unknown};
+ghost use Rattle.logic3.specs.declared.change.Change.{Change};
 ghost use Rattle.logic3.specs.declared.gates.GateKind.{GateKind};
 ghost use Rattle.logic3.specs.Gate.{HasArity, Refines, value_of_gate};
 ghost use Rattle.logic3.specs.Rising.{TicksRise};
-ghost use Rattle.logic3.specs.Wave.{IsWave, joined, value_at, value_before, wave_of};
+ghost use Rattle.logic3.specs.Wave.{IsChangeOf, IsWave, joined, value_at, wave_of};
 
 /// If all pins are X, every gate gives X.
 pub fn unknown_pins()
@@ -27,9 +28,8 @@ pub fn known_answer_stays()
 /// The waveform of a signal has a change at exactly those ticks of its span at which the signal
 /// differs from its value one tick earlier, and its ticks rise strictly.
 pub fn changes_of_a_signal()
-    ensures changes { (signal : ℕ → Value) (from to tick : ℕ) (value : Value) →
-        Contains (wave_of signal from to).changes (record { tick = tick; value = value })
-        ↔ ((from ≤ tick) × (tick < to) × (signal tick ≡ value) × (value_before signal tick ≢ value)) }
+    ensures changes { (signal : ℕ → Value) (from to : ℕ) (change : Change) →
+        Contains (wave_of signal from to).changes change ↔ IsChangeOf signal from to change }
     ensures rise { (signal : ℕ → Value) (from to : ℕ) → TicksRise (wave_of signal from to).changes }
     ensures is_wave { (signal : ℕ → Value) (from to : ℕ) → IsWave (wave_of signal from to) }
 {}

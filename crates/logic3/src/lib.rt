@@ -9,7 +9,7 @@ mod summary;
 mod value;
 mod waveform;
 
-pub use change::{Change, due_below, value_after};
+pub use change::{Change, changes_until, value_after};
 pub use change_queue::ChangeQueue;
 pub use gates::{GateKind, gate};
 pub use summary::Summary;

@@ -1,7 +1,7 @@
-ghost use Rattle.std.specs.Prelude.{◌≡◌, ◌≢◌, ◌+◌, ◌<◌, ◌↔◌, [], ◌∷◌, ◌++◌, All, length, IsTrue, IfOk, OnOk, OnErr};
+ghost use Rattle.std.specs.Prelude.{◌≡◌, ◌≢◌, ℕ, ◌+◌, ◌<◌, ◌≤◌, ◌↔◌, [], ◌∷◌, ◌++◌, All, length, Some, IsTrue, IfOk, OnOk, OnErr};
 ghost use Rattle.logic3.specs.declared.value.Value.TheVariants.{Unknown};
 
-use crate::change::{Change, due_below, value_after};
+use crate::change::{Change, changes_below, changes_until, due_below, value_after};
 use crate::change_queue::ChangeQueue;
 use crate::value::Value;
 use std::alloc::{AllocError, Global};
@@ -25,7 +25,7 @@ impl Model for Waveform {
 }
 
 impl Waveform {
-    ghost use Rattle.logic3.specs.Wave.{value_at, last_value, joined, changes_below, without_below, IsWave};
+    ghost use Rattle.logic3.specs.Wave.{value_at, last_value, joined, changes_below, changes_within, without_below, IsBefore, IsWave};
 
     /// Makes a waveform that is X at every tick.
     pub fn new(alloc: Global) -> Self
@@ -61,6 +61,30 @@ impl Waveform {
         ensures { result ≡ value_at self.now tick }
     {
         value_after(self.before, self.changes.as_slice(), tick)
+    }
+
+    /// Returns the changes from one tick up to but not including another.
+    ///
+    /// Takes logarithmic time.
+    pub fn changes_within(&self, from: u64, to: u64) -> &[Change]
+        ensures { result.now ≡ changes_within from to self.now.changes }
+    {
+        let changes = self.changes.as_slice();
+        let early = changes_below(changes, from).len();
+        changes_below(&changes[early..], to)
+    }
+
+    /// Returns the first tick after this one at which the waveform shows another value, if any.
+    ///
+    /// Takes logarithmic time.
+    pub fn next_change_after(&self, tick: u64) -> Option<u64>
+        ensures later { (at : ℕ) → result ≡ Some at → tick < at }
+        ensures differs { (at : ℕ) → result ≡ Some at → value_at self.now at ≢ value_at self.now tick }
+        ensures steady { (at : ℕ) → tick ≤ at → IsBefore at result → value_at self.now at ≡ value_at self.now tick }
+    {
+        let changes = self.changes.as_slice();
+        let due = changes_until(changes, tick).len();
+        changes[due..].first().map(|next| next.tick)
     }
 
     /// Returns the value of the last change, or the value before the first if there is none.

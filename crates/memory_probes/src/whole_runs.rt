@@ -4,14 +4,12 @@ use circuit_info::info;
 use engine_probes::{Follower, Teller};
 use fanin_cone::cone_text;
 use kernel_runs::{
-    DiffTicks, check, diff, simulate, simulate_with_progress, sweep, sweep_with_progress, twin,
+    DiffTicks, check, check_text, diff, simulate, simulate_with_progress, sweep,
+    sweep_with_progress, twin, twin_text,
 };
 use plain_runs::{notes_text, plain, plain_with_progress};
 use prepared_runs::{DumpView, Percents, Picks, Selection, Show, Silent, Source, View};
-use program_io::{
-    answer_deck, deck, read_text, tell, write_check, write_cone, write_diff, write_info,
-    write_plain, write_run, write_twin,
-};
+use program_io::{answer_deck, deck, read_text, tell};
 use std::alloc::{AllocError, Global};
 use std::io::Write;
 use vcd_dump::TimeUnit;
@@ -103,7 +101,6 @@ pub(crate) fn probe<W: Write>(alloc: Global, teller: &mut Teller<W>) -> Option<(
             unit: TimeUnit::Ns,
         };
         dumps(alloc, teller, source, &view, dump)?;
-        written_dumps(alloc, teller, source, &DumpView::of(&view), dump)?;
     }
     for (source, horizon, dump) in &INPUT_RUNS {
         let view = DumpView {
@@ -112,11 +109,9 @@ pub(crate) fn probe<W: Write>(alloc: Global, teller: &mut Teller<W>) -> Option<(
             unit: TimeUnit::Ns,
         };
         named_dumps(alloc, teller, source, &view, dump)?;
-        written_dumps(alloc, teller, source, &view, dump)?;
     }
     progress(alloc, teller)?;
     comparisons(alloc, teller)?;
-    written_comparisons(alloc, teller)?;
     decks(alloc, teller)?;
     readings(alloc, teller)
 }
@@ -204,27 +199,16 @@ fn progress<W: Write>(alloc: Global, teller: &mut Teller<W>) -> Option<()> {
     }
 }
 
-fn written_dumps<W: Write>(
-    alloc: Global,
-    teller: &mut Teller<W>,
-    source: &Source<'_>,
-    view: &DumpView<'_>,
-    dump: &'static [u8],
-) -> Option<()> {
-    for counts in [false, true] {
-        let mut out = Follower::of(dump);
-        let answer = write_run(alloc, source, view, counts, &mut out, &mut Silent);
-        ended(teller, "write_run", answer, &out)?;
-    }
-    let mut out = Follower::of(dump);
-    let answer = write_plain(alloc, source, view, &mut out, &mut Silent);
-    ended(teller, "write_plain", answer, &out)
-}
-
 fn comparisons<W: Write>(alloc: Global, teller: &mut Teller<W>) -> Option<()> {
     let answer = twin(alloc, &OSCILLATOR, &OSCILLATOR, b"y", 12);
-    reported(teller, "kernel_runs::twin", answer)?;
-    reported(teller, "kernel_runs::check", check(alloc, &OSCILLATOR, 12))?;
+    let twins = reported(teller, "kernel_runs::twin", answer)?;
+    reported(teller, "kernel_runs::twin_text", twin_text(alloc, &twins))?;
+    let checked = reported(teller, "kernel_runs::check", check(alloc, &OSCILLATOR, 12))?;
+    reported(
+        teller,
+        "kernel_runs::check_text",
+        check_text(alloc, &checked),
+    )?;
     let text = cone_text(alloc, OSCILLATOR.bench, &[b"y".as_slice()]);
     reported(teller, "fanin_cone::cone_text", text)?;
     reported(teller, "circuit_info::info", info(alloc, OSCILLATOR.bench))?;
@@ -236,25 +220,6 @@ fn comparisons<W: Write>(alloc: Global, teller: &mut Teller<W>) -> Option<()> {
         notes_text(alloc, &OSCILLATOR, 12),
     )?;
     Some(())
-}
-
-fn written_comparisons<W: Write>(alloc: Global, teller: &mut Teller<W>) -> Option<()> {
-    let mut out = Follower::of(CONE);
-    let answer = write_cone(alloc, OSCILLATOR.bench, &[b"y".as_slice()], &mut out);
-    ended(teller, "write_cone", answer, &out)?;
-    let mut out = Follower::of(INFO);
-    let answer = write_info(alloc, OSCILLATOR.bench, &mut out);
-    ended(teller, "write_info", answer, &out)?;
-    let mut out = Follower::of(NO_DIFFERENCE);
-    let names = [b"y".as_slice(), b"e".as_slice()];
-    let answer = write_diff(alloc, &OSCILLATOR, &OSCILLATOR, &names, COUNTING, &mut out);
-    ended(teller, "write_diff", answer, &out)?;
-    let mut out = Follower::of(TWINS);
-    let answer = write_twin(alloc, &OSCILLATOR, &OSCILLATOR, b"y", 12, &mut out);
-    ended(teller, "write_twin", answer, &out)?;
-    let mut out = Follower::of(SAME);
-    let answer = write_check(alloc, &OSCILLATOR, 12, &mut out);
-    ended(teller, "write_check", answer, &out)
 }
 
 fn decks<W: Write>(alloc: Global, teller: &mut Teller<W>) -> Option<()> {

@@ -1,7 +1,9 @@
 mod AllPins
 mod Among
+mod Behind
 pub mod CallerLemmas
 mod Distinct
+mod Gates
 mod Joined
 mod Marks
 mod Named
@@ -11,3 +13,6 @@ mod Picked
 mod Places
 mod Rising
 mod Sums
+mod Times
+mod WalkEnds
+mod Walking

@@ -10,7 +10,7 @@ use Rattle.netlist.specs.declared.netlist.Net.{Net}
 use Rattle.netlist.specs.declared.part.Part.TheVariants.{Input}
 use Rattle.netlist.specs.Part.{takes_pins}
 use Rattle.netlist.specs.Name.{IsName}
-use Rattle.netlist.specs.Netlist.{NetView, NetlistView, IsNetlist, net_at, pin_count, name_at}
+use Rattle.netlist.specs.Netlist.{NetView, NetlistView, IsNetlist, most_nets, net_at, pin_count, name_at}
 use Rattle.netlist.specs.Pick.{place_in, picked, picked_net, picked_wiring}
 use Rattle.netlist.specs.Joined.{netlist_view, seen_net}
 use Rattle.netlist.proofs.Among.{list_any-place, bytes_eq-other}
@@ -30,7 +30,7 @@ netlist_view-picked netlist keep outputs names nets size before places names-are
     ∙ (λ i. record { nets = named_nets-wired (name_at netlist) (picked_wiring netlist keep) keep nets nets-are i; outputs = written i })
 
 module _ (netlist : NetlistView) (known : IsNetlist netlist) (keep : List ℕ) (rising : Rises keep) (below : All (λ number. number < length netlist.nets) keep) where
-  pub length-keep : length keep ≤ 100_000
+  pub length-keep : length keep ≤ most_nets
   length-keep = omega (arith, length-rising keep (length netlist.nets) rising below, known.net_limit)
 
   names-differ : (i j : ℕ) → i < j → j < length keep → name_at netlist (get_or keep i 0) ≢ name_at netlist (get_or keep j 0)

@@ -8,4 +8,6 @@ pub mod Joined
 pub mod Pick
 pub mod Repeats
 pub mod Marks
+pub mod Flow
+pub mod Walk
 pub mod Text

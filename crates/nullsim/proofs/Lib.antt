@@ -1,4 +1,4 @@
-mod CountsLine
+mod Answering
 mod Firsts
 mod Noting
 mod Written

@@ -6,7 +6,9 @@ use Rattle.program_io.specs.Answers.{GoesOut}
 use Rattle.command_line.specs.declared.order.Order.{Order}
 use Rattle.program_io.specs.declared.order_texts.OrderTexts.{OrderTexts}
 use Rattle.program_io.specs.OrderAnswer.{IsAnswerTo}
-use Rattle.nullsim.specs.Command.{Streams, outcome_text, status_of_outcome}
+use Rattle.program_io.specs.Report.{outcome_text}
+use Rattle.program_io.specs.Status.{status_of_outcome}
+use Rattle.nullsim.specs.Command.{Streams}
 use Rattle.nullsim.specs.Noted.{AnswerNoted, order_notes}
 use Rattle.nullsim.specs.Parts.{AreWritten}
 

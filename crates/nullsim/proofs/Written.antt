@@ -2,7 +2,7 @@
 use Rattle.std.proofs.Common.{ℕ, List, Option, Result, Ok, Err}
 use Rattle.std.proofs.KnownBytes.{Appends-trans}
 use Rattle.vcd_dump.specs.declared.fault.DumpFault.{DumpFault}
-use Rattle.vcd_dump.proofs.CallerLemmas.{AppendsPrefix-whole}
+use Rattle.texts.proofs.CallerLemmas.{AppendsPrefix-whole}
 use Rattle.program_io.specs.Report.{IsWritten}
 use Rattle.nullsim.specs.Parts.{AreWritten, both}
 

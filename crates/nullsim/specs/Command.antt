@@ -1,12 +1,8 @@
 -- How the program with arguments ends.
-use Rattle.std.specs.Prelude.{◌≡◌, ◌⊎◌, ℕ, List, [], ◌++◌, Option, Result, codes, string_bytes}
+use Rattle.std.specs.Prelude.{◌≡◌, ◌⊎◌, ℕ, List, Option, Result, string_bytes}
 use Rattle.std.specs.Io.KnownBytes.{Appends, Keeps}
-use Rattle.vcd_dump.specs.Dump.{line}
-use Rattle.event_trace.specs.Lines.{counts_line}
 use Rattle.command_line.specs.declared.order.Order.{Order}
 use Rattle.program_io.specs.declared.exit.Exit.{Exit}
-use Rattle.program_io.specs.declared.outcome.Outcome.{Outcome}
-use Rattle.program_io.specs.declared.outcome.Outcome.TheVariants.{Done, Counted, Differing}
 use Rattle.program_io.specs.declared.program_fault.ProgramFault.{ProgramFault}
 use Rattle.program_io.specs.declared.program_fault.ProgramFault.TheVariants as program
 use Rattle.program_io.specs.Answers.{Answer, AnswerEndsBy, IsNoRead}
@@ -15,7 +11,8 @@ use Rattle.command_line.specs.Orders.{names_of}
 use Rattle.prepared_runs.specs.RunTexts.{section_names}
 use Rattle.program_io.specs.ProgramFaults.{side_of}
 use Rattle.program_io.specs.Readings.{KnownReadings, StopsBy, files_of}
-use Rattle.program_io.specs.Report.{IsWritten, Reports}
+use Rattle.program_io.specs.Report.{IsWritten, Reports, outcome_text}
+use Rattle.program_io.specs.Status.{status_of_outcome}
 use Rattle.command_line.specs.declared.words.NoOrder.{NoOrder}
 use Rattle.command_line.specs.declared.words.NoOrder.TheVariants.{Help, Usage, Memory}
 use Rattle.nullsim.specs.Version.{version_line}
@@ -27,23 +24,6 @@ pub record Streams : Type 0 where
   pub err : Option (List ℕ)
 
 -- ---- an order
-
--- the line of counts, whose numbers are these texts: for the numbers of counts it is the last line of a trace
-abbrev pub line_of_numbers : List ℕ → List ℕ → List ℕ → List ℕ → List ℕ
-line_of_numbers events changes nulls rounds =
-    line (codes "events " ++ events ++ codes " changes " ++ changes ++ codes " nulls " ++ nulls ++ codes " rounds " ++ rounds)
-
--- what is printed with an answer: the line of counts, if requested
-abbrev pub outcome_text : Outcome → List ℕ
-outcome_text Done = []
-outcome_text (Counted counts) = counts_line counts
-outcome_text Differing = []
-
--- 5 if what was compared differs
-abbrev pub status_of_outcome : Outcome → ℕ
-status_of_outcome Done = 0
-status_of_outcome (Counted counts) = 0
-status_of_outcome Differing = 5
 
 -- a file couldn't be read: nothing was written, and that was reported
 abbrev pub OrderUnread : Order → Streams → Streams → Exit → Type 0

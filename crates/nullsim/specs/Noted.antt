@@ -1,5 +1,5 @@
 -- The notes on the run of an order that is done.
-use Rattle.std.specs.Prelude.{◌≡◌, ℕ, ◌==◌, if◌then◌else◌, List, [], ◌++◌, codes, option_and_then, option_map, Option, None, Some, Result, Ok, Err}
+use Rattle.std.specs.Prelude.{◌≡◌, ℕ, List, [], ◌++◌, option_and_then, option_map, Option, None, Some, Result, Ok, Err}
 use Rattle.std.specs.Io.KnownBytes.{Appends}
 use Rattle.prepared_runs.specs.declared.fault.SimFault.{SimFault}
 use Rattle.prepared_runs.specs.Events.{nothing}
@@ -9,16 +9,15 @@ use Rattle.program_io.specs.declared.exit.Exit.{Exit}
 use Rattle.program_io.specs.Ends.{ForAnswer}
 use Rattle.command_line.specs.declared.order.Order.{Order}
 use Rattle.command_line.specs.declared.order.Order.TheVariants.{Why, Diff, Twin}
-use Rattle.command_line.specs.declared.source_options.PickOptions.{PickOptions}
-use Rattle.command_line.specs.declared.source_options.PickOptions.TheVariants as picked
 use Rattle.command_line.specs.declared.source_options.SourceOptions.{SourceOptions}
 use Rattle.program_io.specs.declared.order_texts.OrderTexts.{OrderTexts}
-use Rattle.command_line.specs.Sources.{ReadTexts}
-use Rattle.command_line.specs.Sources.{source_from}
+use Rattle.command_line.specs.Sources.{ReadTexts, picks_note, source_from}
 use Rattle.command_line.specs.Orders.{last_tick, options_on}
 use Rattle.wave_diff.specs.declared.comparison.Side.TheVariants.{First}
 use Rattle.program_io.specs.OrderAnswer.{IsAnswerTo}
-use Rattle.nullsim.specs.Command.{Streams, outcome_text, status_of_outcome}
+use Rattle.program_io.specs.Report.{outcome_text}
+use Rattle.program_io.specs.Status.{status_of_outcome}
+use Rattle.nullsim.specs.Command.{Streams}
 use Rattle.nullsim.specs.Parts.{AreWritten}
 
 -- the run on which there are notes: that of an order for one run to a horizon, but for `why`
@@ -36,15 +35,6 @@ noted_source options texts = record (source_from options texts) { picks = nothin
 abbrev pub text_or_none : Result (List ℕ) SimFault → List ℕ
 text_or_none (Ok text) = text
 text_or_none (Err fault) = []
-
--- a seed is given, and no events are drawn
-abbrev pub drawn_note : ℕ → List ℕ
-drawn_note picks = if picks == 0 then codes "note: --seed has no effect without --picks\n" else []
-
-abbrev pub picks_note : PickOptions → List ℕ
-picks_note picked.Nothing = []
-picks_note (picked.File name) = []
-picks_note (picked.Seeded seed picks) = drawn_note picks
 
 abbrev pub run_notes : OrderTexts → Option (SourceOptions × ℕ) → List ℕ
 run_notes texts None = []

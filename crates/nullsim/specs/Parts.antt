@@ -2,7 +2,7 @@
 use Rattle.std.specs.Prelude.{◌++◌, ℕ, List, Option, Result, Ok, Err, OnErr, OnOk}
 use Rattle.std.specs.Io.KnownBytes.{Appends}
 use Rattle.vcd_dump.specs.declared.fault.DumpFault.{DumpFault}
-use Rattle.vcd_dump.specs.Bytes.{AppendsPrefix}
+use Rattle.texts.specs.Written.{AppendsPrefix}
 
 -- a prefix of a text was written, and after it a prefix of another
 abbrev pub AppendsParts : Option (List ℕ) → Option (List ℕ) → List ℕ → List ℕ → Type 0

@@ -1,7 +1,7 @@
 -- The progress that an order reports, before everything else that it reports.
 use Rattle.std.specs.Prelude.{◌≡◌, ◌⊎◌, ℕ, Bool, true, false, List, Option, Result}
 use Rattle.explanations.specs.declared.table.Table.{Table}
-use Rattle.vcd_dump.specs.Bytes.{AppendsPrefix}
+use Rattle.texts.specs.Written.{AppendsPrefix}
 use Rattle.prepared_runs.specs.Percents.{progress_text}
 use Rattle.program_io.specs.declared.exit.Exit.{Exit}
 use Rattle.program_io.specs.declared.program_fault.ProgramFault.{ProgramFault}

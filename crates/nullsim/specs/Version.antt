@@ -2,7 +2,7 @@
 use Rattle.std.specs.Prelude.{ℕ, ◌==◌, ◌&&◌, Bool, List, [], ◌∷◌, length, String, codes, bytes_eq, string_bytes}
 use Rattle.std.specs.List.{list_any}
 use Rattle.std.specs.declared.alloc.Global.{Global}
-use Rattle.vcd_dump.specs.Dump.{line}
+use Rattle.texts.specs.Written.{line}
 
 -- the version of the dumps, which is the program's
 abbrev pub version : List ℕ

@@ -1,14 +1,12 @@
 //! The program with arguments.
-ghost use Rattle.std.specs.Prelude.{◌≡◌, ◌≢◌, IfErr, OnErr, OnOk, IsTrue};
+ghost use Rattle.std.specs.Prelude.{◌≡◌, ◌≢◌, IsTrue, OnErr, OnOk};
 ghost use Rattle.std.specs.Io.KnownBytes.{Appends, Keeps};
-ghost use Rattle.vcd_dump.specs.Bytes.{AppendsPrefix};
-ghost use Rattle.vcd_dump.specs.Faults.{IsFailedWrite};
-ghost use Rattle.event_trace.specs.Lines.{counts_line};
+ghost use Rattle.texts.specs.Written.{AppendsPrefix};
 ghost use Rattle.explanations.specs.Explained.{all_names, explained};
-ghost use Rattle.program_io.specs.Report.{IsWritten, WithStatus};
+ghost use Rattle.program_io.specs.Report.{WithStatus};
 ghost use Rattle.program_io.specs.OrderAnswer.{IsAnswerTo};
 ghost use Rattle.nullsim.specs.Asked.{CommandEnds, OrderEnds, WordsEnd};
-ghost use Rattle.nullsim.specs.Command.{Explains, TextGiven, TextMade, VersionGiven, line_of_numbers, outcome_text, status_of_outcome};
+ghost use Rattle.nullsim.specs.Command.{Explains, TextGiven, TextMade, VersionGiven};
 ghost use Rattle.nullsim.specs.Ends.{Ends, EndsBy, Writes};
 ghost use Rattle.nullsim.specs.Progress.{Answered, OrderReported};
 ghost use Rattle.nullsim.specs.Version.{asks_for_version};
@@ -16,18 +14,17 @@ ghost use Rattle.nullsim.specs.Version.{asks_for_version};
 use crate::carrying::carry_out;
 use crate::verbose::exit_verbosely;
 use crate::version::{asks_for_version, give_version};
-use cmb_kernel::Counts;
 use command_line::{Asked, NoOrder, Order, asked_by_words};
 use explanations::{Table, explanation_text, names_text, tables};
-use itoa::Buffer;
 use prepared_runs::SECTIONS;
-use program_io::status::{DIFFERENT, DONE, WRONG_WORDS};
+use program_io::status::{DONE, WRONG_WORDS};
 use program_io::{
-    Exit, OrderTexts, Outcome, ProgramFault, Texts, read_texts, report, write_pieces, write_text,
+    Exit, OrderTexts, ProgramFault, Texts, read_texts, report, report_outcome, write_text,
 };
 use std::alloc::Global;
 use std::io::Write;
-use vcd_dump::{DumpFault, write_all_bytes};
+use texts::write_all_bytes;
+use vcd_dump::DumpFault;
 
 /// Carries out what the arguments, without the program's own name, ask for, and returns the exit status. An
 /// order is carried out as by [`answer_order`].
@@ -187,70 +184,6 @@ fn answer_read<W: Write, E: Write>(
     }
 }
 
-/// Writes what is printed with an answer, or a prefix of it if the writer fails, and returns the exit. Allocates
-/// no memory.
-pub(crate) fn report_outcome<E: Write>(err: &mut E, outcome: Outcome) -> Exit
-    ensures status { result.status ≡ status_of_outcome outcome }
-    ensures reported { IsWritten (E.contents err.old) (E.contents err.new) (outcome_text outcome) result.written }
-{
-    match outcome {
-        Outcome::Done => Exit::silent(DONE),
-        Outcome::Counted(counts) => Exit {
-            status: DONE,
-            written: write_counts_line(err, counts),
-        },
-        Outcome::Differing => Exit::silent(DIFFERENT),
-    }
-}
-
-/// Writes the line `events E changes C nulls N rounds R`. Allocates no memory.
-///
-/// # Errors
-/// `Write` or `WroteNothing`; a prefix of the line has then been written.
-fn write_counts_line<E: Write>(err: &mut E, counts: Counts) -> Result<(), DumpFault>
-    ensures ok { OnOk result (Appends (E.contents err.old) (E.contents err.new) (counts_line counts)) }
-    ensures err { OnErr result (AppendsPrefix (E.contents err.old) (E.contents err.new) (counts_line counts)) }
-    ensures fault { IfErr result IsFailedWrite }
-{
-    let (mut events, mut changes) = (Buffer::new(), Buffer::new());
-    let (mut nulls, mut rounds) = (Buffer::new(), Buffer::new());
-    write_numbers(
-        err,
-        events.format(counts.events),
-        changes.format(counts.changes),
-        nulls.format(counts.nulls),
-        rounds.format(counts.rounds),
-    )
-}
-
-/// Writes the line of counts with these numbers as text.
-fn write_numbers<'a, E: Write>(
-    err: &mut E,
-    events: &'a str,
-    changes: &'a str,
-    nulls: &'a str,
-    rounds: &'a str,
-) -> Result<(), DumpFault>
-    ensures ok { OnOk result (Appends (E.contents err.old) (E.contents err.new)
-        (line_of_numbers events.now changes.now nulls.now rounds.now)) }
-    ensures err { OnErr result (AppendsPrefix (E.contents err.old) (E.contents err.new)
-        (line_of_numbers events.now changes.now nulls.now rounds.now)) }
-    ensures fault { IfErr result IsFailedWrite }
-{
-    let pieces = [
-        "events ",
-        events,
-        " changes ",
-        changes,
-        " nulls ",
-        nulls,
-        " rounds ",
-        rounds,
-        "\n",
-    ];
-    write_pieces(err, &pieces)
-}
-
 /// Writes the explanations of the faults with this name, and flushes once; returns the exit.
 fn print_fault<W: Write, E: Write>(
     alloc: Global,
@@ -295,10 +228,19 @@ fn explain<W: Write, E: Write>(no_order: NoOrder, out: &mut W, err: &mut E) -> E
         NoOrder::Help(text) => give_text(text.as_str(), out, err),
         NoOrder::Usage(text) => Exit {
             status: WRONG_WORDS,
-            written: write_all_bytes(err, text.as_str().as_bytes()),
+            written: write_usage(err, text.as_str()),
         },
         NoOrder::Memory => report(err, ProgramFault::Memory, SECTIONS),
     }
+}
+
+/// Writes what is wrong with the arguments, or a prefix of it if the writer fails. Allocates no memory.
+fn write_usage<E: Write>(err: &mut E, text: &str) -> Result<(), DumpFault>
+    ensures ok { OnOk result (Appends (E.contents err.old) (E.contents err.new) text.now) }
+    ensures err { OnErr result (AppendsPrefix (E.contents err.old) (E.contents err.new) text.now) }
+{
+    write_all_bytes(err, text.as_bytes())?;
+    Ok(())
 }
 
 /// Writes a requested text, and flushes once; returns the exit.

@@ -1,7 +1,8 @@
 //! Facts about the definitions alone.
 ghost use Rattle.std.specs.Prelude.{◌≡◌, ℕ, List, ◌++◌, codes};
 ghost use Rattle.vcd_dump.specs.declared.unit.TimeUnit.{TimeUnit};
-ghost use Rattle.vcd_dump.specs.Dump.{heading, line};
+ghost use Rattle.texts.specs.Written.{line};
+ghost use Rattle.vcd_dump.specs.Dump.{heading};
 ghost use Rattle.nullsim.specs.Version.{version};
 
 pub use kernel_runs::laws::isolation;

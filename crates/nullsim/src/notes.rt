@@ -1,21 +1,21 @@
 //! The notes on the run of an order that is done.
 ghost use Rattle.std.specs.Prelude.{◌≡◌, IfOk};
 ghost use Rattle.prepared_runs.specs.Source.{seen_source};
-ghost use Rattle.program_io.specs.Report.{IsWritten};
+ghost use Rattle.program_io.specs.Report.{IsWritten, outcome_text};
+ghost use Rattle.program_io.specs.Status.{status_of_outcome};
 ghost use Rattle.plain_runs.specs.Noted.{notes_of_source};
-ghost use Rattle.nullsim.specs.Command.{outcome_text, status_of_outcome};
-ghost use Rattle.nullsim.specs.Noted.{drawn_note, noted_run, noted_source, order_notes, picks_note, text_or_none};
+ghost use Rattle.nullsim.specs.Noted.{noted_run, noted_source, order_notes, text_or_none};
 ghost use Rattle.nullsim.specs.Parts.{AreWritten};
 
-use crate::commander::report_outcome;
 use crate::parts::followed;
-use command_line::{Order, PickOptions, ReadTexts, SourceOptions};
+use command_line::{Order, ReadTexts, SourceOptions};
 use plain_runs::notes_text;
 use prepared_runs::{Picks, SimFault, Source};
-use program_io::{Exit, OrderTexts, Outcome};
+use program_io::{Exit, OrderTexts, Outcome, report_outcome};
 use std::alloc::Global;
 use std::io::Write;
-use vcd_dump::{DumpFault, write_all_bytes};
+use texts::write_all_bytes;
+use vcd_dump::DumpFault;
 use wave_diff::Side;
 
 /// Writes what is printed with an answer, followed by the notes on the order's run, or a prefix of each if the
@@ -48,7 +48,8 @@ fn write_notes<E: Write>(
     ensures { IsWritten (E.contents err.old) (E.contents err.new) (order_notes texts.now order.now) result }
 {
     let notes = notes_of(alloc, order, texts)?;
-    write_all_bytes(err, notes.as_slice())
+    write_all_bytes(err, notes.as_slice())?;
+    Ok(())
 }
 
 /// Returns the notes on an order's run. The text is empty if there is no run.
@@ -63,7 +64,7 @@ fn notes_of(alloc: Global, order: &Order<'_>, texts: &OrderTexts) -> Result<Vec<
     };
     let source = noted_source(options, &texts.first);
     let mut notes = notes_or_none(alloc, &source, horizon)?;
-    notes.extend_from_slice(picks_note(options.picks).as_bytes())?;
+    notes.extend_from_slice(options.picks.note().as_bytes())?;
     Ok(notes)
 }
 
@@ -79,26 +80,6 @@ fn notes_or_none(alloc: Global, source: &Source<'_>, horizon: u64) -> Result<Vec
         Ok(notes) => Ok(notes),
         Err(SimFault::Memory) => Err(DumpFault::Memory),
         Err(_) => Ok(Vec::new(alloc)),
-    }
-}
-
-/// Returns the note on a seed that is given although no events are drawn, or the empty text.
-fn picks_note(picks: PickOptions<'_>) -> &'static str
-    ensures { result.now ≡ picks_note picks.entry }
-{
-    match picks {
-        PickOptions::Seeded { picks, .. } => drawn_note(picks),
-        PickOptions::Nothing | PickOptions::File(_) => "",
-    }
-}
-
-fn drawn_note(picks: u64) -> &'static str
-    ensures { result.now ≡ drawn_note picks }
-{
-    if picks == 0 {
-        "note: --seed has no effect without --picks\n"
-    } else {
-        ""
     }
 }
 

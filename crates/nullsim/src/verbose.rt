@@ -18,7 +18,8 @@ use prepared_runs::SimFault;
 use program_io::{Exit, OrderTexts, ProgramFault, Texts, read_texts, report};
 use std::alloc::{AllocError, Global};
 use std::io::Write;
-use vcd_dump::{DumpFault, write_all_bytes};
+use texts::write_all_bytes;
+use vcd_dump::DumpFault;
 
 /// Carries out an order and returns the exit status, as [`answer_order`](crate::answer_order) does.
 ///
@@ -126,7 +127,8 @@ fn explain_fault<E: Write>(
         order.now fault.entry) result }
 {
     let text = explanation(alloc, tables, order, fault, texts, said)?;
-    write_all_bytes(err, text.as_slice())
+    write_all_bytes(err, text.as_slice())?;
+    Ok(())
 }
 
 /// Returns the explanation of an order's fault.

@@ -1,12 +1,12 @@
 -- The timing diagram of a run.
 use Rattle.std.specs.Prelude.{◌≡◌, ℕ, List, Option, Result, Err, IsOkAnd}
 use Rattle.std.specs.Io.KnownBytes.{Keeps}
-use Rattle.text_lines.specs.Text.{◌>>=◌}
+use Rattle.texts.specs.Text.{◌>>=◌}
 use Rattle.timing_text.specs.Options.{horizon_of}
 use Rattle.design.specs.Design.{DesignView}
 use Rattle.timing_diagram.specs.Columns.{Ticks, columns_of}
 use Rattle.timing_diagram.specs.Drawing.{drawing}
-use Rattle.vcd_dump.specs.Bytes.{AppendsPrefix}
+use Rattle.texts.specs.Written.{AppendsPrefix}
 use Rattle.vcd_dump.specs.Faults.{IsFailedWrite}
 use Rattle.plain_runs.specs.declared.diagram_fault.DiagramFault.{DiagramFault}
 use Rattle.plain_runs.specs.declared.diagram_fault.DiagramFault.TheVariants.{Columns, Run}

@@ -1,6 +1,6 @@
 -- Why a net of a run has its value at a tick.
 use Rattle.std.specs.Prelude.{ℕ, List, Result, Ok}
-use Rattle.text_lines.specs.Text.{◌>>=◌}
+use Rattle.texts.specs.Text.{◌>>=◌}
 use Rattle.causes.specs.Text.{why_text}
 use Rattle.prepared_runs.specs.declared.fault.SimFault.{SimFault}
 use Rattle.prepared_runs.specs.Source.{SourceView, design_of_source, net_or_unknown}

@@ -1,6 +1,6 @@
 -- The notes of a run.
 use Rattle.std.specs.Prelude.{ℕ, List, Result, Ok}
-use Rattle.text_lines.specs.Text.{◌>>=◌}
+use Rattle.texts.specs.Text.{◌>>=◌}
 use Rattle.prepared_runs.specs.declared.fault.SimFault.{SimFault}
 use Rattle.prepared_runs.specs.Source.{SourceView, design_of_source}
 use Rattle.plain_runs.specs.Text.{notes_of_design}

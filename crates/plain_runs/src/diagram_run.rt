@@ -56,7 +56,7 @@ pub fn diagram<W: Write>(
     ensures memory { result ≡ Err (Run Memory) → MayWantMemory (seen_source source.now) view.now.horizon }
 {
     let columns = columns_of(view)?;
-    let (design, horizon) = prepare(alloc, source, view.horizon)?;
+    let (horizon, design) = prepare(alloc, source, view.horizon)?;
     let nets = shown_nets(alloc, &design, &view.show)?;
     draw_design(alloc, &design, horizon, view, nets.as_slice(), columns, out)?;
     Ok(())

@@ -34,7 +34,7 @@ pub fn notes_text(alloc: Global, source: &Source<'_>, horizon: u64) -> Result<Ve
     ensures err { IfErr result (IsRefusal (notes_of_source (seen_source source.now) horizon)) }
     ensures memory { result ≡ Err Memory → MayWantMemory (seen_source source.now) horizon }
 {
-    let (design, ticks) = prepare(alloc, source, horizon)?;
+    let (ticks, design) = prepare(alloc, source, horizon)?;
     let waves = plain_waves(alloc, &design, ticks)?;
     Ok(design_notes(alloc, &design, ticks, waves.as_slice())?)
 }

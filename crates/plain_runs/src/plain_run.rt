@@ -69,7 +69,7 @@ pub fn plain_with_progress<W: Write, P: Progress>(
     ensures memory { result ≡ Err Memory → MayWantMemory (seen_source source.now) view.now.horizon }
     ensures reported { Reported (P.reports view.now.horizon) (IsTickByTick result view.now.horizon) progress.old progress.new }
 {
-    let (design, horizon) = prepare(alloc, source, view.horizon)?;
+    let (horizon, design) = prepare(alloc, source, view.horizon)?;
     let nets = shown_nets(alloc, &design, &view.show)?;
     dump_by_plain_engine(
         alloc,

@@ -21,7 +21,7 @@ pub fn why(alloc: Global, source: &Source<'_>, name: &[u8], tick: u64) -> Result
     ensures err { IfErr result (IsRefusal (why_of_source (seen_source source.now) name.now tick)) }
     ensures memory { result ≡ Err Memory → MayWantMemory (seen_source source.now) tick }
 {
-    let (design, horizon) = prepare(alloc, source, tick)?;
+    let (horizon, design) = prepare(alloc, source, tick)?;
     let net = net_named(&design, name)?;
     let waves = plain_waves(alloc, &design, horizon)?;
     Ok(why_text(alloc, &design, waves.as_slice(), net, tick)?)

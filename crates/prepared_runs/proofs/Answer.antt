@@ -5,7 +5,7 @@ use Rattle.bench_text.specs.declared.fault.BenchFault.{BenchFault}
 use Rattle.bench_text.specs.declared.fault.BenchFault.TheVariants as bench
 use Rattle.netlist.specs.Netlist.{NetlistView}
 use Rattle.bench_text.specs.NetlistOf.{netlist_of}
-use Rattle.text_lines.specs.Text.{longest_text}
+use Rattle.texts.specs.Text.{longest_text}
 use Rattle.timing_text.specs.declared.fault.OptionFault.{OptionFault}
 use Rattle.timing_text.specs.declared.fault.DelayFault.TheVariants as delay
 use Rattle.timing_text.specs.declared.fault.StimulusFault.TheVariants as stimulus

@@ -2,8 +2,8 @@
 use Rattle.std.proofs.Common.{◌≡◌, ℕ, Bool, true, false, List, Option, refl, subst, ap, ◌∙◌, ◌++◌}
 use Rattle.std.specs.Io.KnownBytes.{Appends, Keeps}
 use Rattle.std.proofs.KnownBytes.{Appends-kept}
-use Rattle.vcd_dump.specs.Bytes.{AppendsPrefix}
-use Rattle.vcd_dump.proofs.CallerLemmas.{AppendsPrefix-after, AppendsPrefix-longer}
+use Rattle.texts.specs.Written.{AppendsPrefix}
+use Rattle.texts.proofs.CallerLemmas.{AppendsPrefix-after, AppendsPrefix-longer}
 use Rattle.prepared_runs.specs.Percents.{Meter, Shows, line_feed, next_percent, percents_text, progress_text}
 
 -- what reports percents, and then ends its line, reports all of the progress, or a first part of it where its writer fails

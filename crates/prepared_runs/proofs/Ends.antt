@@ -4,7 +4,7 @@ use Rattle.std.specs.Io.KnownBytes.{Keeps}
 use Rattle.std.proofs.KnownBytes.{Appends-nil, Appends-kept, Keeps-refl}
 use Rattle.vcd_dump.specs.declared.fault.DumpFault.{DumpFault}
 use Rattle.vcd_dump.specs.declared.fault.DumpFault.TheVariants as dump
-use Rattle.vcd_dump.specs.Bytes.{AppendsPrefix}
+use Rattle.texts.specs.Written.{AppendsPrefix}
 use Rattle.prepared_runs.specs.declared.fault.SimFault.{SimFault}
 use Rattle.prepared_runs.specs.declared.fault.SimFault.TheVariants.{Dump, Memory}
 use Rattle.prepared_runs.specs.Faults.{sim_of_dump}

@@ -3,7 +3,7 @@ use Rattle.std.proofs.Common.{◌≡◌, ℕ, ◌&&◌, ◌||◌, not, Bool, tru
 use Rattle.std.specs.List.{find, list_any, position_or_len, before_first, enumerate_from}
 use Rattle.std.proofs.Math.Seq.{take-append_seam}
 use Rattle.std.proofs.lemmas.List.{length_push}
-use Rattle.text_lines.specs.Text.{is_empty}
+use Rattle.texts.specs.Text.{is_empty}
 use Rattle.prepared_runs.specs.declared.sections.Marker.{Marker}
 use Rattle.prepared_runs.specs.Deck.{line_words, has_words, is_just, is_marker, breaks_rule}
 use Rattle.prepared_runs.specs.Seen.{word_of}

@@ -1,6 +1,6 @@
 -- What an accepted run is made of.
 use Rattle.std.proofs.Common.{◌≡◌, ℕ, List, Result, Ok, Err, ap}
-use Rattle.text_lines.specs.Text.{◌>>=◌}
+use Rattle.texts.specs.Text.{◌>>=◌}
 use Rattle.design.specs.Design.{DesignView}
 use Rattle.cmb_events.specs.declared.event.Event.{Event}
 use Rattle.prepared_runs.specs.declared.fault.SimFault.{SimFault}

@@ -5,7 +5,7 @@ use Rattle.logic3.specs.declared.value.Value.{Value}
 use Rattle.logic3.specs.Value.{is_same}
 use Rattle.logic3.specs.Wave.{Wave, value_at, wave_of}
 use Rattle.logic3.proofs.CallerLemmas.{value_at-wave_of}
-use Rattle.text_lines.specs.Text.{is_empty}
+use Rattle.texts.specs.Text.{is_empty}
 use Rattle.design.specs.Circuit.{Circuit}
 use Rattle.design.specs.Design.{DesignView}
 use Rattle.design.specs.Equations.{value_of}

@@ -14,7 +14,7 @@ use Rattle.netlist.specs.declared.part.Part.TheVariants.{Input}
 use Rattle.netlist.specs.Name.{IsName}
 use Rattle.netlist.specs.Netlist.{NetView, NetlistView}
 use Rattle.bench_text.specs.NetlistOf.{netlist_of}
-use Rattle.text_lines.specs.Text.{◌>>=◌}
+use Rattle.texts.specs.Text.{◌>>=◌}
 use Rattle.bench_text.proofs.CallerLemmas.{IsNetlist-netlist_of}
 use Rattle.design.specs.declared.fault.BuildFault.{BuildFault}
 use Rattle.timing_text.specs.declared.fault.OptionFault.{OptionFault}

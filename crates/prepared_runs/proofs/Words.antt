@@ -1,6 +1,6 @@
 -- The words of a line of a deck.
 use Rattle.std.proofs.Common.{◌≡◌, ℕ, true, false, List, [], ◌∷◌, None, refl, bytes_eq, codes}
-use Rattle.text_lines.specs.Text.{is_empty, number_of}
+use Rattle.texts.specs.Text.{is_empty, number_of}
 use Rattle.prepared_runs.specs.Deck.{line_words, horizon_in}
 
 -- two words, and maybe more

@@ -2,7 +2,7 @@
 use Rattle.std.specs.Prelude.{ℕ, ◌+◌, ◌==◌, ◌||◌, ◌&&◌, not, nat_lt, Bool, false, if◌then◌else◌, List, [], ◌∷◌, length, take, find, Option, None, Result, Ok, Err, codes, bytes_eq}
 use Rattle.std.specs.List.{list_any, before_first, after_first, onto_first, concat, enumerate_from}
 use Rattle.std.specs.Option.{option_map_or}
-use Rattle.text_lines.specs.Text.{words_of, number_of, is_empty, longest_text}
+use Rattle.texts.specs.Text.{words_of, number_of, is_empty, longest_text}
 use Rattle.prepared_runs.specs.declared.deck_fault.DeckFault.{DeckFault}
 use Rattle.prepared_runs.specs.declared.deck_fault.DeckFault.TheVariants.{TooLong, BadDeck}
 use Rattle.prepared_runs.specs.declared.run_texts.RunTexts.{RunTexts}

@@ -1,7 +1,7 @@
 -- The progress of a run in percent, on one line.
 use Rattle.std.specs.Prelude.{◌≡◌, ℕ, zero, suc, ◌+◌, ◌*◌, ◌/◌, max, Bool, true, false, List, [], ◌∷◌, ◌++◌, Option, nat_lt, if◌then◌else◌, codes, decimal}
 use Rattle.std.specs.Io.KnownBytes.{Appends, Keeps}
-use Rattle.vcd_dump.specs.Bytes.{AppendsPrefix}
+use Rattle.texts.specs.Written.{AppendsPrefix}
 
 -- how much of a run is done if a number of ticks are known, in percent, rounded down
 abbrev pub percent_of : ℕ → ℕ → ℕ

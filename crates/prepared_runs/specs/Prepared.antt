@@ -1,6 +1,6 @@
 -- What a run starts from.
 use Rattle.std.specs.Prelude.{ℕ, List, Result, Ok}
-use Rattle.text_lines.specs.Text.{◌>>=◌}
+use Rattle.texts.specs.Text.{◌>>=◌}
 use Rattle.design.specs.Design.{DesignView}
 use Rattle.cmb_events.specs.declared.event.Event.{Event}
 use Rattle.prepared_runs.specs.declared.fault.SimFault.{SimFault}

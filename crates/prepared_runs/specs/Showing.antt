@@ -2,8 +2,8 @@
 use Rattle.std.proofs.Common.{◌≡◌, ℕ, Bool, true, false, List, [], ◌∷◌, ◌++◌, refl, ap, sym, subst, ◌∙◌, append_assoc}
 use Rattle.std.specs.Io.KnownBytes.{Appends}
 use Rattle.std.proofs.KnownBytes.{Appends-nil, Appends-trans, Appends-kept, Keeps-refl, Keeps-trans}
-use Rattle.vcd_dump.specs.Bytes.{AppendsPrefix}
-use Rattle.vcd_dump.proofs.CallerLemmas.{AppendsPrefix-after, AppendsPrefix-longer}
+use Rattle.texts.specs.Written.{AppendsPrefix}
+use Rattle.texts.proofs.CallerLemmas.{AppendsPrefix-after, AppendsPrefix-longer}
 use Rattle.prepared_runs.specs.Percents.{Meter, Shows, behind, next_percent, percent_of, percents_text, shown_percent}
 
 module _ (horizon : ℕ) where

@@ -4,7 +4,7 @@ use Rattle.std.specs.List.{range_with_len}
 use Rattle.std.specs.Option.{ok_or}
 use Rattle.std.specs.Result.{result_map_both}
 use Rattle.logic3.specs.declared.value.Value.{Value}
-use Rattle.text_lines.specs.Text.{◌>>=◌, longest_text}
+use Rattle.texts.specs.Text.{◌>>=◌, longest_text}
 use Rattle.netlist.specs.Names.{seen_names}
 use Rattle.netlist.specs.Netlist.{NetlistView, net_named}
 use Rattle.netlist.specs.Repeats.{distinct}

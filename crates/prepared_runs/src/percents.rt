@@ -1,14 +1,13 @@
 //! The progress of a run in percent, on one line.
 ghost use Rattle.std.specs.Prelude.{◌≡◌, ◌+◌, ◌*◌, ◌/◌, OnErr, OnOk, false, true};
 ghost use Rattle.std.specs.Io.KnownBytes.{Appends, Keeps};
-ghost use Rattle.vcd_dump.specs.Bytes.{AppendsPrefix};
+ghost use Rattle.texts.specs.Written.{AppendsPrefix};
 ghost use Rattle.prepared_runs.specs.Percents.{line_feed, percent_text};
 
 use crate::progress::Progress;
-use itoa::Buffer;
 use std::io::Write;
+use texts::{WriteFault, write_all_bytes, write_numbered};
 use timing_text::Horizon;
-use vcd_dump::{DumpFault, write_all_bytes};
 
 /// Writes how much of a run is done, in percent, over what it wrote before, and each percentage at
 /// most once. After a failed write nothing more is written.
@@ -70,13 +69,11 @@ impl<'e, E: Write> Percents<'e, E> {
 ///
 /// # Errors
 /// `Write` or `WroteNothing`; a prefix of it has been written then.
-fn write_percent<E: Write>(out: &mut E, percent: u64) -> Result<(), DumpFault>
+fn write_percent<E: Write>(out: &mut E, percent: u64) -> Result<(), WriteFault>
     ensures ok { OnOk result (Appends (E.contents out.old) (E.contents out.new) (percent_text percent)) }
     ensures err { OnErr result (AppendsPrefix (E.contents out.old) (E.contents out.new) (percent_text percent)) }
 {
-    let mut digits = Buffer::new();
-    write_all_bytes(out, b"\r")?;
-    write_all_bytes(out, digits.format(percent).as_bytes())?;
+    write_numbered(out, b"\r", percent)?;
     write_all_bytes(out, b"%")
 }
 

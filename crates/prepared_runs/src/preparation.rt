@@ -41,7 +41,7 @@ pub fn prepare_run(
     ensures begun { OnOk result (MayWantMemory (seen_source source.now) horizon) }
     ensures memory { result ≡ Err Memory → MayWantMemory (seen_source source.now) horizon }
 {
-    let (design, horizon) = prepare(alloc, source, horizon)?;
+    let (horizon, design) = prepare(alloc, source, horizon)?;
     let schedule = picked(alloc, source.picks, &design)?;
     Ok(PreparedRun {
         horizon,
@@ -50,7 +50,7 @@ pub fn prepare_run(
     })
 }
 
-/// Returns the design of a source, and the horizon in ticks, which is at most 10,000,000.
+/// Returns the horizon in ticks, which is at most 10,000,000, and the design of a source.
 ///
 /// # Errors
 /// The first refusal: [`SimFault::Setting`] for the default delay, the period and the horizon, then
@@ -60,9 +60,8 @@ pub fn prepare(
     alloc: Global,
     source: &Source<'_>,
     horizon: u64,
-) -> Result<(Design, Horizon), SimFault>
-    ensures ok { IfOk result (λ ready. design_of_source (seen_source source.now) horizon
-        ≡ Ok (ready.1, ready.0)) }
+) -> Result<(Horizon, Design), SimFault>
+    ensures ok { IfOk result (λ ready. design_of_source (seen_source source.now) horizon ≡ Ok ready) }
     ensures err { IfErr result (IsRefusal (design_of_source (seen_source source.now) horizon)) }
     ensures begun { OnOk result (MayWantMemory (seen_source source.now) horizon) }
     ensures memory { result ≡ Err Memory → MayWantMemory (seen_source source.now) horizon }
@@ -78,7 +77,7 @@ pub fn prepare(
         source.default_delay,
         source.period,
     )?;
-    Ok((design, horizon))
+    Ok((horizon, design))
 }
 
 /// Returns the events that are picked.

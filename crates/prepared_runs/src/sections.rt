@@ -1,13 +1,13 @@
 //! The sections of a deck, which is a whole run in one text.
 ghost use Rattle.std.specs.Prelude.{◌≡◌, ◌∷◌, ◌+◌, ◌-◌, ◌<◌, ◌≤◌, ◌^◌, ◌==◌, [], length, drop, false, min, option_map, MatchBool, MatchOption, IfSome, IsSome};
 ghost use Rattle.std.specs.List.{before_first, concat, position_or_len};
-ghost use Rattle.text_lines.specs.Text.{longest_text};
+ghost use Rattle.texts.specs.Text.{longest_text};
 ghost use Rattle.prepared_runs.specs.Deck.{ended_lines, has_words, horizon_in, is_marker, line_words, sections_behind, sections_of};
 ghost use Rattle.prepared_runs.specs.Seen.{IsRefused, FillsOwnPlace, PassesLine, SplitsLine, held, is_marker_word, on_sections, seen_sections, stops, word_of};
 
 use crate::deck_fault::DeckFault;
 use crate::run_texts::RunTexts;
-use text_lines::{LONGEST_TEXT, first_place, has_words, split_word};
+use texts::{LONGEST_TEXT, first_place, has_words, split_word};
 
 /// The horizon and the texts of a deck.
 #[derive(Debug, Drop)]
@@ -181,7 +181,7 @@ fn horizon_in(line: &[u8]) -> Option<u64>
     let (mark, rest) = split_word(without_newline(line))?;
     let (number, rest) = split_word(rest)?;
     if mark == b"%nullsim".as_slice() && !has_words(rest) {
-        text_lines::number(number)
+        texts::number(number)
     } else {
         None
     }

@@ -28,8 +28,7 @@ use Rattle.kernel_runs.specs.declared.twin_run.TwinAnswer.{TwinAnswer}
 use Rattle.kernel_runs.specs.Checked.{checked}
 use Rattle.prepared_runs.specs.Prepared.{RunView}
 use Rattle.kernel_runs.specs.Twins.{IsComparison, IsTwinRefusal, Twins, on}
-use Rattle.program_io.specs.AnswerText.{check_text, twin_text}
-use Rattle.vcd_dump.specs.declared.fault.DumpFault.{DumpFault}
+use Rattle.kernel_runs.specs.AnswerText.{check_text, twin_text}
 use Rattle.program_io.specs.declared.outcome.Outcome.{Outcome}
 use Rattle.program_io.specs.declared.outcome.Outcome.TheVariants.{Done}
 use Rattle.program_io.specs.declared.program_fault.ProgramFault.{ProgramFault}

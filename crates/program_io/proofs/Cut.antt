@@ -2,8 +2,8 @@
 use Rattle.std.proofs.Common.{◌≡◌, ℕ, ◌+◌, ◌<◌, ◌≤◌, nat_lt, if◌then◌else◌, List, [], length, take, Result, Ok, Err, ◌⊎◌, inl, inr, refl, ap, ◌∙◌, arith, length-take}
 use Rattle.std.proofs.lemmas.Bool.{cases_lt, lt-ltb}
 use Rattle.std.proofs.lemmas.List.{take_all}
-use Rattle.text_lines.specs.Text.{◌>>=◌, code_lines, longest_text}
-use Rattle.text_lines.specs.Fold.{fold_text}
+use Rattle.texts.specs.Text.{◌>>=◌, code_lines, longest_text}
+use Rattle.texts.specs.Fold.{fold_text}
 use Rattle.netlist.specs.Netlist.{NetlistView}
 use Rattle.bench_text.specs.NetlistOf.{netlist_of, netlist_of_statements, statements_of}
 use Rattle.bench_text.specs.declared.fault.BenchFault.{BenchFault}
@@ -32,7 +32,7 @@ use Rattle.kernel_runs.specs.Diffs.{pair_of}
 use Rattle.plain_runs.specs.Drawn.{diagram_of_source}
 use Rattle.drawn_stimuli.specs.Driven.{stimuli_of_drives}
 use Rattle.plain_runs.specs.Explained.{why_of_source}
-use Rattle.kernel_runs.specs.Traced.{trace_of_source}
+use Rattle.event_trace.specs.Traced.{trace_of_source}
 use Rattle.prepared_runs.specs.Events.{PicksView, events_of_picks}
 use Rattle.prepared_runs.specs.Events as picks
 use Rattle.prepared_runs.specs.Faults.{sim_of_bench, sim_of_build, sim_of_schedule}

@@ -4,10 +4,10 @@ use Rattle.std.proofs.KnownBytes.{Keeps-refl}
 use Rattle.std.proofs.lemmas.Bool.{cases_lt, lt-ltb}
 use Rattle.std.specs.Option.{option_map_or}
 use Rattle.std.specs.Result.{result_map_both}
-use Rattle.text_lines.specs.Text.{◌>>=◌, longest_text}
+use Rattle.texts.specs.Text.{◌>>=◌, longest_text}
 use Rattle.timing_text.specs.Ranges.{most_ticks}
 use Rattle.timing_text.specs.Options.{horizon_of}
-use Rattle.vcd_dump.specs.Bytes.{AppendsPrefix}
+use Rattle.texts.specs.Written.{AppendsPrefix}
 use Rattle.prepared_runs.specs.declared.fault.SimFault.{SimFault}
 use Rattle.prepared_runs.specs.declared.fault.SimFault.TheVariants.{Dump, Memory}
 use Rattle.prepared_runs.specs.declared.deck_fault.DeckFault.{DeckFault}

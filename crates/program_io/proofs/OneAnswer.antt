@@ -21,7 +21,7 @@ use Rattle.command_line.specs.declared.source_options.SourceOptions.{SourceOptio
 use Rattle.kernel_runs.specs.declared.diff_fault.DiffFault.{DiffFault}
 use Rattle.kernel_runs.specs.declared.twin_run.TwinAnswer.{TwinAnswer}
 use Rattle.kernel_runs.specs.declared.twin_run.TwinFault.{TwinFault}
-use Rattle.program_io.specs.AnswerText.{twin_text}
+use Rattle.kernel_runs.specs.AnswerText.{twin_text}
 use Rattle.program_io.specs.ProgramFaults.{fault_of_bench, fault_of_cone}
 use Rattle.program_io.specs.Answers.{Answer, IsDiffAnswer, IsTwinAnswer, compared, just, stimuli_answer}
 use Rattle.program_io.specs.OrderAnswer.{ForSource, IsAnswer}

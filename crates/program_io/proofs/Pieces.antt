@@ -7,8 +7,8 @@ use Rattle.std.proofs.lemmas.List.{append-nil, take_more}
 use Rattle.std.proofs.lemmas.List.Folds.{concat-append}
 use Rattle.std.proofs.lemmas.Option.{slice_get_within, get_or_from_slice_get}
 use Rattle.netlist.specs.Names.{seen_names}
-use Rattle.vcd_dump.specs.Bytes.{AppendsPrefix}
-use Rattle.vcd_dump.proofs.CallerLemmas.{AppendsPrefix-after, AppendsPrefix-longer}
+use Rattle.texts.specs.Written.{AppendsPrefix}
+use Rattle.texts.proofs.CallerLemmas.{AppendsPrefix-after, AppendsPrefix-longer}
 
 -- the text at a place
 pub text_at : (pieces : List (Bor (List ℕ))) (at : ℕ) (other : Bor (List ℕ)) (text : List ℕ) → at < length pieces →

@@ -24,7 +24,7 @@ use Rattle.command_line.specs.declared.source_options.PickOptions.TheVariants.{N
 use Rattle.command_line.specs.declared.source_options.SourceOptions.{SourceOptions}
 use Rattle.program_io.specs.declared.program_fault.ProgramFault.{ProgramFault}
 use Rattle.command_line.specs.Sources.{ReadTexts, files_of_options, picks_of_options, schedule_file, source_from}
-use Rattle.program_io.specs.AnswerText.{check_text}
+use Rattle.kernel_runs.specs.AnswerText.{check_text}
 use Rattle.program_io.specs.Options.{IsRead, IsSourceOf, KnownTexts, ReadsFiles, ReadsOrder, text_named}
 use Rattle.program_io.specs.Answers.{Answer, IsAnswerOfCone, IsAnswerOfDiff, IsAnswerOfInfo, IsAnswerOfTwin, IsDiffAnswer, IsTwinAnswer, answered, check_answer, diagram_answer, just, plain_answer, run_answer, stimuli_answer, trace_answer, why_answer, with_counts}
 use Rattle.program_io.specs.ProgramFaults.{fault_of_diagram, fault_of_driven}

@@ -1,7 +1,7 @@
 -- How the program without words ends, from how the run of what it read does.
 use Rattle.std.proofs.Common.{◌≡◌, ℕ, ◌+◌, List, take, Option, Some, None, Result, IfSome, IsOkAnd, refl, ap, subst, ◌∙◌}
 use Rattle.std.specs.Io.KnownBytes.{Appends}
-use Rattle.text_lines.specs.Text.{longest_text}
+use Rattle.texts.specs.Text.{longest_text}
 use Rattle.program_io.specs.declared.exit.Exit.{Exit}
 use Rattle.program_io.specs.declared.outcome.Outcome.{Outcome}
 use Rattle.program_io.specs.declared.program_fault.ProgramFault.{ProgramFault}

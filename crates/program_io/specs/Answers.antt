@@ -23,7 +23,7 @@ use Rattle.wave_diff.specs.declared.diff_ticks.DiffTicks.{DiffTicks}
 use Rattle.kernel_runs.specs.Diffs.{IsDiff, Pair, pair_of}
 use Rattle.plain_runs.specs.Explained.{why_of_source}
 use Rattle.circuit_info.specs.InfoText.{IsInfoAnswer}
-use Rattle.kernel_runs.specs.Traced.{trace_of_source}
+use Rattle.event_trace.specs.Traced.{trace_of_source}
 use Rattle.prepared_runs.specs.Prepared.{run_of_source}
 use Rattle.kernel_runs.specs.Simulated.{simulated}
 use Rattle.prepared_runs.specs.Source.{SourceView, dump_of_source}
@@ -32,7 +32,7 @@ use Rattle.program_io.specs.declared.outcome.Outcome.{Outcome}
 use Rattle.program_io.specs.declared.outcome.Outcome.TheVariants.{Done, Counted, Differing}
 use Rattle.program_io.specs.declared.program_fault.ProgramFault.{ProgramFault}
 use Rattle.program_io.specs.declared.program_fault.ProgramFault.TheVariants.{Read}
-use Rattle.program_io.specs.AnswerText.{check_text, twin_text}
+use Rattle.kernel_runs.specs.AnswerText.{check_text, twin_text}
 use Rattle.program_io.specs.Ends.{ForAnswer, ProgramEndsBy}
 use Rattle.program_io.specs.ProgramFaults.{fault_of_bench, fault_of_cone, fault_of_diagram, fault_of_diff, fault_of_driven, fault_of_run, fault_of_twin}
 

@@ -2,9 +2,9 @@
 use Rattle.std.specs.Prelude.{◌≡◌, ℕ, List, Option, Result, Err, IsOkAnd}
 use Rattle.std.specs.Io.KnownBytes.{Keeps}
 use Rattle.std.specs.Result.{result_map_both}
-use Rattle.text_lines.specs.Text.{◌>>=◌}
+use Rattle.texts.specs.Text.{◌>>=◌}
 use Rattle.vcd_dump.specs.declared.unit.TimeUnit.TheVariants.{Ns}
-use Rattle.vcd_dump.specs.Bytes.{AppendsPrefix}
+use Rattle.texts.specs.Written.{AppendsPrefix}
 use Rattle.vcd_dump.specs.Faults.{IsFailedWrite}
 use Rattle.prepared_runs.specs.declared.deck_fault.DeckFault.{DeckFault}
 use Rattle.prepared_runs.specs.declared.deck_fault.DeckFault.TheVariants.{Sim}

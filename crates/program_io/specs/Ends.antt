@@ -2,7 +2,7 @@
 use Rattle.std.specs.Prelude.{◌≡◌, ◌⊎◌, ℕ, List, Option, Result, Ok, Err}
 use Rattle.std.specs.Io.KnownBytes.{Appends, Keeps}
 use Rattle.vcd_dump.specs.declared.fault.DumpFault.{DumpFault}
-use Rattle.vcd_dump.specs.Bytes.{AppendsPrefix}
+use Rattle.texts.specs.Written.{AppendsPrefix}
 use Rattle.vcd_dump.specs.Faults.{IsFailedWrite}
 use Rattle.program_io.specs.declared.program_fault.ProgramFault.{ProgramFault}
 use Rattle.program_io.specs.declared.program_fault.ProgramFault.TheVariants.{Read, Output, Memory, Flush}

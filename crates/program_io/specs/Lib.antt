@@ -1,4 +1,3 @@
-pub mod AnswerText
 pub mod Answers
 pub mod Ends
 pub mod Place

@@ -1,7 +1,7 @@
 -- The runs that options request, and the texts of their files as they are read.
 use Rattle.std.specs.Prelude.{◌≡◌, ℕ, ◌+◌, List, [], take, unwrap_or, Option, None, Some, IfSome}
 use denote.Ref.{Bor}
-use Rattle.text_lines.specs.Text.{longest_text}
+use Rattle.texts.specs.Text.{longest_text}
 use Rattle.wave_diff.specs.declared.comparison.Side.{Side}
 use Rattle.wave_diff.specs.declared.comparison.Side.TheVariants.{First, Second}
 use Rattle.command_line.specs.declared.order.Order.{Order}

@@ -1,6 +1,6 @@
 -- Which text is at fault, or what else is, and the line that is printed for a fault.
 use Rattle.std.specs.Prelude.{ℕ, List, ◌++◌, codes, decimal}
-use Rattle.vcd_dump.specs.Dump.{line}
+use Rattle.texts.specs.Written.{line}
 use Rattle.prepared_runs.specs.declared.fault.SimFault.{SimFault}
 use Rattle.prepared_runs.specs.declared.fault.SimFault.TheVariants.{Setting, Bench, Timing, Stimulus, Schedule, UnknownNet, Dump}
 use Rattle.prepared_runs.specs.declared.fault.SimFault.TheVariants as sim

@@ -1,5 +1,7 @@
 -- Exit statuses.
 use Rattle.std.specs.Prelude.{ℕ}
+use Rattle.program_io.specs.declared.outcome.Outcome.{Outcome}
+use Rattle.program_io.specs.declared.outcome.Outcome.TheVariants.{Done, Counted, Differing}
 use Rattle.program_io.specs.declared.program_fault.ProgramFault.{ProgramFault}
 use Rattle.program_io.specs.declared.program_fault.ProgramFault.TheVariants.{Read, Deck, Run, Columns, Drives, Compared, Output, Memory, Flush}
 
@@ -14,3 +16,9 @@ status_of (Read name) = 3
 status_of (Output fault) = 3
 status_of Flush = 3
 status_of Memory = 4
+
+-- 5 if what was compared differs
+abbrev pub status_of_outcome : Outcome → ℕ
+status_of_outcome Done = 0
+status_of_outcome (Counted counts) = 0
+status_of_outcome Differing = 5

@@ -8,15 +8,16 @@ ghost use Rattle.prepared_runs.specs.Source.{seen_source};
 ghost use Rattle.prepared_runs.specs.Reported.{IsProgress, IsTickByTick, Reported};
 ghost use Rattle.program_io.specs.Answers.{AnswerEndsBy, DumpsAndCounts, GoesOut, IsAnswerOfCone, IsAnswerOfDiff, IsAnswerOfInfo, IsAnswerOfTwin, IsNoRead, check_answer, diagram_answer, outcome_of, plain_answer, run_answer, stimuli_answer, trace_answer, why_answer};
 
-use crate::answer_text::{check_text, twin_text};
 use crate::outcome::Outcome;
 use crate::output::{flush, write_text};
 use crate::program_fault::ProgramFault;
 use circuit_info::info;
 use drawn_stimuli::{Draws, Driven, stimuli};
+use event_trace::trace;
 use fanin_cone::cone_text;
 use kernel_runs::{
-    DiffTicks, check, diff, simulate_with_progress, sweep_with_progress, trace, twin,
+    DiffTicks, check, check_text, diff, simulate_with_progress, sweep_with_progress, twin,
+    twin_text,
 };
 use plain_runs::{DiagramView, diagram, plain_with_progress, why};
 use prepared_runs::{DumpView, Progress, SimFault, Source};
@@ -30,7 +31,7 @@ use std::io::Write;
 /// # Errors
 /// If the source or the view is refused, nothing is written. After a failed write or allocation, a prefix of
 /// the dump has been written; after a failed flush, all of it.
-pub fn write_run<W: Write, P: Progress>(
+pub(crate) fn write_run<W: Write, P: Progress>(
     alloc: Global,
     source: &Source<'_>,
     view: &DumpView<'_>,
@@ -79,7 +80,7 @@ fn dump_and_count<W: Write, P: Progress>(
 ///
 /// # Errors
 /// As for [`write_run`].
-pub fn write_plain<W: Write, P: Progress>(
+pub(crate) fn write_plain<W: Write, P: Progress>(
     alloc: Global,
     source: &Source<'_>,
     view: &DumpView<'_>,
@@ -102,7 +103,7 @@ pub fn write_plain<W: Write, P: Progress>(
 ///
 /// # Errors
 /// As for [`write_run`].
-pub fn write_diagram<W: Write>(
+pub(crate) fn write_diagram<W: Write>(
     alloc: Global,
     source: &Source<'_>,
     view: &DiagramView<'_>,
@@ -123,7 +124,7 @@ pub fn write_diagram<W: Write>(
 ///
 /// # Errors
 /// As for [`write_run`].
-pub fn write_trace<W: Write>(
+pub(crate) fn write_trace<W: Write>(
     alloc: Global,
     source: &Source<'_>,
     horizon: u64,
@@ -145,7 +146,7 @@ pub fn write_trace<W: Write>(
 /// # Errors
 /// If the netlist or a name is refused, nothing is written. After a failed write, a prefix of the text has been
 /// written; after a failed flush, all of it.
-pub fn write_cone<W: Write>(
+pub(crate) fn write_cone<W: Write>(
     alloc: Global,
     bench: &[u8],
     names: &[&[u8]],
@@ -167,7 +168,7 @@ pub fn write_cone<W: Write>(
 /// # Errors
 /// If the netlist is refused, nothing is written. After a failed write, a prefix of the text has been written;
 /// after a failed flush, all of it.
-pub fn write_info<W: Write>(
+pub(crate) fn write_info<W: Write>(
     alloc: Global,
     bench: &[u8],
     out: &mut W,
@@ -186,7 +187,7 @@ pub fn write_info<W: Write>(
 ///
 /// # Errors
 /// As for [`write_twin`].
-pub fn write_diff<W: Write>(
+pub(crate) fn write_diff<W: Write>(
     alloc: Global,
     first: &Source<'_>,
     second: &Source<'_>,
@@ -221,7 +222,7 @@ fn outcome_of(same: bool) -> Outcome
 /// # Errors
 /// If a source or the net's name is refused, nothing is written. After a failed write, a prefix of the lines
 /// has been written; after a failed flush, all of them.
-pub fn write_twin<W: Write>(
+pub(crate) fn write_twin<W: Write>(
     alloc: Global,
     first: &Source<'_>,
     second: &Source<'_>,
@@ -245,7 +246,7 @@ pub fn write_twin<W: Write>(
 ///
 /// # Errors
 /// As for [`write_twin`].
-pub fn write_check<W: Write>(
+pub(crate) fn write_check<W: Write>(
     alloc: Global,
     source: &Source<'_>,
     horizon: u64,
@@ -267,7 +268,7 @@ pub fn write_check<W: Write>(
 ///
 /// # Errors
 /// As for [`write_twin`].
-pub fn write_why<W: Write>(
+pub(crate) fn write_why<W: Write>(
     alloc: Global,
     source: &Source<'_>,
     name: &[u8],
@@ -290,7 +291,7 @@ pub fn write_why<W: Write>(
 /// # Errors
 /// If the horizon, the netlist or a drive is refused, nothing is written. After a failed write, a prefix of the
 /// text has been written; after a failed flush, all of it.
-pub fn write_stimuli<W: Write>(
+pub(crate) fn write_stimuli<W: Write>(
     alloc: Global,
     bench: &[u8],
     drives: &[Driven<'_>],

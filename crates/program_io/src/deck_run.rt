@@ -8,7 +8,8 @@ ghost use Rattle.prepared_runs.specs.declared.deck_fault.DeckFault.TheVariants.{
 ghost use Rattle.program_io.specs.Answers.{AnswerEndsBy, GoesOut, IsNoRead};
 ghost use Rattle.program_io.specs.DeckRun.{DeckEndsBy, DeckMayWantMemory, deck_answer, dump_of_deck, simulated_deck, source_of_deck, view_of_deck};
 
-use crate::{Outcome, ProgramFault, write_run};
+use crate::answers::write_run;
+use crate::{Outcome, ProgramFault};
 use kernel_runs::{Report, simulate};
 use prepared_runs::{
     DeckFault, DumpView, Picks, Sections, Show, Silent, Source, View, read_sections,

@@ -1,13 +1,13 @@
 //! Reading texts from any reader.
 ghost use Rattle.std.specs.Prelude.{◌≡◌, ◌+◌, ◌<◌, ◌≤◌, IfErr, IfOk, IfSome, length, take};
 ghost use Rattle.std.specs.Io.KnownBytes.{Consumes};
-ghost use Rattle.text_lines.specs.Text.{longest_text};
+ghost use Rattle.texts.specs.Text.{longest_text};
 ghost use Rattle.program_io.specs.Reading.{ReadingEndsBy, ReadsMore, StopsBy};
 ghost use Rattle.program_io.specs.declared.input.ReadFault.TheVariants.{Memory};
 
 use std::alloc::{AllocError, Global};
 use std::io::Read;
-use text_lines::LONGEST_TEXT;
+use texts::LONGEST_TEXT;
 use thiserror::Error;
 
 /// Why a text couldn't be read.
@@ -29,8 +29,9 @@ impl From<AllocError> for ReadFault {
     }
 }
 
-/// The most bytes that are read: one more than the longest accepted text has, so that a longer text is noticed.
-const MOST_READ: usize = LONGEST_TEXT + 1;
+/// The most bytes of a text that are read or kept: one more than the longest accepted text has, so that a longer
+/// text is noticed.
+pub(crate) const MOST_READ: usize = LONGEST_TEXT + 1;
 
 /// The most bytes of one call of the reader.
 const PIECE: usize = 4096;

@@ -2,13 +2,13 @@
 //! ended early.
 #![tactic(auto)]
 
-mod answer_text;
 mod answers;
 mod deck_run;
 mod exit;
 mod fault_line;
 mod input;
 pub mod laws;
+mod named_texts;
 mod order_run;
 mod order_texts;
 mod outcome;
@@ -17,21 +17,15 @@ mod place;
 mod program_fault;
 pub mod status;
 mod teller;
-mod texts;
 
-pub use answers::{
-    write_check, write_cone, write_diagram, write_diff, write_info, write_plain, write_run,
-    write_stimuli, write_trace, write_twin, write_why,
-};
 pub use deck_run::deck;
 pub use exit::Exit;
-pub use fault_line::{report, write_fault_line};
+pub use fault_line::report;
 pub use input::{ReadFault, read_text};
+pub use named_texts::Texts;
 pub use order_run::write_answer;
 pub use order_texts::{OrderTexts, read_texts};
-pub use outcome::Outcome;
-pub use output::{flush, write_pieces, write_text};
-pub use place::fault_place;
+pub use outcome::{Outcome, report_outcome};
+pub use output::write_text;
 pub use program_fault::ProgramFault;
 pub use teller::{answer_deck, tell};
-pub use texts::Texts;

@@ -5,11 +5,11 @@ ghost use Rattle.program_io.specs.OrderAnswer.{IsAnswerTo};
 ghost use Rattle.program_io.specs.Progress.{BrokenTicks, DoneTicks, horizon_reported};
 ghost use Rattle.prepared_runs.specs.Reported.{Reported};
 
-use crate::order_texts::OrderTexts;
-use crate::{
-    Outcome, ProgramFault, write_check, write_cone, write_diagram, write_diff, write_info,
-    write_plain, write_run, write_stimuli, write_trace, write_twin, write_why,
+use crate::answers::{
+    write_check, write_cone, write_diagram, write_diff, write_info, write_plain, write_run,
+    write_stimuli, write_trace, write_twin, write_why,
 };
+use crate::{OrderTexts, Outcome, ProgramFault};
 use command_line::Order;
 use prepared_runs::Progress;
 use std::alloc::Global;

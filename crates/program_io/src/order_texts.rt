@@ -4,14 +4,12 @@ ghost use Rattle.program_io.specs.Options.{IsRead, ReadsFiles, ReadsOrder, text_
 ghost use Rattle.program_io.specs.Readings.{ReadsAll, StopsBy, files_of, if_named, names_in};
 
 use crate::ProgramFault;
-use crate::texts::Texts;
+use crate::input::MOST_READ;
+use crate::named_texts::Texts;
 use command_line::{Files, Order, ReadTexts};
 use prepared_runs::RunTexts;
 use std::alloc::Global;
 use wave_diff::Side;
-
-/// The most bytes of a text that are kept: one more than an accepted text may have.
-const MOST: usize = 16_777_217;
 
 /// The texts of an order's files as they were read: each text whole, or its first 16,777,217 bytes. The text of a
 /// file that isn't named is empty.
@@ -101,7 +99,7 @@ fn file_text<'a, T: Texts>(
     };
     match texts.text(name) {
         Ok(mut text) => {
-            text.truncate(MOST);
+            text.truncate(MOST_READ);
             Ok(text)
         }
         Err(fault) => Err(ProgramFault::of_read(fault, name)),

@@ -2,14 +2,15 @@
 ghost use Rattle.std.specs.Prelude.{◌≡◌, map, IfErr, OnErr, OnOk};
 ghost use Rattle.std.specs.List.{concat};
 ghost use Rattle.std.specs.Io.KnownBytes.{Appends, Keeps};
-ghost use Rattle.vcd_dump.specs.Bytes.{AppendsPrefix};
+ghost use Rattle.texts.specs.Written.{AppendsPrefix};
 ghost use Rattle.vcd_dump.specs.Faults.{IsFailedWrite};
 ghost use Rattle.program_io.specs.Ends.{WriteEndsBy};
 ghost use Rattle.program_io.specs.declared.program_fault.ProgramFault.TheVariants.{Flush};
 
 use crate::program_fault::ProgramFault;
 use std::io::Write;
-use vcd_dump::{DumpFault, write_all_bytes};
+use texts::write_all_bytes;
+use vcd_dump::DumpFault;
 
 /// Writes a text and flushes once.
 ///
@@ -21,7 +22,7 @@ pub fn write_text<W: Write>(out: &mut W, text: &[u8]) -> Result<(), ProgramFault
 {
     match write_all_bytes(out, text) {
         Ok(()) => flush(out),
-        Err(fault) => Err(ProgramFault::Output(fault)),
+        Err(fault) => Err(ProgramFault::Output(DumpFault::from(fault))),
     }
 }
 
@@ -29,7 +30,7 @@ pub fn write_text<W: Write>(out: &mut W, text: &[u8]) -> Result<(), ProgramFault
 ///
 /// # Errors
 /// `Write` or `WroteNothing` of the first write that failed; a prefix of the texts has then been written.
-pub fn write_pieces<W: Write>(out: &mut W, pieces: &[&str]) -> Result<(), DumpFault>
+pub(crate) fn write_pieces<W: Write>(out: &mut W, pieces: &[&str]) -> Result<(), DumpFault>
     ensures ok { OnOk result (Appends (W.contents out.old) (W.contents out.new)
         (concat (map (λ piece. piece.now) pieces.now))) }
     ensures err { OnErr result (AppendsPrefix (W.contents out.old) (W.contents out.new)
@@ -46,7 +47,7 @@ pub fn write_pieces<W: Write>(out: &mut W, pieces: &[&str]) -> Result<(), DumpFa
 ///
 /// # Errors
 /// `Flush` if that fails.
-pub fn flush<W: Write>(out: &mut W) -> Result<(), ProgramFault<'static>>
+pub(crate) fn flush<W: Write>(out: &mut W) -> Result<(), ProgramFault<'static>>
     ensures kept { Keeps (W.contents out.old) (W.contents out.new) }
     ensures err { IfErr result (λ fault. fault ≡ Flush) }
 {

@@ -7,7 +7,7 @@ use crate::program_fault::ProgramFault;
 use prepared_runs::{RunTexts, SimFault};
 
 /// Returns the WHERE of the line of a fault: the name of the text at fault, or of what else is.
-pub fn fault_place<'a>(fault: ProgramFault<'a>, names: RunTexts<&'a str>) -> &'a str
+pub(crate) fn fault_place<'a>(fault: ProgramFault<'a>, names: RunTexts<&'a str>) -> &'a str
     ensures { result.now ≡ place_of (seen names.entry) fault.entry }
 {
     match fault {

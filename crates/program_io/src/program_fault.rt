@@ -87,7 +87,7 @@ impl<'a> ProgramFault<'a> {
     }
 
     /// Returns the fault of reading the text with this name.
-    pub fn of_read(fault: ReadFault, name: &'a str) -> ProgramFault<'a>
+    pub(crate) fn of_read(fault: ReadFault, name: &'a str) -> ProgramFault<'a>
         ensures { result ≡ fault_of_read name.entry fault }
     {
         match fault {

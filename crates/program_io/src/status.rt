@@ -8,19 +8,19 @@ use crate::program_fault::ProgramFault;
 pub const DONE: u8 = 0;
 
 /// An input is refused.
-pub const REFUSED: u8 = 1;
+pub(crate) const REFUSED: u8 = 1;
 
 /// The arguments are wrong.
 pub const WRONG_WORDS: u8 = 2;
 
 /// A read or a write failed.
-pub const FAILED: u8 = 3;
+pub(crate) const FAILED: u8 = 3;
 
 /// An allocation failed.
-pub const NO_MEMORY: u8 = 4;
+pub(crate) const NO_MEMORY: u8 = 4;
 
 /// What was compared differs.
-pub const DIFFERENT: u8 = 5;
+pub(crate) const DIFFERENT: u8 = 5;
 
 /// Returns the exit status of a fault.
 pub(crate) fn status(fault: ProgramFault<'_>) -> u8

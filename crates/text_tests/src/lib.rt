@@ -4,8 +4,8 @@
 #[cfg(test)]
 mod flow;
 #[cfg(test)]
-mod reading;
+mod lines;
 #[cfg(test)]
-mod texts;
+mod reading;
 #[cfg(test)]
 mod timing;

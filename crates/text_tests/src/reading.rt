@@ -1,5 +1,5 @@
 //! Reading and writing .bench texts: further faults and keywords, and the limits.
-use crate::texts::longest;
+use crate::lines::longest;
 use bench_text::{BenchFault, Netlist, read, write};
 use std::alloc::{AllocError, Global};
 use std::process::Abort;

@@ -1,5 +1,5 @@
 //! Delay texts, stimulus texts and settings: what is refused, and with which fault, beside what `caller_tests` has.
-use crate::texts::longest;
+use crate::lines::longest;
 use bench_text::read;
 use design::{BuildFault, Design};
 use logic3::Value;

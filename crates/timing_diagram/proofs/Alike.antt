@@ -4,7 +4,7 @@ use Rattle.std.proofs.Math.Nat.{div-mul-le_self, mul-le-mul_right}
 use Rattle.std.specs.List.{range_with_len, enumerate_from}
 use Rattle.logic3.specs.declared.value.Value.{Value}
 use Rattle.logic3.proofs.CallerLemmas.{changes_between-same}
-use Rattle.text_lines.specs.Text.{is_empty}
+use Rattle.texts.specs.Text.{is_empty}
 use Rattle.vcd_dump.specs.Dump.{Trace}
 use Rattle.timing_diagram.specs.declared.form.Form.{Form}
 use Rattle.timing_diagram.specs.declared.form.Form.TheVariants.{Text, Svg}

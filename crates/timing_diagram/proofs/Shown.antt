@@ -10,8 +10,8 @@ use Rattle.logic3.proofs.CallerLemmas.{is_same-true}
 use Rattle.timing_diagram.specs.declared.mark.Mark.TheVariants.{Changing}
 use Rattle.timing_diagram.specs.Columns.{Ticks, column_count, first_tick, last_tick}
 use Rattle.timing_diagram.specs.Marks.{is_steady, has_edge, level_mark, mark_at}
-use Rattle.timing_diagram.specs.Drawing.{mark_byte, marks_text}
-use Rattle.timing_diagram.specs.Read.{value_of_character, steady_value}
+use Rattle.timing_diagram.specs.Drawing.{mark_byte}
+use Rattle.timing_diagram.specs.Read.{column_value, drawn_value, value_of_character}
 use Rattle.timing_diagram.proofs.Steady.{changes_there}
 
 at_range : (f : ℕ → ℕ) (from count k : ℕ) → k < count → slice_get (map f (range_with_len from count)) k ≡ Some (f (from + k))
@@ -32,8 +32,7 @@ mark_back true true Unknown = refl
 mark_back true false Unknown = refl
 
 pub column_back : (signal : ℕ → Value) (ticks : Ticks) (column : ℕ) → column < column_count ticks →
-    option_and_then value_of_character (slice_get (marks_text signal ticks) column)
-    ≡ steady_value signal (first_tick ticks column) (last_tick ticks column)
+    drawn_value signal ticks column ≡ column_value signal ticks column
 column_back signal ticks column inside =
     let here : 0 + column ≡ column = omega arith in
     ap (option_and_then value_of_character)

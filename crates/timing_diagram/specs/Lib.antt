@@ -1,4 +1,3 @@
-pub use Rattle.vcd_dump.specs.Bytes
 pub use Rattle.vcd_dump.specs.Traces
 pub use Rattle.logic3.specs.Wave
 pub use Rattle.design.specs.Circuit

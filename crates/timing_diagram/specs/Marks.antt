@@ -4,7 +4,7 @@ use Rattle.logic3.specs.declared.value.Value.{Value}
 use Rattle.logic3.specs.declared.value.Value.TheVariants.{Zero, One, Unknown}
 use Rattle.logic3.specs.Value.{is_same}
 use Rattle.logic3.specs.Wave.{changes_between}
-use Rattle.text_lines.specs.Text.{is_empty}
+use Rattle.texts.specs.Text.{is_empty}
 use Rattle.timing_diagram.specs.declared.mark.Mark.{Mark}
 use Rattle.timing_diagram.specs.declared.mark.Mark.TheVariants.{Low, Fall, High, Rise, Unsure, Changing}
 use Rattle.timing_diagram.specs.Columns.{Ticks, first_tick, last_tick}

@@ -1,7 +1,8 @@
 -- The text of a drawing as a picture.
-use Rattle.std.specs.Prelude.{ℕ, ◌+◌, ◌*◌, ◌/◌, ◌==◌, if◌then◌else◌, min, max, List, [], ◌∷◌, ◌++◌, length, flat_map, codes, decimal}
+use Rattle.std.specs.Prelude.{ℕ, ◌+◌, ◌*◌, ◌/◌, ◌==◌, if◌then◌else◌, min, max, List, [], ◌∷◌, ◌++◌, length, flat_map, codes}
 use Rattle.std.specs.List.{enumerate_from, range_with_len}
 use Rattle.logic3.specs.declared.value.Value.{Value}
+use Rattle.texts.specs.Written.{numbered}
 use Rattle.vcd_dump.specs.Dump.{Trace}
 use Rattle.timing_diagram.specs.declared.mark.Mark.{Mark}
 use Rattle.timing_diagram.specs.declared.mark.Mark.TheVariants.{Low, Fall, High, Rise, Unsure, Changing}
@@ -12,10 +13,6 @@ use Rattle.timing_diagram.specs.Marks.{mark_at}
 abbrev pub widest : List Trace → ℕ
 widest [] = 0
 widest ((name, signal) ∷ traces) = max (length name) (widest traces)
-
--- a number after a text
-abbrev pub numbered : List ℕ → ℕ → List ℕ
-numbered text number = text ++ decimal number
 
 -- a byte escaped for XML
 abbrev pub escaped_byte : ℕ → List ℕ

@@ -1,7 +1,10 @@
 -- What the columns of a drawing show.
-use Rattle.std.specs.Prelude.{ℕ, ◌==◌, ◌||◌, if◌then◌else◌, Option, None, Some}
+use Rattle.std.specs.Prelude.{ℕ, ◌==◌, ◌||◌, if◌then◌else◌, Option, None, Some, slice_get}
+use Rattle.std.specs.Option.{option_and_then}
 use Rattle.logic3.specs.declared.value.Value.{Value}
 use Rattle.logic3.specs.declared.value.Value.TheVariants.{Zero, One, Unknown}
+use Rattle.timing_diagram.specs.Columns.{Ticks, first_tick, last_tick}
+use Rattle.timing_diagram.specs.Drawing.{marks_text}
 use Rattle.timing_diagram.specs.Marks.{is_steady}
 
 -- the value of a character, if it shows one
@@ -12,6 +15,11 @@ value_of_character byte =
     else if byte == 120 then Some Unknown
     else None
 
--- the value that a signal has from one tick to another, if it is constant
-abbrev pub steady_value : (ℕ → Value) → ℕ → ℕ → Option Value
-steady_value signal first last = if is_steady signal first last then Some (signal first) else None
+-- the value that the characters drawn for a signal show in a column, if any
+abbrev pub drawn_value : (ℕ → Value) → Ticks → ℕ → Option Value
+drawn_value signal ticks column = option_and_then value_of_character (slice_get (marks_text signal ticks) column)
+
+-- the value that a signal has at every tick of a column, if it is constant there
+abbrev pub column_value : (ℕ → Value) → Ticks → ℕ → Option Value
+column_value signal ticks column =
+    if is_steady signal (first_tick ticks column) (last_tick ticks column) then Some (signal (first_tick ticks column)) else None

@@ -1,6 +1,6 @@
 ghost use Rattle.std.specs.Prelude.{◌≡◌, ◌≢◌, ◌<◌, ◌≤◌, ◌++◌, length, All, OnOk, OnErr, IfErr, Err};
 ghost use Rattle.std.specs.Io.KnownBytes.{Appends};
-ghost use Rattle.vcd_dump.specs.Bytes.{AppendsPrefix};
+ghost use Rattle.texts.specs.Written.{AppendsPrefix};
 ghost use Rattle.vcd_dump.specs.Traces.{traces};
 ghost use Rattle.timing_diagram.specs.Drawing.{drawing};
 
@@ -12,7 +12,8 @@ use design::Design;
 use logic3::Waveform;
 use std::alloc::{AllocError, Global};
 use std::io::Write;
-use vcd_dump::{DumpFault, write_all_bytes};
+use texts::write_all_bytes;
+use vcd_dump::DumpFault;
 
 fn push_drawing(
     text: &mut Vec<u8>,
@@ -67,5 +68,6 @@ pub fn draw<W: Write>(
 {
     let mut text = Vec::new(alloc);
     push_drawing(&mut text, design, shown, waves, columns, form)?;
-    write_all_bytes(out, text.as_slice())
+    write_all_bytes(out, text.as_slice())?;
+    Ok(())
 }

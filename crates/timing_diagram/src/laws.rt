@@ -1,20 +1,17 @@
 //! Facts about the definitions alone.
-ghost use Rattle.std.specs.Prelude.{◌≡◌, ℕ, ◌<◌, ◌≤◌, ◌==◌, true, false, List, slice_get};
+ghost use Rattle.std.specs.Prelude.{◌≡◌, ℕ, ◌<◌, ◌≤◌, ◌==◌, true, false, List};
 ghost use Rattle.std.specs.List.{list_any};
-ghost use Rattle.std.specs.Option.{option_and_then};
 ghost use Rattle.logic3.specs.declared.value.Value.{Value};
-ghost use Rattle.timing_diagram.specs.Columns.{Ticks, column_count, first_tick, last_tick};
-ghost use Rattle.timing_diagram.specs.Drawing.{marks_text};
+ghost use Rattle.timing_diagram.specs.Columns.{Ticks, column_count};
 ghost use Rattle.timing_diagram.specs.Marks.{is_steady};
 ghost use Rattle.timing_diagram.specs.Picture.{escaped};
-ghost use Rattle.timing_diagram.specs.Read.{value_of_character, steady_value};
+ghost use Rattle.timing_diagram.specs.Read.{drawn_value, column_value};
 
 /// The character of a column shows the value that the signal has at every tick of the column, and no
 /// value if the signal changes within the column.
 pub fn columns_show_the_signal()
     ensures shown { (signal : ℕ → Value) (ticks : Ticks) (column : ℕ) → column < column_count ticks →
-        option_and_then value_of_character (slice_get (marks_text signal ticks) column)
-        ≡ steady_value signal (first_tick ticks column) (last_tick ticks column) }
+        drawn_value signal ticks column ≡ column_value signal ticks column }
     ensures steady { (signal : ℕ → Value) (first last tick : ℕ) → is_steady signal first last ≡ true →
         first ≤ tick → tick ≤ last → signal tick ≡ signal first }
 {}

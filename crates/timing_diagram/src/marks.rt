@@ -7,18 +7,14 @@ use crate::columns::Columns;
 use crate::mark::Mark;
 use logic3::{Value, Waveform};
 
-// Returns whether a waveform is constant from one tick to another. Takes logarithmic time.
+/// Returns whether a waveform is constant from one tick to another. Takes logarithmic time.
 fn is_steady(wave: &Waveform, first: u64, last: u64) -> bool
     ensures { result ≡ is_steady (value_at wave.now) first last }
 {
-    let changes = wave.changes();
-    let due = changes.partition_point(|change| change.tick <= first);
-    match changes[due..].first() {
-        Some(change) => change.tick > last,
-        None => true,
-    }
+    wave.next_change_after(first).is_none_or(|next| next > last)
 }
 
+/// Returns the mark of a value, with an edge before it or without.
 fn level_mark(edge: bool, value: Value) -> Mark
     ensures { result ≡ level_mark edge value }
 {

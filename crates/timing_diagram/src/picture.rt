@@ -12,7 +12,7 @@ use crate::text::widest;
 use design::Design;
 use logic3::Waveform;
 use std::alloc::AllocError;
-use vcd_dump::push_numbered;
+use texts::push_numbered;
 
 fn push_escaped_byte(text: &mut Vec<u8>, byte: u8) -> Result<(), AllocError>
     ensures { OnOk result (text.new.items ≡ text.old.items ++ escaped_byte byte) }

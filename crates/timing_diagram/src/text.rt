@@ -10,9 +10,9 @@ use crate::mark::Mark;
 use crate::marks::mark_at;
 use crate::pieces::push_times;
 use design::Design;
-use itoa::Buffer;
 use logic3::Waveform;
 use std::alloc::AllocError;
+use texts::push_number;
 
 fn mark_byte(mark: Mark) -> u8
     ensures { result ≡ mark_byte mark }
@@ -60,10 +60,9 @@ fn push_label(text: &mut Vec<u8>, columns: Columns, place: u64) -> Result<(), Al
     requires { 10 * place < column_count columns }
     ensures { OnOk result (text.new.items ≡ text.old.items ++ ruler_label columns place) }
 {
-    let mut buffer = Buffer::new();
-    let tick = buffer.format(columns.first(10 * place)).as_bytes();
-    text.extend_from_slice(tick)?;
-    push_times(text, b'.', 10usize.saturating_sub(tick.len()))
+    let start = text.len();
+    push_number(text, columns.first(10 * place))?;
+    push_times(text, b'.', 10usize.saturating_sub(text.len() - start))
 }
 
 fn push_ruler(text: &mut Vec<u8>, width: usize, columns: Columns) -> Result<(), AllocError>

@@ -9,8 +9,8 @@ use Rattle.std.proofs.lemmas.Grind.{get_or-set_at}
 use Rattle.std.proofs.lemmas.List.{ext_get_or, get_or-map, length-map, map-set}
 use Rattle.std.proofs.lemmas.List.FromFn.{fill_by_all, get_or-map-range_with_len, length-map-range_with_len}
 use Rattle.std.proofs.lemmas.List.Sums.{fold_push}
-use Rattle.text_lines.specs.Text.{◌>>=◌, code_lines, longest_text}
-use Rattle.text_lines.specs.Fold.{fold_lines}
+use Rattle.texts.specs.Text.{◌>>=◌, code_lines, longest_text}
+use Rattle.texts.specs.Fold.{fold_lines}
 use Rattle.netlist.specs.Netlist.{NetView, NetlistView, net_at}
 use Rattle.timing_text.specs.declared.fault.DelayFault.{DelayFault}
 use Rattle.timing_text.specs.declared.fault.DelayFault.TheVariants.{TooLong, Twice}
@@ -22,7 +22,7 @@ use Rattle.timing_text.specs.declared.line.Version.{Version}
 use Rattle.timing_text.specs.TimingLines.{HasPin, NetProperty, property_or_fault}
 use Rattle.timing_text.specs.GivenSoFar.{given_to_net, given_to_nets, is_given, seen_given, with_given}
 use Rattle.timing_text.specs.Timings.{has_kind, net_lines, no_properties, properties_after, properties_in, properties_named, properties_of, unless_twice, version_of, wire_named, with_property, with_wire}
-use Rattle.text_lines.proofs.CallerLemmas.{fold_lines-next, unless_too_long-short}
+use Rattle.texts.proofs.CallerLemmas.{fold_lines-next, unless_too_long-short}
 use Rattle.netlist.proofs.CallerLemmas.{bytes_eq-same, bytes_eq-other, HasDistinctNames, names-differ, no_net}
 
 -- ---- a further line

@@ -3,12 +3,12 @@ use Rattle.std.proofs.Common.{◌≡◌, ℕ, ◌<◌, ◌≤◌, true, false, c
 use Rattle.std.proofs.lemmas.List.{get_or-map, length-map}
 use Rattle.logic3.specs.declared.change.Change.{Change}
 use Rattle.logic3.specs.Rising.{TicksRise}
-use Rattle.text_lines.specs.Text.{◌>>=◌, code_lines, longest_text}
-use Rattle.text_lines.specs.Fold.{fold_lines, fold_text}
+use Rattle.texts.specs.Text.{◌>>=◌, code_lines, longest_text}
+use Rattle.texts.specs.Fold.{fold_lines, fold_text}
 use Rattle.netlist.specs.Netlist.{NetView, NetlistView, net_at}
 use Rattle.timing_text.specs.declared.fault.StimulusFault.TheVariants.{TooLong, NotRising}
 use Rattle.timing_text.specs.Stimuli.{NamedChange, stimulus_or_fault, with_stimulus, stimuli_after, stimuli_of, net_stimuli, stimuli_named}
-use Rattle.text_lines.proofs.CallerLemmas.{fold_lines-next, unless_too_long-short}
+use Rattle.texts.proofs.CallerLemmas.{fold_lines-next, unless_too_long-short}
 use Rattle.netlist.proofs.CallerLemmas.{HasDistinctNames, no_net, map-named}
 use Rattle.timing_text.proofs.Rising.{is_reached, is_after_last, is_reached-last}
 use Rattle.timing_text.proofs.StimuliNamed.{TicksRise-more, stimuli_named-own, stimuli_named-others}

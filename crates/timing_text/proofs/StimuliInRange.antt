@@ -10,8 +10,8 @@ use Rattle.logic3.specs.declared.change.Change.{Change}
 use Rattle.netlist.specs.declared.part.Part.{Part}
 use Rattle.netlist.specs.declared.part.Part.TheVariants.{Input, Gate, Flop}
 use Rattle.logic3.specs.Rising.{TicksRise}
-use Rattle.text_lines.specs.Text.{code_lines}
-use Rattle.text_lines.specs.Fold.{fold_text}
+use Rattle.texts.specs.Text.{code_lines}
+use Rattle.texts.specs.Fold.{fold_text}
 use Rattle.netlist.specs.Netlist.{NetView, NetlistView, net_named, net_at}
 use Rattle.timing_text.specs.declared.fault.StimulusFault.TheVariants.{TooLong, BadLine, NotAnInput, TickTooLarge, BadValue, NotRising}
 use Rattle.timing_text.specs.Ranges.{most_ticks, HasStimuli}
@@ -21,7 +21,7 @@ use Rattle.timing_text.specs.Stimuli.{StimulusLine, NamedChange, named_change, s
 use Rattle.netlist.proofs.CallerLemmas.{HasDistinctNames, no_net, net_at-named, names-differ}
 use Rattle.timing_text.proofs.Rising.{is_reached}
 use Rattle.timing_text.proofs.StimuliNamed.{TicksRise-more}
-use Rattle.text_lines.proofs.CallerLemmas.{bind-Ok, fold_lines-keeps, unless_too_long-Ok}
+use Rattle.texts.proofs.CallerLemmas.{bind-Ok, fold_lines-keeps, unless_too_long-Ok}
 
 -- a change of the input of this number, not past the last tick
 record IsStimulus (netlist : NetlistView) (s : NamedChange) : Type 0 where

@@ -4,7 +4,7 @@ use Rattle.std.specs.Option.{ok_or}
 use Rattle.std.proofs.lemmas.Bool.Decides.{nat_tests}
 use Rattle.netlist.specs.declared.part.Part.{Part}
 use Rattle.netlist.specs.Netlist.{NetView, NetlistView, net_named, net_at}
-use Rattle.text_lines.specs.Text.{◌>>=◌}
+use Rattle.texts.specs.Text.{◌>>=◌}
 use Rattle.timing_text.specs.declared.fault.DelayFault.{DelayFault}
 use Rattle.timing_text.specs.declared.fault.DelayFault.TheVariants.{BadLine, UnknownNet}
 use Rattle.timing_text.specs.declared.line.Clock.{Clock}

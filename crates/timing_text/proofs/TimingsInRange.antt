@@ -9,7 +9,7 @@ use Rattle.std.proofs.lemmas.List.FromFn.{length-map-range_with_len}
 use Rattle.logic3.specs.declared.value.Value.{Value}
 use Rattle.netlist.specs.declared.part.Part.{Part}
 use Rattle.netlist.specs.declared.part.Part.TheVariants.{Input, Gate, Flop}
-use Rattle.text_lines.specs.Text.{◌>>=◌, code_lines, is_plain, number_of, words_of}
+use Rattle.texts.specs.Text.{◌>>=◌, code_lines, is_plain, number_of, words_of}
 use Rattle.netlist.specs.Netlist.{NetView, NetlistView}
 use Rattle.timing_text.specs.declared.fault.DelayFault.TheVariants.{TooLong, BadLine, UnknownNet, IsInput, NotAFlop, BadPin, BadTicks, BadPeriod, BadPhase, BadValue, Twice}
 use Rattle.timing_text.specs.declared.line.Clock.{Clock}
@@ -27,7 +27,7 @@ use Rattle.timing_text.specs.TimingLines.{NetProperty, TimingLine, delay_said, l
 use Rattle.timing_text.specs.Timings.{IsFirstVersion, has_kind, net_lines, no_properties, properties_after, properties_in, properties_named, properties_of, timing_of_net, timing_of_part, unless_twice, version_of, wire_named, wires_of_net, with_property, with_wire}
 use Rattle.netlist.specs.Part.{is_flop, is_input}
 use Rattle.timing_text.specs.Words.{find_net}
-use Rattle.text_lines.proofs.CallerLemmas.{bind-Ok, fold_lines-keeps, unless_too_long-Ok}
+use Rattle.texts.proofs.CallerLemmas.{bind-Ok, fold_lines-keeps, unless_too_long-Ok}
 use Rattle.timing_text.proofs.GivenProperties.{properties_named-more, wire_named-more}
 
 -- ---- what each line keeps

@@ -1,14 +1,16 @@
 -- What is kept of each net while the lines of a delay text are read.
-use Rattle.std.specs.Prelude.{ℕ, Bool, List, length, map, slice_index_or, slice_set, Option, None, Some}
+use Rattle.std.specs.Prelude.{ℕ, Bool, List, length, map, slice_index_or, slice_set, Option, None, Some, Result}
 use Rattle.std.specs.List.{range_with_len}
 use Rattle.std.specs.Option.{is_some}
+use Rattle.std.specs.Result.{result_map_both}
 use Rattle.netlist.specs.Netlist.{NetView, NetlistView}
+use Rattle.timing_text.specs.declared.fault.DelayFault.{DelayFault}
 use Rattle.timing_text.specs.declared.given.NetGiven.{NetGiven}
 use Rattle.timing_text.specs.declared.line.Properties.{Properties}
 use Rattle.timing_text.specs.declared.line.Property.{Property}
 use Rattle.timing_text.specs.declared.line.Property.TheVariants.{Delay, Clock, Initial, Wire}
 use Rattle.timing_text.specs.TimingLines.{NetProperty}
-use Rattle.timing_text.specs.Timings.{properties_named, wire_named, with_property}
+use Rattle.timing_text.specs.Timings.{properties_named, properties_of, wire_named, with_property}
 
 -- what lines give a net, and the wire delay that they give each of its pins, in order
 abbrev pub given_to_net : List NetProperty → NetView → Properties × List (Option ℕ)
@@ -17,6 +19,10 @@ given_to_net lines net = (properties_named lines net.name, map (wire_named lines
 -- the same of each net, in order
 abbrev pub given_to_nets : NetlistView → List NetProperty → List (Properties × List (Option ℕ))
 given_to_nets netlist lines = map (given_to_net lines) netlist.nets
+
+-- the same by a delay text, or its first fault
+abbrev pub given_by_text : NetlistView → List ℕ → Result (List (Properties × List (Option ℕ))) DelayFault
+given_by_text netlist text = result_map_both (given_to_nets netlist) (λ fault. fault) (properties_of netlist text)
 
 -- what a net was given, from its stored form
 abbrev pub seen_given : NetGiven → Properties × List (Option ℕ)

@@ -1,8 +1,8 @@
 pub use Rattle.logic3.specs.Value
 pub use Rattle.logic3.specs.Wave
 pub use Rattle.logic3.specs.Rising
-pub use Rattle.text_lines.specs.Text
-pub use Rattle.text_lines.specs.Fold
+pub use Rattle.texts.specs.Text
+pub use Rattle.texts.specs.Fold
 pub use Rattle.netlist.specs.Netlist
 pub mod Ranges
 pub mod Options

@@ -2,10 +2,11 @@
 use Rattle.std.specs.Prelude.{ℕ, not, nat_lt, nat_le, if◌then◌else◌, List, [], ◌∷◌, ◌++◌, map, filter, option_map, Option, None, Some, Result, Ok, Err, bytes_eq}
 use Rattle.std.specs.List.{list_any}
 use Rattle.std.specs.Option.{option_map_or}
+use Rattle.std.specs.Result.{result_map_both}
 use Rattle.logic3.specs.declared.value.Value.{Value}
 use Rattle.logic3.specs.declared.change.Change.{Change}
-use Rattle.text_lines.specs.Text.{◌>>=◌, words_of, number_of, is_plain, unless_too_long}
-use Rattle.text_lines.specs.Fold.{fold_text}
+use Rattle.texts.specs.Text.{◌>>=◌, words_of, number_of, is_plain, unless_too_long}
+use Rattle.texts.specs.Fold.{fold_text}
 use Rattle.netlist.specs.Netlist.{NetView, NetlistView}
 use Rattle.timing_text.specs.declared.fault.StimulusFault.{StimulusFault}
 use Rattle.timing_text.specs.declared.fault.StimulusFault.TheVariants.{TooLong, BadLine, UnknownNet, NotAnInput, TickTooLarge, BadValue, NotRising}
@@ -71,3 +72,7 @@ stimuli_of netlist text = unless_too_long TooLong (fold_text (stimuli_after netl
 -- the stimuli of each net, in order
 abbrev pub net_stimuli : NetlistView → List NamedChange → List (List Change)
 net_stimuli netlist stimuli = map (λ (net : NetView). stimuli_named stimuli net.name) netlist.nets
+
+-- the same by a stimulus text, or its first fault
+abbrev pub stimuli_by_net : NetlistView → List ℕ → Result (List (List Change)) StimulusFault
+stimuli_by_net netlist text = result_map_both (net_stimuli netlist) (λ fault. fault) (stimuli_of netlist text)

@@ -3,7 +3,7 @@ use Rattle.std.specs.Prelude.{ℕ, ◌<◌, ◌≤◌, min, not, nat_lt, if◌th
 use Rattle.std.specs.Option.{ok_or, option_and_then, option_map_or}
 use Rattle.netlist.specs.declared.part.Part.{Part}
 use Rattle.netlist.specs.Netlist.{NetView, NetlistView}
-use Rattle.text_lines.specs.Text.{◌>>=◌, words_of, number_of, is_plain}
+use Rattle.texts.specs.Text.{◌>>=◌, words_of, number_of, is_plain}
 use Rattle.timing_text.specs.declared.fault.DelayFault.{DelayFault}
 use Rattle.timing_text.specs.declared.fault.DelayFault.TheVariants.{BadLine, UnknownNet, IsInput, NotAFlop, BadPin, BadTicks, BadPeriod, BadPhase, BadValue}
 use Rattle.timing_text.specs.declared.line.Property.{Property}

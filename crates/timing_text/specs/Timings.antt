@@ -2,12 +2,13 @@
 use Rattle.std.specs.Prelude.{◌≡◌, ◌==◌, ℕ, ◌&&◌, Bool, false, if◌then◌else◌, List, [], ◌∷◌, ◌++◌, length, map, Option, None, Some, Result, Ok, Err, codes, bytes_eq}
 use Rattle.std.specs.List.{fold, range_with_len}
 use Rattle.std.specs.Option.{is_some, unwrap_or}
+use Rattle.std.specs.Result.{result_map_both}
 use Rattle.logic3.specs.declared.value.Value.TheVariants.{Unknown}
 use Rattle.netlist.specs.declared.part.Part.{Part}
 use Rattle.netlist.specs.declared.part.Part.TheVariants.{Input, Gate, Flop}
 use Rattle.netlist.specs.Netlist.{NetView, NetlistView}
-use Rattle.text_lines.specs.Text.{◌>>=◌, code_lines, unless_too_long, words_of}
-use Rattle.text_lines.specs.Fold.{fold_lines}
+use Rattle.texts.specs.Text.{◌>>=◌, code_lines, unless_too_long, words_of}
+use Rattle.texts.specs.Fold.{fold_lines}
 use Rattle.timing_text.specs.declared.fault.DelayFault.{DelayFault}
 use Rattle.timing_text.specs.declared.fault.DelayFault.TheVariants.{TooLong, Twice}
 use Rattle.timing_text.specs.declared.line.Properties.{Properties}
@@ -115,6 +116,11 @@ wires_of_net lines net = map (λ place. unwrap_or (wire_named lines net.name pla
 -- the timing of each net and the wire delays of its pins, in order
 abbrev pub net_timings : NetlistView → ℕ → ℕ → List NetProperty → List (Timing × List ℕ)
 net_timings netlist default period lines = map (λ (net : NetView). (timing_of_net default period lines net, wires_of_net lines net)) netlist.nets
+
+-- the same by a delay text, or its first fault
+abbrev pub timings_of : NetlistView → ℕ → ℕ → List ℕ → Result (List (Timing × List ℕ)) DelayFault
+timings_of netlist default period text =
+    result_map_both (net_timings netlist default period) (λ fault. fault) (properties_of netlist text)
 
 -- a timing and the wire delays of the pins, from their stored form
 abbrev pub seen_timing : NetTiming → Timing × List ℕ

@@ -1,6 +1,6 @@
 //! What a line of a delay text says about a net.
 ghost use Rattle.std.specs.Prelude.{◌≡◌, ◌^◌, ◌-◌, option_map, IfOk};
-ghost use Rattle.text_lines.specs.Text.{words_of};
+ghost use Rattle.texts.specs.Text.{words_of};
 ghost use Rattle.netlist.specs.declared.part.Part.{Part};
 ghost use Rattle.timing_text.specs.declared.line.Spelled.TheVariants as said;
 ghost use Rattle.timing_text.specs.TimingLines.{HasPin, cut_line, line_in, line_of_first, line_of_second, property_of_part};
@@ -11,7 +11,7 @@ use crate::limits::{MOST_DELAY, MOST_TICKS};
 use crate::words::value_of;
 use logic3::Value;
 use netlist::Part;
-use text_lines::{is_plain, number, words_of};
+use texts::{is_plain, number, words_of};
 
 /// The version of a delay text. Version 2 begins with the line `timing version 2`.
 #[derive(Clone, Copy, PartialEq, Eq)]

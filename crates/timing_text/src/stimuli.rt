@@ -3,9 +3,9 @@ ghost use Rattle.std.specs.Prelude.{◌≡◌, ◌≢◌, ◌<◌, ◌-◌, ◌^
 ghost use Rattle.std.specs.Option.{option_map_or};
 ghost use Rattle.std.specs.Result.{result_map_both};
 ghost use Rattle.logic3.specs.declared.change.Change.{Change};
-ghost use Rattle.text_lines.specs.Text.{longest_text};
+ghost use Rattle.texts.specs.Text.{longest_text};
 ghost use Rattle.netlist.specs.Netlist.{net_at};
-ghost use Rattle.timing_text.specs.Stimuli.{StimulusLine, net_stimuli, stimuli_of, stimulus_in, stimulus_or_fault};
+ghost use Rattle.timing_text.specs.Stimuli.{StimulusLine, stimuli_by_net, stimulus_in, stimulus_or_fault};
 
 use crate::fault::StimulusFault;
 use crate::limits::MOST_TICKS;
@@ -13,7 +13,7 @@ use crate::words::value_of;
 use logic3::Change;
 use netlist::Netlist;
 use std::alloc::{AllocError, Global};
-use text_lines::{LONGEST_TEXT, code_lines, is_plain, number, words_of};
+use texts::{LONGEST_TEXT, code_lines, is_plain, number, words_of};
 
 /// The change that a line gives a net.
 #[derive(Clone, Copy)]
@@ -34,7 +34,7 @@ pub fn read_stimuli(
 ) -> Result<Vec<Vec<Change>>, StimulusFault>
     ensures stimuli { result ≢ Err StimulusFault.Memory →
         result_map_both (λ stimuli. map (λ changes. changes.items) stimuli.items) (λ fault. fault) result
-        ≡ result_map_both (net_stimuli netlist.now) (λ fault. fault) (stimuli_of netlist.now text.now) }
+        ≡ stimuli_by_net netlist.now text.now }
     ensures at_once { longest_text < length text.now → result ≡ Err StimulusFault.TooLong }
 {
     if text.len() > LONGEST_TEXT {

@@ -1,11 +1,11 @@
 //! The timing of each net, from a delay text.
 ghost use Rattle.std.specs.Prelude.{◌≡◌, ◌≢◌, ◌<◌, length, map, IfOk};
 ghost use Rattle.std.specs.Result.{result_map_both};
-ghost use Rattle.text_lines.specs.Text.{code_lines, longest_text, words_of};
+ghost use Rattle.texts.specs.Text.{code_lines, longest_text, words_of};
 ghost use Rattle.netlist.specs.Netlist.{net_at};
 ghost use Rattle.timing_text.specs.TimingLines.{HasPin, property_or_fault};
-ghost use Rattle.timing_text.specs.GivenSoFar.{given_to_nets, seen_given};
-ghost use Rattle.timing_text.specs.Timings.{are_header, net_lines, net_timings, properties_of, seen_timing, timing_of_part, version_of};
+ghost use Rattle.timing_text.specs.GivenSoFar.{given_by_text, seen_given};
+ghost use Rattle.timing_text.specs.Timings.{are_header, net_lines, seen_timing, timing_of_part, timings_of, version_of};
 
 use crate::fault::DelayFault;
 use crate::given::{NetGiven, nothing_given};
@@ -14,7 +14,7 @@ use crate::timing::{NetTiming, Timing};
 use logic3::Value;
 use netlist::{Netlist, Part};
 use std::alloc::Global;
-use text_lines::{CodeLines, LONGEST_TEXT, code_lines, words_of};
+use texts::{CodeLines, LONGEST_TEXT, code_lines, words_of};
 
 /// The property that a line gives a net.
 #[derive(Clone, Copy)]
@@ -39,7 +39,7 @@ pub fn read_timings(
 ) -> Result<Vec<NetTiming>, DelayFault>
     ensures timings { result ≢ Err DelayFault.Memory →
         result_map_both (λ timings. map seen_timing timings.items) (λ fault. fault) result
-        ≡ result_map_both (net_timings netlist.now default_delay period) (λ fault. fault) (properties_of netlist.now text.now) }
+        ≡ timings_of netlist.now default_delay period text.now }
     ensures at_once { longest_text < length text.now → result ≡ Err DelayFault.TooLong }
 {
     let given = properties_given(alloc, netlist, text)?;
@@ -84,7 +84,7 @@ fn properties_given(
 ) -> Result<Vec<NetGiven>, DelayFault>
     ensures given { result ≢ Err DelayFault.Memory →
         result_map_both (λ given. map seen_given given.items) (λ fault. fault) result
-        ≡ result_map_both (given_to_nets netlist.now) (λ fault. fault) (properties_of netlist.now text.now) }
+        ≡ given_by_text netlist.now text.now }
     ensures at_once { longest_text < length text.now → result ≡ Err DelayFault.TooLong }
 {
     if text.len() > LONGEST_TEXT {

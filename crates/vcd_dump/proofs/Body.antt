@@ -11,7 +11,7 @@ use Rattle.logic3.specs.declared.value.Value.{Value}
 use Rattle.logic3.specs.declared.value.Value.TheVariants.{Zero, One, Unknown}
 use Rattle.logic3.specs.Value.{is_same, value_text}
 use Rattle.logic3.proofs.CallerLemmas.{is_same-true}
-use Rattle.text_lines.specs.Text.{is_empty}
+use Rattle.texts.specs.Text.{is_empty}
 use Rattle.vcd_dump.specs.Dump.{Variable, changes_at}
 use Rattle.vcd_dump.specs.Shown.{is_time_above, change_of, value_of_byte, is_time, value_in_body}
 use Rattle.vcd_dump.proofs.Lists.{before_first-append, before_first-cut, after_first-cut, last_or-append}

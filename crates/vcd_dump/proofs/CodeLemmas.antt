@@ -1,12 +1,13 @@
 -- The identifier codes: character by character, distinct, short, and no keywords.
-use Rattle.std.proofs.Common.{◌≡◌, ℕ, zero, suc, ◌+◌, ◌-◌, ◌*◌, ◌/◌, ◌%◌, ◌<◌, ◌≤◌, nat_lt, Bool, true, false, cond, List, [], ◌∷◌, length, refl, ap, lit<, arith, add-one, ltb-false}
+use Rattle.std.proofs.Common.{◌≡◌, ℕ, zero, suc, ◌+◌, ◌-◌, ◌*◌, ◌/◌, ◌%◌, ◌<◌, ◌≤◌, nat_lt, Bool, true, false, cond, List, [], ◌∷◌, ◌++◌, length, get_or, refl, ap, sym, ◌∙◌, ◌⊎◌, inl, inr, lit<, arith, add-one, ltb-false}
 use borrow.Author.Tests.{ltb-true}
 use Rattle.std.specs.Prelude.{Contains}
 use Rattle.std.specs.List.{AllByRecursion}
-use Rattle.std.proofs.lemmas.Bool.{le-ltb}
+use Rattle.std.proofs.lemmas.Bool.{cases_lt, lt-ltb, le-ltb}
 use Rattle.std.proofs.lemmas.Bool.Decides.{nat_tests}
+use Rattle.std.proofs.lemmas.List.{get_or_append_left, get_or_push, length_push}
 use Rattle.std.proofs.lemmas.List.Elements.{All-from_recursion, All-contains}
-use Rattle.vcd_dump.specs.Codes.{code_within, code_at}
+use Rattle.vcd_dump.specs.Codes.{code_within, code_at, AreCodes}
 use Rattle.vcd_dump.specs.Dump.{dump_keywords}
 use Rattle.vcd_dump.proofs.Tokens.{IsWordByte, IsToken, IsToken-from_bytes}
 
@@ -30,6 +31,27 @@ pub code_at-step : (place : ℕ) → 94 ≤ place → code_at place ≡ (33 + pl
 code_at-step place high =
     rw (add-one place, le-ltb place 94 high)
     (ap (λ tail. (33 + place % 94) ∷ tail) (code_within-enough place (place / 94 - 1 + 1) (place / 94 - 1) (omega arith) (omega arith)))
+
+-- below it the character alone
+pub code_at-last : (place : ℕ) → place < 94 → code_at place ≡ (33 + place % 94) ∷ []
+code_at-last place low = rw (add-one place, lt-ltb place 94 low) refl
+
+-- no code is empty
+pub code_at-some : (place : ℕ) → 0 < length (code_at place)
+code_at-some place = rw (add-one place) (omega arith)
+
+-- one more
+pub AreCodes-more : (known : List (List ℕ)) (place : ℕ) (code : List ℕ) → AreCodes known → length known ≡ place → code ≡ code_at place →
+    AreCodes (known ++ code ∷ [])
+AreCodes-more known place code so_far many is = λ k other within. go k other within (cases_lt k (length known))
+  where
+    go : (k : ℕ) (other : List ℕ) → k < length (known ++ code ∷ []) → (k < length known) ⊎ (length known ≤ k) →
+        get_or (known ++ code ∷ []) k other ≡ code_at k
+    go k other within (inl before) = get_or_append_left known (code ∷ []) other k before ∙ so_far k other before
+    go k other within (inr last) =
+        let here : k ≡ length known = omega (arith, length_push known code) in
+        ap (λ n. get_or (known ++ code ∷ []) n other) here ∙ get_or_push known code other (length known) refl
+        ∙ is ∙ ap code_at (sym many ∙ sym here)
 
 -- ---- distinct, short, and no keywords
 

@@ -9,8 +9,9 @@ use Rattle.logic3.specs.Wave.{Wave, IsWave, value_at, changes_between}
 use Rattle.logic3.proofs.CallerLemmas.{changes_between-value_after}
 use Rattle.design.specs.Circuit.{Circuit}
 use Rattle.vcd_dump.specs.declared.unit.TimeUnit.{TimeUnit}
-use Rattle.vcd_dump.specs.declared.line.Line.{Line}
-use Rattle.vcd_dump.specs.Dump.{Trace, variable_at, variables_of, declaration, declarations, heading, line, time_line_after, first_values, lines_at, dump_text}
+use Rattle.texts.specs.Written.{line}
+use Rattle.vcd_dump.specs.Lines.{LineView}
+use Rattle.vcd_dump.specs.Dump.{Trace, variable_at, variables_of, declaration, declarations, heading, time_line_after, first_values, lines_at, dump_text}
 use Rattle.vcd_dump.specs.Traces.{EndsBy, name_of, traces, named}
 use Rattle.vcd_dump.specs.Spans.{span_lines, span_text, latest, IsPart, parts_of, shown_signals, whole_text}
 use Rattle.vcd_dump.specs.Written.{InOrder}
@@ -99,7 +100,7 @@ dump_text-waves unit horizon circuit shown waves same are =
     ∙ dump_text-whole unit horizon (traces circuit shown waves)
 
 -- their lines in order
-pub Stepped-waves : (nets horizon : ℕ) (waves : List Wave) (sorted : List Line) → nets ≡ length waves → AreShown horizon waves →
+pub Stepped-waves : (nets horizon : ℕ) (waves : List Wave) (sorted : List LineView) → nets ≡ length waves → AreShown horizon waves →
     InOrder (span_lines 0 (changes_of waves)) sorted → Stepped nets 0 0 (horizon + 1) (span_lines 0 (changes_of waves)) sorted
 Stepped-waves nets horizon waves sorted count are order =
     let parts = changes_of-is horizon waves are in

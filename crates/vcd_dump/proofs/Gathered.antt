@@ -6,7 +6,7 @@ use Rattle.std.proofs.lemmas.List.Elements.{filter-append, recursion_from_All}
 use Rattle.logic3.specs.declared.value.Value.TheVariants.{Unknown}
 use Rattle.logic3.specs.declared.change.Change.{Change}
 use Rattle.logic3.specs.Rising.{TicksRise}
-use Rattle.vcd_dump.specs.declared.line.Line.{Line}
+use Rattle.vcd_dump.specs.Lines.{LineView}
 use Rattle.vcd_dump.specs.Spans.{line_of, is_at_zero, lines_of, span_lines, at_tick, IsPart}
 use Rattle.vcd_dump.proofs.Ordered.{OfSpan}
 
@@ -21,8 +21,8 @@ abbrev pub EachTick : (ℕ → Type 0) → List Change → Type 0
 EachTick P part = AllByRecursion (λ (change : Change). P change.tick) part
 
 -- of lines
-abbrev pub EachLine : (ℕ → Type 0) → List Line → Type 0
-EachLine P lines = AllByRecursion (λ (line : Line). P line.tick) lines
+abbrev pub EachLine : (ℕ → Type 0) → List LineView → Type 0
+EachLine P lines = AllByRecursion (λ (line : LineView). P line.tick) lines
 
 EachLine-map : (P : ℕ → Type 0) (place : ℕ) (part : List Change) → EachTick P part → EachLine P (map (line_of place) part)
 EachLine-map P place [] each = tt
@@ -42,7 +42,7 @@ EachLine-from : (P : ℕ → Type 0) (from place : ℕ) (parts : List (List Chan
     EachLine P (flat_map (lines_of from) (enumerate_from place parts))
 EachLine-from P from place [] start each = tt
 EachLine-from P from place (part ∷ parts) start each =
-    AllByRecursion-append (λ (line : Line). P line.tick) (lines_of from (place, part)) (flat_map (lines_of from) (enumerate_from (place + 1) parts))
+    AllByRecursion-append (λ (line : LineView). P line.tick) (lines_of from (place, part)) (flat_map (lines_of from) (enumerate_from (place + 1) parts))
     (EachLine-lines_of P from place part start each.0) (EachLine-from P from (place + 1) parts start each.1)
 
 -- what holds of the ticks of changes holds of those of their lines, where it holds of tick 0
@@ -72,13 +72,44 @@ EachTick-from : (P : ℕ → Type 0) (from place : ℕ) (parts : List (List Chan
     EachLine P (flat_map (lines_of from) (enumerate_from place parts)) → AllByRecursion (EachTick P) parts
 EachTick-from P from place [] each = tt
 EachTick-from P from place (part ∷ parts) each =
-    let both = AllByRecursion-both (λ (line : Line). P line.tick) (lines_of from (place, part))
+    let both = AllByRecursion-both (λ (line : LineView). P line.tick) (lines_of from (place, part))
     (flat_map (lines_of from) (enumerate_from (place + 1) parts)) each in
     (EachTick-lines_of P from place part both.0, EachTick-from P from (place + 1) parts both.1)
 
 pub EachTick-span_lines : (P : ℕ → Type 0) (from : ℕ) (parts : List (List Change)) → EachLine P (span_lines from parts) →
     AllByRecursion (EachTick P) parts
 EachTick-span_lines P from parts each = EachTick-from P from 0 parts each
+
+-- ---- their places
+
+-- lines at places below a number
+abbrev pub EachPlace : ℕ → List LineView → Type 0
+EachPlace nets lines = AllByRecursion (λ (line : LineView). line.place < nets) lines
+
+EachPlace-map : (nets place : ℕ) (part : List Change) → place < nets → EachPlace nets (map (line_of place) part)
+EachPlace-map nets place [] h = tt
+EachPlace-map nets place (change ∷ part) h = (h, EachPlace-map nets place part h)
+
+-- those of a net
+pub EachPlace-lines_of : (nets from place : ℕ) (part : List Change) → place < nets → EachPlace nets (lines_of from (place, part))
+EachPlace-lines_of nets from place part h = go (from == 0) (is_at_zero part)
+  where
+    go : (b c : Bool) → EachPlace nets (map (line_of place) (cond b (cond c part (record { tick = 0; value = Unknown } ∷ part)) part))
+    go true true = EachPlace-map nets place part h
+    go true false = (h, EachPlace-map nets place part h)
+    go false c = EachPlace-map nets place part h
+
+EachPlace-from : (nets from place : ℕ) (parts : List (List Change)) → place + length parts ≤ nets →
+    EachPlace nets (flat_map (lines_of from) (enumerate_from place parts))
+EachPlace-from nets from place [] h = tt
+EachPlace-from nets from place (part ∷ parts) h =
+    AllByRecursion-append (λ (line : LineView). line.place < nets) (lines_of from (place, part))
+    (flat_map (lines_of from) (enumerate_from (place + 1) parts))
+    (EachPlace-lines_of nets from place part (omega arith)) (EachPlace-from nets from (place + 1) parts (omega arith))
+
+-- those of a span
+pub EachPlace-span_lines : (nets from : ℕ) (parts : List (List Change)) → length parts ≤ nets → EachPlace nets (span_lines from parts)
+EachPlace-span_lines nets from parts h = EachPlace-from nets from 0 parts (omega arith)
 
 -- ---- the lines of tick 0
 
@@ -117,7 +148,7 @@ each_at_zero : (place : ℕ) (parts : List (List Change)) → AllByRecursion Tic
     length (at_tick (flat_map (lines_of 0) (enumerate_from place parts)) 0) ≡ length parts
 each_at_zero place [] rise = refl
 each_at_zero place (part ∷ parts) rise =
-    let test : Line → Bool = λ (line : Line). line.tick == 0 in
+    let test : LineView → Bool = λ (line : LineView). line.tick == 0 in
     let others = flat_map (lines_of 0) (enumerate_from (place + 1) parts) in
     let one = one_at_zero place part rise.0 in
     let rest = each_at_zero (place + 1) parts rise.1 in

@@ -1,16 +1,17 @@
 mod Between
 mod Body
-mod BytesLemmas
 pub mod CallerLemmas
 mod CodeLemmas
+mod Counting
 mod Declared
+mod Digits
 mod Few
 mod FromWaves
 mod Gathered
-mod GoingOut
 mod Lists
 mod Ordered
 mod Readings
+mod Scattered
 mod ShownValues
 mod Signals
 mod Stepped

@@ -11,20 +11,20 @@ use Rattle.logic3.specs.declared.change.Change.{Change}
 use Rattle.logic3.specs.Value.{is_same}
 use Rattle.logic3.specs.Wave.{value_before, change_at, changes_between}
 use Rattle.logic3.proofs.CallerLemmas.{is_same-true}
-use Rattle.vcd_dump.specs.declared.line.Line.{Line}
+use Rattle.vcd_dump.specs.Lines.{LineView}
 use Rattle.vcd_dump.specs.Spans.{line_of, is_at_zero, lines_of, span_lines, at_tick, line_text, zero_text, later_text, tick_text, span_text, parts_of}
 use Rattle.vcd_dump.proofs.Between.{between, between-same, between-split}
 
 -- ---- the lines of one net
 
 -- those of its changes at a tick
-abbrev kept : ℕ → List Change → ℕ → List Line
+abbrev kept : ℕ → List Change → ℕ → List LineView
 kept place changes tick = at_tick (map (line_of place) changes) tick
 
 kept-append : (place tick : ℕ) (xs ys : List Change) → kept place (xs ++ ys) tick ≡ kept place xs tick ++ kept place ys tick
 kept-append place tick xs ys =
     ap (λ lines. at_tick lines tick) (map-append (line_of place) xs ys)
-    ∙ filter-append (λ (line : Line). line.tick == tick) (map (line_of place) xs) (map (line_of place) ys)
+    ∙ filter-append (λ (line : LineView). line.tick == tick) (map (line_of place) xs) (map (line_of place) ys)
 
 -- the change at another tick has no line at this one
 kept-other : (place : ℕ) (signal : ℕ → Value) (at tick : ℕ) → (at == tick) ≡ false → kept place (change_at signal at) tick ≡ []
@@ -74,7 +74,7 @@ kept-within place signal from (suc count) tick a b =
         ∙ kept-own place signal tick
 
 -- the lines of a net at a tick: at tick 0 its value, later its change if there is one
-abbrev pub net_lines : ℕ → ℕ × (ℕ → Value) → List Line
+abbrev pub net_lines : ℕ → ℕ × (ℕ → Value) → List LineView
 net_lines tick (place, signal) =
     if tick == 0 then record { tick = 0; place = place; value = signal 0 } ∷ [] else map (line_of place) (change_at signal tick)
 
@@ -136,14 +136,14 @@ net_lines-is from to place tick signal a b = go (cases_lt 0 tick)
 -- ---- the lines of all nets
 
 -- at a tick
-abbrev pub signal_lines : List (ℕ → Value) → ℕ → List Line
+abbrev pub signal_lines : List (ℕ → Value) → ℕ → List LineView
 signal_lines signals tick = flat_map (net_lines tick) (enumerate_from 0 signals)
 
 all_lines : (from to place tick : ℕ) (signals : List (ℕ → Value)) → from ≤ tick → tick < to →
     at_tick (flat_map (lines_of from) (enumerate_from place (parts_of signals from to))) tick ≡ flat_map (net_lines tick) (enumerate_from place signals)
 all_lines from to place tick [] a b = refl
 all_lines from to place tick (signal ∷ signals) a b =
-    filter-append (λ (line : Line). line.tick == tick) (lines_of from (place, changes_between signal from to))
+    filter-append (λ (line : LineView). line.tick == tick) (lines_of from (place, changes_between signal from to))
     (flat_map (lines_of from) (enumerate_from (place + 1) (parts_of signals from to)))
     ∙ (λ i. net_lines-is from to place tick signal a b i ++ all_lines from to (place + 1) tick signals a b i)
 

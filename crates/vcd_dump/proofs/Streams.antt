@@ -7,7 +7,7 @@ use Rattle.logic3.specs.declared.value.Value.{Value}
 use Rattle.logic3.specs.declared.change.Change.{Change}
 use Rattle.logic3.specs.Wave.{value_before, changes_between}
 use Rattle.logic3.proofs.CallerLemmas.{All-wave_of, AllPairs-Alternates, Contains-wave_of_iff, IsWave-wave_of, changes_between-split}
-use Rattle.vcd_dump.specs.declared.line.Line.{Line}
+use Rattle.vcd_dump.specs.Lines.{LineView}
 use Rattle.vcd_dump.specs.Spans.{StreamView, begun, with_part, with_parts, span_lines, latest, spanned, IsPart, IsSpan, CanSpan, parts_of, stream_at}
 use Rattle.vcd_dump.proofs.Gathered.{EachTick, EachLine, OfSpan-parts, span_lines-more, EachLine-span_lines, EachTick-span_lines, AllByRecursion-append, AllByRecursion-both, AllByRecursion-map}
 use Rattle.vcd_dump.proofs.Ordered.{latest-bounds, latest-least}
@@ -100,8 +100,8 @@ with_parts-can stream upto parts ahead within each proper =
       within = within;
       each = each;
       values = of_span.count;
-      low = All-from_recursion (λ (line : Line). stream.written ≤ line.tick) lines of_span.low;
-      high = All-from_recursion (λ (line : Line). line.tick < upto) lines of_span.high;
+      low = All-from_recursion (λ (line : LineView). stream.written ≤ line.tick) lines of_span.low;
+      high = All-from_recursion (λ (line : LineView). line.tick < upto) lines of_span.high;
     }
 
 -- so it can by those of a span
@@ -190,6 +190,6 @@ proper_low (signal ∷ signals) to =
 pub stream_at-latest : (signals : List (ℕ → Value)) (last : ℕ) →
     EachLine (λ tick. tick ≤ last) (span_lines 0 (parts_of signals 0 (last + 1)))
 stream_at-latest signals last =
-    AllByRecursion-map (λ (line : Line). line.tick < last + 1) (λ (line : Line). line.tick ≤ last)
+    AllByRecursion-map (λ (line : LineView). line.tick < last + 1) (λ (line : LineView). line.tick ≤ last)
     (span_lines 0 (parts_of signals 0 (last + 1))) (λ line h. omega arith)
     (EachLine-span_lines (λ tick. tick < last + 1) 0 (parts_of signals 0 (last + 1)) (λ e. omega arith) (proper_low signals (last + 1)))

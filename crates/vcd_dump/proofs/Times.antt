@@ -7,7 +7,7 @@ use Rattle.std.specs.Str.Parse.{AllDigits}
 use Rattle.std.proofs.lemmas.Bool.Decides.{nat_tests}
 use Rattle.std.proofs.lemmas.Str.Parse.{digit_from_value}
 use Rattle.std.proofs.lemmas.Fmt.{decimal_is_IsNumeral}
-use Rattle.text_lines.proofs.CallerLemmas.{number_of-decimal}
+use Rattle.texts.proofs.CallerLemmas.{number_of-decimal}
 use Rattle.vcd_dump.specs.Shown.{is_time, is_time_above, time_of}
 use Rattle.vcd_dump.proofs.Tokens.{IsToken, IsToken-from_bytes, IsWordByte}
 

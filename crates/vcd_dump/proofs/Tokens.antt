@@ -3,8 +3,8 @@ use Rattle.std.proofs.Common.{◌≡◌, ℕ, ◌==◌, ◌||◌, not, true, fal
 use Rattle.std.specs.List.{slice_split, filter, flat_map, AllByRecursion}
 use Rattle.std.proofs.lemmas.List.Elements.{filter-append, All-from_recursion}
 use Rattle.std.proofs.lemmas.List.Splits.{slice_split_none}
-use Rattle.text_lines.specs.Text.{is_white, is_empty, lines_of, words_of}
-use Rattle.vcd_dump.specs.Dump.{line}
+use Rattle.texts.specs.Text.{is_white, is_empty, lines_of, words_of}
+use Rattle.texts.specs.Written.{line}
 use Rattle.vcd_dump.specs.Shown.{dump_tokens}
 use Rattle.vcd_dump.proofs.Lists.{slice_split-append, slice_split-either, filter-flat_map}
 

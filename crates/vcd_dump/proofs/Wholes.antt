@@ -9,11 +9,12 @@ use Rattle.logic3.specs.declared.value.Value.TheVariants.{Zero, One, Unknown}
 use Rattle.logic3.specs.Value.{is_same, is_same_equiv}
 use Rattle.logic3.specs.Wave.{value_before, change_at}
 use Rattle.design.specs.Circuit.{Circuit}
-use Rattle.text_lines.specs.Text.{is_empty}
+use Rattle.texts.specs.Text.{is_empty}
 use Rattle.vcd_dump.specs.declared.unit.TimeUnit.{TimeUnit}
-use Rattle.vcd_dump.specs.declared.line.Line.{Line}
+use Rattle.vcd_dump.specs.Lines.{LineView}
 use Rattle.vcd_dump.specs.Codes.{code_at}
-use Rattle.vcd_dump.specs.Dump.{Trace, variable_at, variables_of, line, declaration, declarations, heading, change_text, change_line, time_line, time_line_after, first_values, changes_at, lines_at, dump_text}
+use Rattle.texts.specs.Written.{line}
+use Rattle.vcd_dump.specs.Dump.{Trace, variable_at, variables_of, declaration, declarations, heading, change_text, change_line, time_line, time_line_after, first_values, changes_at, lines_at, dump_text}
 use Rattle.vcd_dump.specs.Traces.{name_of, named}
 use Rattle.vcd_dump.specs.Spans.{line_of, span_lines, at_tick, line_text, zero_text, later_text, latest, last_text, parts_of, stream_at, shown_signals, whole_text}
 use Rattle.vcd_dump.proofs.Between.{between, between-none, between-first, between-last, between-same}
@@ -65,7 +66,7 @@ changes_from place tick ((name, signal) ∷ traces) late =
 -- ---- a tick's text
 
 -- lines have a text where there are any
-is_empty-lines : (lines : List Line) → is_empty (flat_map line_text lines) ≡ is_empty lines
+is_empty-lines : (lines : List LineView) → is_empty (flat_map line_text lines) ≡ is_empty lines
 is_empty-lines [] = refl
 is_empty-lines (line ∷ lines) = go line.value
   where
@@ -92,7 +93,7 @@ lines_at-early traces horizon tick late early =
 -- ---- the last tick
 
 -- where no line is of the last tick all are earlier
-none_last : (last : ℕ) (lines : List Line) → 0 < last → EachLine (λ tick. tick ≤ last) lines → is_empty (at_tick lines last) ≡ true →
+none_last : (last : ℕ) (lines : List LineView) → 0 < last → EachLine (λ tick. tick ≤ last) lines → is_empty (at_tick lines last) ≡ true →
     EachLine (λ tick. tick ≤ last - 1) lines
 none_last last [] some each none = tt
 none_last last (line ∷ lines) some each none = go (line.tick == last) refl none (none_last last lines some each.1)
@@ -106,7 +107,7 @@ none_last last (line ∷ lines) some each none = go (line.tick == last) refl non
         (early, rest h)
 
 -- where one is, a bound of them all is no earlier
-some_last : (last most : ℕ) (lines : List Line) → EachLine (λ tick. tick ≤ most) lines → is_empty (at_tick lines last) ≡ false → last ≤ most
+some_last : (last most : ℕ) (lines : List LineView) → EachLine (λ tick. tick ≤ most) lines → is_empty (at_tick lines last) ≡ false → last ≤ most
 some_last last most [] each some = cc
 some_last last most (line ∷ lines) each some = go (line.tick == last) refl some (some_last last most lines each.1)
   where
@@ -116,11 +117,11 @@ some_last last most (line ∷ lines) each some = go (line.tick == last) refl som
     go false e h rest = rest h
 
 -- what ends a dump, behind the lines of the last tick
-last_lines : (last : ℕ) (lines : List Line) → 0 < last → EachLine (λ tick. tick ≤ last) lines →
+last_lines : (last : ℕ) (lines : List LineView) → 0 < last → EachLine (λ tick. tick ≤ last) lines →
     later_text last (at_tick lines last) ++ time_line_after (latest 0 lines) last ≡ time_line last ++ flat_map line_text (at_tick lines last)
 last_lines last lines some each = go (at_tick lines last) refl
   where
-    go : (here : List Line) → at_tick lines last ≡ here →
+    go : (here : List LineView) → at_tick lines last ≡ here →
         later_text last here ++ time_line_after (latest 0 lines) last ≡ time_line last ++ flat_map line_text here
     go [] e =
         let early = latest-least 0 (last - 1) lines (omega arith) (none_last last lines some each (ap is_empty e)) in

@@ -3,7 +3,8 @@ use Rattle.std.specs.Prelude.{ℕ, ◌-◌, ◌==◌, ◌&&◌, not, nat_lt, if�
 use Rattle.std.specs.List.{enumerate_from, range_with_len}
 use Rattle.logic3.specs.declared.value.Value.{Value}
 use Rattle.logic3.specs.Value.{is_same, value_text}
-use Rattle.text_lines.specs.Text.{is_empty}
+use Rattle.texts.specs.Text.{is_empty}
+use Rattle.texts.specs.Written.{line}
 use Rattle.vcd_dump.specs.declared.unit.TimeUnit.{TimeUnit}
 use Rattle.vcd_dump.specs.declared.unit.TimeUnit.TheVariants.{S, Ms, Us, Ns, Ps, Fs}
 use Rattle.vcd_dump.specs.Codes.{code_at}
@@ -31,9 +32,6 @@ variable_at (place, (name, signal)) = record { code = code_at place; name = name
 -- the shown nets with their codes, in order
 abbrev pub variables_of : List Trace → List Variable
 variables_of shown = map variable_at (enumerate_from 0 shown)
-
-abbrev pub line : List ℕ → List ℕ
-line text = text ++ codes "\n"
 
 abbrev pub unit_text : TimeUnit → List ℕ
 unit_text S = codes "s"

@@ -1,5 +1,7 @@
 -- The names of faults, and which faults are those of a write.
 use Rattle.std.specs.Prelude.{List, codes, ℕ}
+use Rattle.texts.specs.declared.writing.fault.WriteFault.{WriteFault}
+use Rattle.texts.specs.declared.writing.fault.WriteFault.TheVariants as write
 use Rattle.vcd_dump.specs.declared.fault.DumpFault.{DumpFault}
 use Rattle.vcd_dump.specs.declared.fault.DumpFault.TheVariants.{Write, WroteNothing, Memory, Failed}
 
@@ -14,3 +16,8 @@ abbrev pub IsFailedWrite : DumpFault → Type 0
 IsFailedWrite Write = Unit {0}
 IsFailedWrite WroteNothing = Unit {0}
 IsFailedWrite other = ⊥
+
+-- a failed write is a fault of a dump
+abbrev pub fault_of_write : WriteFault → DumpFault
+fault_of_write write.Write = Write
+fault_of_write write.WroteNothing = WroteNothing

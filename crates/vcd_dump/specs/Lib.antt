@@ -1,12 +1,14 @@
 pub use Rattle.netlist.specs.Name
-pub use Rattle.text_lines.specs.Text
+pub use Rattle.texts.specs.Text
 pub use Rattle.logic3.specs.Wave
 pub use Rattle.design.specs.Circuit
-pub mod Bytes
 pub mod Codes
 pub mod Dump
 pub mod Faults
+pub mod Lines
 pub mod Spans
+pub mod Ready
+pub mod Sorting
 pub mod Written
 pub mod Traces
 pub mod Shown

@@ -6,15 +6,16 @@ use Rattle.logic3.specs.declared.value.Value.TheVariants.{Unknown}
 use Rattle.logic3.specs.declared.change.Change.{Change}
 use Rattle.logic3.specs.Wave.{changes_between}
 use Rattle.logic3.specs.Rising.{TicksRise}
-use Rattle.text_lines.specs.Text.{is_empty}
-use Rattle.vcd_dump.specs.declared.line.Line.{Line}
+use Rattle.texts.specs.Text.{is_empty}
+use Rattle.texts.specs.Written.{line}
+use Rattle.vcd_dump.specs.Lines.{LineView}
 use Rattle.vcd_dump.specs.Codes.{code_at}
-use Rattle.vcd_dump.specs.Dump.{Trace, line, change_text, time_line, time_line_after}
+use Rattle.vcd_dump.specs.Dump.{Trace, change_text, time_line, time_line_after}
 
 -- ---- lines
 
 -- the line of a change of the net at a place
-abbrev pub line_of : ℕ → Change → Line
+abbrev pub line_of : ℕ → Change → LineView
 line_of place change = record { tick = change.tick; place = place; value = change.value }
 
 -- whether the first of some changes is at tick 0
@@ -27,20 +28,20 @@ abbrev pub from_zero : List Change → List Change
 from_zero part = if is_at_zero part then part else record { tick = 0; value = Unknown } ∷ part
 
 -- the lines of the net at a place, given its changes in a span that begins at a tick
-abbrev pub lines_of : ℕ → ℕ × List Change → List Line
+abbrev pub lines_of : ℕ → ℕ × List Change → List LineView
 lines_of from (place, part) = map (line_of place) (if from == 0 then from_zero part else part)
 
 -- the lines of a span, net after net
-abbrev pub span_lines : ℕ → List (List Change) → List Line
+abbrev pub span_lines : ℕ → List (List Change) → List LineView
 span_lines from parts = flat_map (lines_of from) (enumerate_from 0 parts)
 
 -- those of a tick, in their order
-abbrev pub at_tick : List Line → ℕ → List Line
-at_tick lines tick = filter (λ (line : Line). line.tick == tick) lines
+abbrev pub at_tick : List LineView → ℕ → List LineView
+at_tick lines tick = filter (λ (line : LineView). line.tick == tick) lines
 
 -- ---- their text
 
-abbrev pub line_text : Line → List ℕ
+abbrev pub line_text : LineView → List ℕ
 line_text line = change_text line.value (code_at line.place)
 
 -- the values at tick 0
@@ -48,16 +49,16 @@ abbrev pub zero_text : List ℕ → List ℕ
 zero_text values = time_line 0 ++ line (codes "$dumpvars") ++ values ++ line (codes "$end")
 
 -- a later tick with its lines, if any
-abbrev pub later_text : ℕ → List Line → List ℕ
+abbrev pub later_text : ℕ → List LineView → List ℕ
 later_text tick here = if is_empty here then [] else time_line tick ++ flat_map line_text here
 
 -- the text of a tick: its lines among these
-abbrev pub tick_text : List Line → ℕ → List ℕ
+abbrev pub tick_text : List LineView → ℕ → List ℕ
 tick_text lines tick =
     if tick == 0 then zero_text (flat_map line_text (at_tick lines tick)) else later_text tick (at_tick lines tick)
 
 -- the text of the ticks from one up to but not including another, of these lines
-abbrev pub lines_text : ℕ → ℕ → List Line → List ℕ
+abbrev pub lines_text : ℕ → ℕ → List LineView → List ℕ
 lines_text from to lines = flat_map (tick_text lines) (range_with_len from (to - from))
 
 -- the text of a span: that of the lines of its changes
@@ -74,7 +75,7 @@ pub record StreamView : Type 0 where
   pub written : ℕ
   pub time : ℕ
   pub given : ℕ
-  pub lines : List Line
+  pub lines : List LineView
   pub failed : Bool
 
 -- a stream that has written the declarations
@@ -114,7 +115,7 @@ with_parts stream parts = record {
 }
 
 -- the latest of a time and the times of lines
-abbrev pub latest : ℕ → List Line → ℕ
+abbrev pub latest : ℕ → List LineView → ℕ
 latest time [] = time
 latest time (line ∷ lines) = latest (max time line.tick) lines
 
@@ -147,8 +148,8 @@ pub record CanSpan (stream : StreamView) (upto : ℕ) : Type 0 where
   pub within : upto ≤ stream.horizon + 1
   pub each : stream.given ≡ stream.nets
   pub values : stream.written ≡ 0 → length (at_tick stream.lines 0) ≡ stream.nets
-  pub low : All (λ (line : Line). stream.written ≤ line.tick) stream.lines
-  pub high : All (λ (line : Line). line.tick < upto) stream.lines
+  pub low : All (λ (line : LineView). stream.written ≤ line.tick) stream.lines
+  pub high : All (λ (line : LineView). line.tick < upto) stream.lines
 
 -- the changes of each shown net at the ticks that a stream hasn't written yet, up to but not including one
 pub record IsSpan (stream : StreamView) (upto : ℕ) (parts : List (List Change)) : Type 0 where

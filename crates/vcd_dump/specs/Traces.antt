@@ -1,6 +1,7 @@
 -- The shown nets of a circuit, with their names and waveforms.
 use Rattle.std.specs.Prelude.{ℕ, ◌≤◌, List, [], ◌∷◌, map, slice_get, All}
 use Rattle.std.specs.Option.{option_map_or}
+use Rattle.logic3.specs.declared.value.Value.{Value}
 use Rattle.logic3.specs.declared.value.Value.TheVariants.{Unknown}
 use Rattle.logic3.specs.declared.change.Change.{Change}
 use Rattle.logic3.specs.Wave.{Wave, value_at}
@@ -20,6 +21,10 @@ abbrev pub traces : Circuit → List ℕ → List Wave → List Trace
 traces circuit (net ∷ shown) (wave ∷ waves) = (name_of circuit net, value_at wave) ∷ traces circuit shown waves
 traces circuit shown waves = []
 
+-- the names of shown nets, each with its signal
+abbrev pub net_traces : Circuit → List ℕ → (ℕ → ℕ → Value) → List Trace
+net_traces circuit shown signals = map (λ net. (name_of circuit net, signals net)) shown
+
 -- the shown nets as in their declarations, which contain no values
 abbrev pub named : Circuit → List ℕ → List Variable
-named circuit shown = variables_of (map (λ net. (name_of circuit net, λ tick. Unknown)) shown)
+named circuit shown = variables_of (net_traces circuit shown (λ net tick. Unknown))

@@ -2,21 +2,22 @@ ghost use Rattle.std.specs.Prelude.{◌≡◌, ◌≢◌, ℕ, ◌<◌, ◌++◌
 ghost use Rattle.std.specs.Io.KnownBytes.{Appends};
 ghost use Rattle.logic3.specs.declared.value.Value.TheVariants.{Unknown};
 ghost use Rattle.logic3.specs.Wave.{Wave};
-ghost use Rattle.vcd_dump.specs.Bytes.{AppendsPrefix};
+ghost use Rattle.texts.specs.Written.{AppendsPrefix, GoesOut};
+ghost use Rattle.vcd_dump.specs.Codes.{AreCodes};
 ghost use Rattle.vcd_dump.specs.Dump.{declaration, declarations, dump_text};
 ghost use Rattle.vcd_dump.specs.Traces.{EndsBy, traces, named};
-ghost use Rattle.vcd_dump.specs.Written.{GoesOut};
 
+use crate::codes::{Code, first_codes};
 use crate::fault::DumpFault;
-use crate::line::gather_waves;
+use crate::gathering::gather_waves;
 use crate::lines::{push_declaration, push_heading};
-use crate::pieces::{send, send_long};
 use crate::unit::TimeUnit;
 use crate::writer::{write_last_time, write_span};
 use design::Design;
 use logic3::Waveform;
 use std::alloc::Global;
 use std::io::Write;
+use texts::{send, send_long};
 use timing_text::Horizon;
 
 fn write_variables<W: Write>(
@@ -24,8 +25,11 @@ fn write_variables<W: Write>(
     text: &mut Vec<u8>,
     design: &Design,
     shown: &[u32],
+    codes: &[Code],
 ) -> Result<(), DumpFault>
-    requires { All (λ net. net < length design.now.circuit) shown.now }
+    requires shown_exist { All (λ net. net < length design.now.circuit) shown.now }
+    requires codes { AreCodes codes.now }
+    requires one_code_each { length codes.now ≡ length shown.now }
     ensures ok { OnOk result (GoesOut (W.contents out.old) (W.contents out.new)
         (text.old.items ++ flat_map declaration (named design.now.circuit shown.now)) text.new.items) }
     ensures err { OnErr result (AppendsPrefix (W.contents out.old) (W.contents out.new)
@@ -33,7 +37,7 @@ fn write_variables<W: Write>(
     ensures fault { IfErr result (λ fault. fault ≢ DumpFault.Failed) }
 {
     for (place, net) in shown.iter().enumerate() {
-        push_declaration(text, place, design.name(*net))?;
+        push_declaration(text, &codes[place], design.name(*net))?;
         send_long(out, text)?;
     }
     Ok(())
@@ -45,10 +49,13 @@ pub fn write_declarations<W: Write>(
     text: &mut Vec<u8>,
     design: &Design,
     shown: &[u32],
+    codes: &[Code],
     unit: TimeUnit,
 ) -> Result<(), DumpFault>
     requires empty { text.old.items ≡ [] }
     requires shown_exist { All (λ net. net < length design.now.circuit) shown.now }
+    requires codes { AreCodes codes.now }
+    requires one_code_each { length codes.now ≡ length shown.now }
     ensures ok { OnOk result (Appends (W.contents out.old) (W.contents out.new)
         (declarations unit (named design.now.circuit shown.now))) }
     ensures sent { OnOk result (text.new.items ≡ []) }
@@ -57,9 +64,10 @@ pub fn write_declarations<W: Write>(
     ensures fault { IfErr result (λ fault. fault ≢ DumpFault.Failed) }
 {
     push_heading(text, unit)?;
-    write_variables(out, text, design, shown)?;
+    write_variables(out, text, design, shown, codes)?;
     text.extend_from_slice(b"$upscope $end\n$enddefinitions $end\n")?;
-    send(out, text)
+    send(out, text)?;
+    Ok(())
 }
 
 /// Writes the dump of the shown nets, from their waveforms, up to a horizon.
@@ -92,10 +100,12 @@ pub fn dump<W: Write>(
 {
     // No net is shown twice.
     prove!(shown.len() <= design.nets() as usize);
+    let codes = first_codes(alloc, shown.len())?;
+    let codes = codes.as_slice();
     let mut text = Vec::new(alloc);
-    let mut lines = Vec::new(alloc);
-    write_declarations(out, &mut text, design, shown, unit)?;
-    gather_waves(&mut lines, waves)?;
-    let time = write_span(out, &mut text, lines.as_slice(), waves.len(), 0, 0)?;
-    write_last_time(out, &mut text, time, horizon.ticks())
+    write_declarations(out, &mut text, design, shown, codes, unit)?;
+    let horizon = horizon.ticks();
+    let lines = gather_waves(alloc, waves, horizon)?;
+    let time = write_span(out, &mut text, codes, lines.as_slice(), 0, 0)?;
+    write_last_time(out, &mut text, time, horizon)
 }

@@ -1,9 +1,10 @@
 ghost use Rattle.std.specs.Prelude.{◌≡◌, Some};
 ghost use Rattle.vcd_dump.specs.declared.fault.DumpFault.TheVariants.{Memory};
-ghost use Rattle.vcd_dump.specs.Faults.{name_of};
+ghost use Rattle.vcd_dump.specs.Faults.{fault_of_write, name_of};
 
 use std::alloc::{AllocError, AllocFailed};
 use std::fmt;
+use texts::WriteFault;
 use thiserror::Error;
 
 /// Why a dump ended early. A prefix of its text has been written then.
@@ -38,6 +39,17 @@ impl fmt::Display for DumpFault {
 
     fn fmt<W: fmt::Write>(&self, f: &mut fmt::Formatter<W>) -> Result<(), fmt::Error> {
         f.write_str(self.name())
+    }
+}
+
+impl From<WriteFault> for DumpFault {
+    ghost from_gives = { λ fault e. e ≡ fault_of_write fault };
+
+    fn from(fault: WriteFault) -> DumpFault {
+        match fault {
+            WriteFault::Write => DumpFault::Write,
+            WriteFault::WroteNothing => DumpFault::WroteNothing,
+        }
     }
 }
 

@@ -3,13 +3,14 @@ ghost use Rattle.std.specs.Prelude.{◌≡◌, ◌≢◌, ℕ, ◌+◌, ◌<◌,
 ghost use Rattle.logic3.specs.declared.value.Value.{Value};
 ghost use Rattle.logic3.specs.declared.change.Change.{Change};
 ghost use Rattle.design.specs.Circuit.{Circuit};
-ghost use Rattle.text_lines.specs.Text.{lines_of, words_of};
+ghost use Rattle.texts.specs.Text.{lines_of, words_of};
+ghost use Rattle.netlist.specs.Netlist.{most_nets};
 ghost use Rattle.vcd_dump.specs.declared.unit.TimeUnit.{TimeUnit};
 ghost use Rattle.vcd_dump.specs.Codes.{code_at};
 ghost use Rattle.vcd_dump.specs.Dump.{dump_keywords, Trace, variables_of, declarations, dump_text};
 ghost use Rattle.vcd_dump.specs.Spans.{StreamView, begun, with_part, with_parts, spanned, span_text, IsPart, IsSpan, CanSpan, parts_of, stream_at, shown_signals, whole_text};
 ghost use Rattle.vcd_dump.specs.Shown.{dump_tokens, IsReadable, Shows};
-ghost use Rattle.vcd_dump.specs.Traces.{name_of, named};
+ghost use Rattle.vcd_dump.specs.Traces.{named, net_traces};
 
 /// The identifier codes of distinct places differ.
 pub fn distinct_codes()
@@ -18,8 +19,8 @@ pub fn distinct_codes()
 
 /// The code of a place below 100,000 has at most three characters, and isn't a keyword of a dump.
 pub fn codes_are_no_keywords()
-    ensures short { (place : ℕ) → place < 100_000 → length (code_at place) ≤ 3 }
-    ensures no_keyword { (place : ℕ) → place < 100_000 → ¬ Contains dump_keywords (code_at place) }
+    ensures short { (place : ℕ) → place < most_nets → length (code_at place) ≤ 3 }
+    ensures no_keyword { (place : ℕ) → place < most_nets → ¬ Contains dump_keywords (code_at place) }
 {}
 
 /// The tokens of a text are those of its lines, end to end.
@@ -70,5 +71,5 @@ pub fn spans_make_the_dump()
         ≡ dump_text unit horizon traces }
     ensures nets { (unit : TimeUnit) (horizon : ℕ) (circuit : Circuit) (shown : List ℕ) (signal : ℕ → ℕ → Value) →
         declarations unit (named circuit shown) ++ whole_text horizon (map signal shown)
-        ≡ dump_text unit horizon (map (λ net. (name_of circuit net, signal net)) shown) }
+        ≡ dump_text unit horizon (net_traces circuit shown signal) }
 {}

@@ -1,12 +1,11 @@
-ghost use Rattle.std.specs.Prelude.{◌≡◌, ◌++◌, decimal, OnOk};
-ghost use Rattle.vcd_dump.specs.Codes.{code_at};
+ghost use Rattle.std.specs.Prelude.{◌≡◌, ◌++◌, OnOk};
 ghost use Rattle.vcd_dump.specs.Dump.{unit_text, heading, time_line, time_line_after, change_text, declaration_text};
 
-use crate::codes::push_code;
+use crate::codes::Code;
 use crate::unit::TimeUnit;
-use itoa::Buffer;
 use logic3::Value;
 use std::alloc::AllocError;
+use texts::push_numbered;
 
 /// Returns the word for a unit.
 pub fn unit_text(unit: TimeUnit) -> &'static [u8]
@@ -22,19 +21,6 @@ pub fn unit_text(unit: TimeUnit) -> &'static [u8]
     }
 }
 
-/// Adds a text and a number in decimal.
-///
-/// # Errors
-/// `AllocError` if an allocation fails.
-pub fn push_numbered(text: &mut Vec<u8>, before: &[u8], number: u64) -> Result<(), AllocError>
-    ensures { OnOk result (text.new.items ≡ text.old.items ++ (before.now ++ decimal number)) }
-{
-    let mut buffer = Buffer::new();
-    text.extend_from_slice(before)?;
-    text.extend_from_slice(buffer.format(number).as_bytes())?;
-    Ok(())
-}
-
 /// Adds the line of a time.
 pub fn push_time(line: &mut Vec<u8>, tick: u64) -> Result<(), AllocError>
     ensures { OnOk result (line.new.items ≡ line.old.items ++ time_line tick) }
@@ -45,22 +31,22 @@ pub fn push_time(line: &mut Vec<u8>, tick: u64) -> Result<(), AllocError>
 }
 
 /// Adds the line of a change.
-pub fn push_change(line: &mut Vec<u8>, value: Value, place: usize) -> Result<(), AllocError>
-    ensures { OnOk result (line.new.items ≡ line.old.items ++ change_text value (code_at place)) }
+pub fn push_change(line: &mut Vec<u8>, value: Value, code: &Code) -> Result<(), AllocError>
+    ensures { OnOk result (line.new.items ≡ line.old.items ++ change_text value code.now) }
 {
-    line.extend_from_slice(value.text().as_bytes())?;
-    push_code(line, place)?;
-    line.push(b'\n')?;
+    let len = line.len();
+    // Five bytes are copied faster than as many as are needed.
+    line.extend_from_slice(&code.change(value))?;
+    line.truncate(len + code.len() + 2);
     Ok(())
 }
 
 /// Adds the declaration of a shown net.
-pub fn push_declaration(line: &mut Vec<u8>, place: usize, name: &[u8]) -> Result<(), AllocError>
-    ensures { OnOk result
-        (line.new.items ≡ line.old.items ++ declaration_text (code_at place) name.now) }
+pub fn push_declaration(line: &mut Vec<u8>, code: &Code, name: &[u8]) -> Result<(), AllocError>
+    ensures { OnOk result (line.new.items ≡ line.old.items ++ declaration_text code.now name.now) }
 {
     line.extend_from_slice(b"$var wire 1 ")?;
-    push_code(line, place)?;
+    line.extend_from_slice(code.as_slice())?;
     line.push(b' ')?;
     line.extend_from_slice(name)?;
     line.extend_from_slice(b" $end\n")?;

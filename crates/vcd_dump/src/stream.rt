@@ -1,13 +1,17 @@
-ghost use Rattle.std.specs.Prelude.{◌≡◌, ◌≢◌, ◌+◌, ℕ, ◌<◌, length, true, false, Err, All, AllPairs, OnOk, OnErr, IfOk, IfErr};
+ghost use Rattle.std.specs.Prelude.{◌≡◌, ◌≢◌, ◌+◌, ℕ, ◌<◌, ◌≤◌, length, true, false, Err, All, AllPairs, OnOk, OnErr, IfOk, IfErr};
 ghost use Rattle.std.specs.Io.KnownBytes.{Appends, Keeps};
-ghost use Rattle.vcd_dump.specs.Bytes.{AppendsPrefix};
+ghost use Rattle.texts.specs.Written.{AppendsPrefix};
+ghost use Rattle.logic3.specs.declared.change.Change.{Change};
 ghost use Rattle.vcd_dump.specs.Dump.{declarations};
 ghost use Rattle.vcd_dump.specs.Traces.{named};
 ghost use Rattle.vcd_dump.specs.Spans.{begun, with_part, with_parts, spanned, lines_text, span_text, last_text, changes_in, IsSpan, CanSpan};
 
+use crate::codes::{Code, first_codes};
 use crate::dumper::write_declarations;
 use crate::fault::DumpFault;
-use crate::line::{Line, gather, gather_parts, sort_lines};
+use crate::gathering::{gather, gather_parts};
+use crate::line::Line;
+use crate::sorting::Sorter;
 use crate::unit::TimeUnit;
 use crate::writer::{write_last_time, write_span};
 use design::Design;
@@ -28,7 +32,8 @@ use timing_text::Horizon;
 /// [`DumpFault::Failed`]. The writer isn't flushed.
 #[derive(Drop)]
 pub struct Stream {
-    nets: usize,
+    // The codes of the shown nets.
+    codes: Vec<Code>,
     horizon: u64,
     written: u64,
     // The time of the last time line.
@@ -36,19 +41,21 @@ pub struct Stream {
     // The number of nets whose changes were given since, and their lines.
     given: usize,
     lines: Vec<Line>,
+    sorter: Sorter,
     failed: bool,
     text: Vec<u8>,
 }
 
 impl Model for Stream {
-    ghost use Rattle.std.specs.Prelude.{◌≡◌, ◌-◌, ◌≤◌, [], false};
-    ghost use Rattle.netlist.specs.Netlist.{most_nets};
+    ghost use Rattle.std.specs.Prelude.{◌≡◌, false, length};
     ghost use Rattle.vcd_dump.specs.Spans.{StreamView};
 
     ghost Value = { StreamView };
 
+    ghost use Rattle.vcd_dump.specs.Ready.{IsReady};
+
     ghost view = { λ s. record {
-      nets = s.nets;
+      nets = length s.codes.items;
       horizon = s.horizon;
       written = s.written;
       time = s.time;
@@ -57,8 +64,7 @@ impl Model for Stream {
       failed = s.failed;
     } };
 
-    ghost invariant = { λ s. s.failed ≡ false →
-        (s.nets ≤ most_nets) × (s.text.items ≡ []) × (s.time ≤ s.written - 1) };
+    ghost invariant = { λ s. s.failed ≡ false → IsReady s };
 }
 
 impl Stream {
@@ -85,15 +91,17 @@ impl Stream {
     {
         // No net is shown twice.
         prove!(shown.len() <= design.nets() as usize);
+        let codes = first_codes(alloc, shown.len())?;
         let mut text = Vec::new(alloc);
-        write_declarations(out, &mut text, design, shown, unit)?;
+        write_declarations(out, &mut text, design, shown, codes.as_slice(), unit)?;
         Ok(Stream {
-            nets: shown.len(),
+            codes,
             horizon: horizon.ticks(),
             written: 0,
             time: 0,
             given: 0,
             lines: Vec::new(alloc),
+            sorter: Sorter::new(alloc),
             failed: false,
             text,
         })
@@ -138,7 +146,9 @@ impl Stream {
 
     // Takes the changes of each shown net, in place of those given so far.
     fn take_parts(&mut self, parts: &[Vec<Change>]) -> Result<(), DumpFault>
-        requires { self.old.failed ≡ false → length parts.now ≡ self.old.nets }
+        requires each { self.old.failed ≡ false → length parts.now ≡ self.old.nets }
+        requires within { self.old.failed ≡ false →
+            All (All (λ (change : Change). change.tick ≤ self.old.horizon)) (changes_in parts.now) }
         ensures stream { OnOk result (self.new ≡ with_parts self.old (changes_in parts.now)) }
         ensures running { OnOk result (self.old.failed ≡ false) }
         ensures fails { OnErr result (self.new.failed ≡ true) }
@@ -162,7 +172,9 @@ impl Stream {
     /// [`DumpFault::Failed`] if the stream has failed before, else [`DumpFault::Memory`]. The stream has
     /// failed then.
     pub fn part(&mut self, changes: &[Change]) -> Result<(), DumpFault>
-        requires { self.old.failed ≡ false → self.old.given < self.old.nets }
+        requires next { self.old.failed ≡ false → self.old.given < self.old.nets }
+        requires within { self.old.failed ≡ false →
+            All (λ (change : Change). change.tick ≤ self.old.horizon) changes.now }
         ensures stream { OnOk result (self.new ≡ with_part self.old changes.now) }
         ensures fails { OnErr result (self.new.failed ≡ true) }
         ensures failed { self.old.failed ≡ true → result ≡ Err DumpFault.Failed }
@@ -202,12 +214,13 @@ impl Stream {
             return Err(DumpFault::Failed);
         }
         self.failed = true;
-        sort_lines(&mut self.lines)?;
+        self.sorter
+            .sort(&mut self.lines, self.written, upto - self.written)?;
         self.time = write_span(
             out,
             &mut self.text,
+            self.codes.as_slice(),
             self.lines.as_slice(),
-            self.nets,
             self.written,
             self.time,
         )?;

@@ -1,23 +1,29 @@
-ghost use Rattle.std.specs.Prelude.{◌≡◌, ◌≢◌, ◌++◌, ◌≤◌, [], length, OnOk, OnErr, IfOk, IfErr};
+ghost use Rattle.std.specs.Prelude.{◌≡◌, ◌≢◌, ◌++◌, ◌<◌, ◌≤◌, [], length, All, OnOk, OnErr, IfOk, IfErr};
 ghost use Rattle.std.specs.Io.KnownBytes.{Appends};
-ghost use Rattle.vcd_dump.specs.Bytes.{AppendsPrefix};
+ghost use Rattle.texts.specs.Written.{AppendsPrefix, GoesOut};
+ghost use Rattle.vcd_dump.specs.Codes.{AreCodes};
 ghost use Rattle.vcd_dump.specs.Dump.{time_line_after};
+ghost use Rattle.vcd_dump.specs.Lines.{LineView};
 ghost use Rattle.vcd_dump.specs.Spans.{zero_text};
-ghost use Rattle.vcd_dump.specs.Written.{GoesOut, written_text, last_tick, written_span};
+ghost use Rattle.vcd_dump.specs.Written.{written_text, last_tick, written_span};
 
+use crate::codes::Code;
 use crate::fault::DumpFault;
 use crate::line::Line;
 use crate::lines::{push_change, push_time_after};
-use crate::pieces::{send, send_long};
 use std::io::Write;
+use texts::{send, send_long};
 
 // Writes lines in order, after a time, and returns the time of the last.
 fn write_lines<W: Write>(
     out: &mut W,
     text: &mut Vec<u8>,
+    codes: &[Code],
     lines: &[Line],
     time: u64,
 ) -> Result<u64, DumpFault>
+    requires codes { AreCodes codes.now }
+    requires places { All (λ (line : LineView). line.place < length codes.now) lines.now }
     ensures last { IfOk result (λ last. last ≡ last_tick time lines.now) }
     ensures ok { OnOk result (GoesOut (W.contents out.old) (W.contents out.new)
         (text.old.items ++ written_text time lines.now) text.new.items) }
@@ -27,9 +33,9 @@ fn write_lines<W: Write>(
 {
     let mut before = time;
     for line in lines {
-        let tick = line.tick;
+        let tick = line.tick();
         push_time_after(text, before, tick)?;
-        push_change(text, line.value, line.place as usize)?;
+        push_change(text, line.value(), &codes[line.place()])?;
         send_long(out, text)?;
         before = tick;
     }
@@ -40,9 +46,12 @@ fn write_lines<W: Write>(
 fn write_values<W: Write>(
     out: &mut W,
     text: &mut Vec<u8>,
+    codes: &[Code],
     values: &[Line],
     time: u64,
 ) -> Result<u64, DumpFault>
+    requires codes { AreCodes codes.now }
+    requires places { All (λ (line : LineView). line.place < length codes.now) values.now }
     ensures last { IfOk result (λ last. last ≡ last_tick time values.now) }
     ensures ok { OnOk result (GoesOut (W.contents out.old) (W.contents out.new)
         (text.old.items ++ zero_text (written_text time values.now)) text.new.items) }
@@ -51,7 +60,7 @@ fn write_values<W: Write>(
     ensures fault { IfErr result (λ fault. fault ≢ DumpFault.Failed) }
 {
     text.extend_from_slice(b"#0\n$dumpvars\n")?;
-    let last = write_lines(out, text, values, time)?;
+    let last = write_lines(out, text, codes, values, time)?;
     text.extend_from_slice(b"$end\n")?;
     Ok(last)
 }
@@ -60,24 +69,27 @@ fn write_values<W: Write>(
 fn write_in_order<W: Write>(
     out: &mut W,
     text: &mut Vec<u8>,
+    codes: &[Code],
     lines: &[Line],
-    nets: usize,
     from: u64,
     time: u64,
 ) -> Result<u64, DumpFault>
-    requires places { from ≡ 0 → nets ≤ length lines.now }
+    requires codes { AreCodes codes.now }
+    requires places { All (λ (line : LineView). line.place < length codes.now) lines.now }
+    requires values { from ≡ 0 → length codes.now ≤ length lines.now }
     ensures last { IfOk result (λ last. last ≡ last_tick time lines.now) }
     ensures ok { OnOk result (GoesOut (W.contents out.old) (W.contents out.new)
-        (text.old.items ++ written_span nets from time lines.now) text.new.items) }
+        (text.old.items ++ written_span (length codes.now) from time lines.now) text.new.items) }
     ensures err { OnErr result (AppendsPrefix (W.contents out.old) (W.contents out.new)
-        (text.old.items ++ written_span nets from time lines.now)) }
+        (text.old.items ++ written_span (length codes.now) from time lines.now)) }
     ensures fault { IfErr result (λ fault. fault ≢ DumpFault.Failed) }
 {
     if from > 0 {
-        return write_lines(out, text, lines, time);
+        return write_lines(out, text, codes, lines, time);
     }
-    let time = write_values(out, text, &lines[..nets], time)?;
-    write_lines(out, text, &lines[nets..], time)
+    let nets = codes.len();
+    let time = write_values(out, text, codes, &lines[..nets], time)?;
+    write_lines(out, text, codes, &lines[nets..], time)
 }
 
 /// Writes the lines of a span that begins at a tick, in their order, and returns the time of the last,
@@ -85,22 +97,24 @@ fn write_in_order<W: Write>(
 pub fn write_span<W: Write>(
     out: &mut W,
     text: &mut Vec<u8>,
+    codes: &[Code],
     lines: &[Line],
-    nets: usize,
     from: u64,
     time: u64,
 ) -> Result<u64, DumpFault>
     requires empty { text.old.items ≡ [] }
-    requires places { from ≡ 0 → nets ≤ length lines.now }
+    requires codes { AreCodes codes.now }
+    requires places { All (λ (line : LineView). line.place < length codes.now) lines.now }
+    requires values { from ≡ 0 → length codes.now ≤ length lines.now }
     ensures last { IfOk result (λ last. last ≡ last_tick time lines.now) }
     ensures ok { OnOk result (Appends (W.contents out.old) (W.contents out.new)
-        (written_span nets from time lines.now)) }
+        (written_span (length codes.now) from time lines.now)) }
     ensures sent { OnOk result (text.new.items ≡ []) }
     ensures err { OnErr result (AppendsPrefix (W.contents out.old) (W.contents out.new)
-        (written_span nets from time lines.now)) }
+        (written_span (length codes.now) from time lines.now)) }
     ensures fault { IfErr result (λ fault. fault ≢ DumpFault.Failed) }
 {
-    let last = write_in_order(out, text, lines, nets, from, time)?;
+    let last = write_in_order(out, text, codes, lines, from, time)?;
     send(out, text)?;
     Ok(last)
 }
@@ -120,5 +134,6 @@ pub fn write_last_time<W: Write>(
     ensures fault { IfErr result (λ fault. fault ≢ DumpFault.Failed) }
 {
     push_time_after(text, time, horizon)?;
-    send(out, text)
+    send(out, text)?;
+    Ok(())
 }

@@ -3,4 +3,4 @@
 mod circuits;
 mod faults;
 mod reading;
-mod texts;
+mod stimulus_texts;

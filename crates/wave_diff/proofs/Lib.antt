@@ -1,4 +1,3 @@
 pub mod CallerLemmas
 mod FirstDifference
 mod Found
-mod Steady

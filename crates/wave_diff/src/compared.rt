@@ -26,8 +26,8 @@ impl Model for Compared {
 }
 
 impl Compared {
+    ghost use Rattle.logic3.specs.Wave.{IsBefore};
     ghost use Rattle.wave_diff.specs.Compared.{IsComparable, IsCompared, compared_of};
-    ghost use Rattle.wave_diff.specs.Ticks.{IsBefore};
 
     /// Returns the multiples of `every` that are at least `from` and at most the horizon.
     ///

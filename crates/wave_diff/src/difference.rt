@@ -1,9 +1,9 @@
 ghost use Rattle.std.specs.Prelude.{◌≡◌, ℕ, not, IfSome};
 ghost use Rattle.logic3.specs.Value.{is_same};
-ghost use Rattle.logic3.specs.Wave.{value_at};
+ghost use Rattle.logic3.specs.Wave.{value_at, IsBefore};
 ghost use Rattle.wave_diff.specs.Compared.{IsCompared};
 ghost use Rattle.wave_diff.specs.Difference.{first_difference};
-ghost use Rattle.wave_diff.specs.Ticks.{IsBefore, NotBefore};
+ghost use Rattle.wave_diff.specs.Ticks.{NotBefore};
 
 use crate::compared::Compared;
 use crate::ticks::next_change;

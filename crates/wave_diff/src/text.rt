@@ -4,8 +4,8 @@ ghost use Rattle.wave_diff.specs.Text.{comparison_line, comparison_text, differe
 
 use crate::comparison::{Comparison, Side};
 use crate::difference::Difference;
-use itoa::Buffer;
 use std::alloc::AllocError;
+use texts::push_numbered;
 
 /// Adds the line about a name: `y same`; `y same, cones differ`; `y differs 7 0 x`, with the
 /// tick and what the first and the second run show there; `y only in first` or `y only in second`.
@@ -36,9 +36,7 @@ fn push_comparison(text: &mut Vec<u8>, comparison: Comparison) -> Result<(), All
 fn push_difference(text: &mut Vec<u8>, found: Difference) -> Result<(), AllocError>
     ensures { OnOk result (text.new.items ≡ text.old.items ++ difference_text found) }
 {
-    let mut buffer = Buffer::new();
-    text.extend_from_slice(b" differs ")?;
-    text.extend_from_slice(buffer.format(found.tick).as_bytes())?;
+    push_numbered(text, b" differs ", found.tick)?;
     text.push(b' ')?;
     text.extend_from_slice(found.first.text().as_bytes())?;
     text.push(b' ')?;

@@ -1,9 +1,8 @@
 //! The tick that is checked next.
 ghost use Rattle.std.specs.Prelude.{◌≡◌, ◌≢◌, ℕ, ◌<◌, ◌≤◌, ◌%◌, ◌^◌, Some};
-ghost use Rattle.logic3.specs.Wave.{value_at};
-ghost use Rattle.wave_diff.specs.Ticks.{IsBefore};
+ghost use Rattle.logic3.specs.Wave.{value_at, IsBefore};
 
-use logic3::{Change, Waveform};
+use logic3::Waveform;
 
 /// Returns the first multiple of a number from a tick on; `None` if it doesn't fit in a `u64`.
 pub fn next_multiple(tick: u64, every: u64) -> Option<u64>
@@ -19,27 +18,16 @@ pub fn next_multiple(tick: u64, every: u64) -> Option<u64>
     tick.checked_add(every - over)
 }
 
-/// Returns the tick of the first change of a waveform after a tick, if any. Takes logarithmic time.
-fn change_after(wave: &Waveform, tick: u64) -> Option<u64>
-    ensures later { (at : ℕ) → result ≡ Some at → tick < at }
-    ensures steady { (at : ℕ) → tick ≤ at → IsBefore at result → value_at wave.now at ≡ value_at wave.now tick }
-{
-    let changes = wave.changes();
-    let due = changes.partition_point(|change| change.tick <= tick);
-    if due < changes.len() {
-        Some(changes[due].tick)
-    } else {
-        None
-    }
-}
-
-/// Returns the tick of the first change of two waveforms after a tick, if any.
+/// Returns the tick of the first change of two waveforms after a tick, if any. Takes logarithmic time.
 pub fn next_change(first: &Waveform, second: &Waveform, tick: u64) -> Option<u64>
     ensures later { (at : ℕ) → result ≡ Some at → tick < at }
     ensures first { (at : ℕ) → tick ≤ at → IsBefore at result → value_at first.now at ≡ value_at first.now tick }
     ensures second { (at : ℕ) → tick ≤ at → IsBefore at result → value_at second.now at ≡ value_at second.now tick }
 {
-    match (change_after(first, tick), change_after(second, tick)) {
+    match (
+        first.next_change_after(tick),
+        second.next_change_after(tick),
+    ) {
         (Some(one), Some(other)) => Some(one.min(other)),
         (Some(one), None) => Some(one),
         (None, other) => other,

@@ -1,22 +1,26 @@
 //! The log of one net.
-ghost use Rattle.std.specs.Prelude.{◌≡◌, ◌-◌, ◌<◌, ◌≤◌, ◌^◌, length, Some, slice_get, OnOk, OnErr, IfSome, OnSome, IfNone};
-ghost use Rattle.std.specs.Option.{option_map};
-ghost use Rattle.cmb_channels.specs.Logs.{EntryView, past, empty_log, written, trimmed, read_at};
+ghost use Rattle.std.specs.Prelude.{◌≡◌, ◌<◌, ◌≤◌, ◌↔◌, ◌^◌, IsTrue, length, drop, OnOk, OnErr};
+ghost use Rattle.cmb_channels.specs.Logs.{past, empty_log, written, cut_to, passed};
 
-use crate::logs::entry::Entry;
+use crate::logs::logged::Logged;
 use crate::message::Message;
 use std::alloc::{AllocError, Global};
-use std::collections::VecDeque;
 use std::marker::Model;
 
-/// The messages of a net that some pin that it feeds hasn't taken yet.
+// A shorter log grows before anything is removed.
+const LEAST_FULL: usize = 16;
+
+/// The messages of a net, from one that every pin has taken or none has up to the newest.
 #[derive(Debug, Drop)]
 pub struct Log {
     // The number of pins that read it.
     readers: u32,
+    // The number of these that haven't taken all messages.
+    behind: u32,
     // The number of messages that were removed, modulo 2^64.
     cut: u64,
-    entries: VecDeque<Entry>,
+    // The messages that came after them, the oldest first.
+    messages: Vec<Logged>,
 }
 
 impl Model for Log {
@@ -24,7 +28,7 @@ impl Model for Log {
 
     ghost Value = { LogView };
 
-    ghost view = { λ l. record { readers = l.readers; cut = l.cut; entries = l.entries.items } };
+    ghost view = { λ l. record { readers = l.readers; behind = l.behind; cut = l.cut; messages = l.messages.items } };
 }
 
 impl Log {
@@ -34,27 +38,46 @@ impl Log {
     {
         Log {
             readers,
+            behind: 0,
             cut: 0,
-            entries: VecDeque::new(alloc),
+            messages: Vec::new(alloc),
         }
     }
 
     /// Returns the number of messages in the log.
-    pub fn len(&self) -> u64
-        ensures { result ≡ length self.now.entries }
+    pub fn len(&self) -> usize
+        ensures { result ≡ length self.now.messages }
     {
-        self.entries.len() as u64
+        self.messages.len()
     }
 
-    /// Returns the number of messages that a pin that has taken `count` messages hasn't taken.
-    pub fn unread(&self, count: u64) -> u64
-        requires { past self.now.cut count ≤ length self.now.entries }
-        ensures { result ≡ length self.now.entries - past self.now.cut count }
+    /// Returns whether every pin has taken all messages.
+    pub fn is_read(&self) -> bool
+        ensures { IsTrue result ↔ (self.now.behind ≡ 0) }
     {
-        self.len() - count.wrapping_sub(self.cut)
+        self.behind == 0
     }
 
-    /// Adds a message at the end. A log that no pin reads keeps nothing, and allocates nothing.
+    /// Returns whether one more message needs more memory, and the log has as many messages as there are
+    /// pins that read it, and more than a few. To look at each pin then costs no more than to move the
+    /// messages.
+    pub fn is_full(&self) -> bool
+        ensures { IsTrue result → self.now.readers ≤ length self.now.messages }
+    {
+        let len = self.messages.len();
+        len == self.messages.capacity() && len >= LEAST_FULL && len >= self.readers as usize
+    }
+
+    /// Returns the messages that a pin that has taken `count` messages hasn't taken, the oldest first.
+    pub fn unread(&self, count: u64) -> &[Logged]
+        requires { past self.now.cut count ≤ length self.now.messages }
+        ensures { result.now ≡ drop (past self.now.cut count) self.now.messages }
+    {
+        &self.messages[count.wrapping_sub(self.cut) as usize..]
+    }
+
+    /// Adds a message at the end, which no pin has taken. A log that no pin reads keeps nothing, and
+    /// allocates nothing.
     ///
     /// An `AllocError` leaves the log unchanged.
     pub fn write(&mut self, message: Message) -> Result<(), AllocError>
@@ -63,46 +86,32 @@ impl Log {
         ensures memory { OnErr result (0 < self.old.readers) }
     {
         if self.readers > 0 {
-            self.entries.push_back(Entry::new(message, self.readers))?;
+            self.messages.push(Logged::of(message))?;
+            self.behind = self.readers;
         }
         Ok(())
     }
 
-    /// Hands the next message, if any, to a pin that has taken `count` messages. Allocates nothing.
-    pub fn read(&mut self, count: u64) -> Option<Message>
-        requires { IfSome (slice_get self.old.entries (past self.old.cut count)) (λ entry. 0 < entry.left) }
-        ensures message { result ≡ option_map (λ (entry : EntryView). entry.message) (slice_get self.old.entries (past self.old.cut count)) }
-        ensures some { OnSome result (self.new ≡ read_at (past self.old.cut count) self.old) }
-        ensures none { IfNone result (self.new ≡ self.old) }
-        ensures few { length self.old.entries < 2 ^ 63 }
+    /// Notes that a pin, which was behind, has taken `count` messages now.
+    pub fn pass(&mut self, count: u64)
+        requires { past self.old.cut count ≡ length self.old.messages → 0 < self.old.behind }
+        ensures passed { self.new ≡ passed (past self.old.cut count) self.old }
+        ensures few { length self.old.messages < 2 ^ 63 }
     {
-        let entry = self.entries.get_mut(count.wrapping_sub(self.cut) as usize)?;
-        let message = entry.take();
-        self.trim();
-        Some(message)
-    }
-
-    /// Removes the first message if every pin has taken it.
-    fn trim(&mut self)
-        ensures { self.new ≡ trimmed self.old self.old.entries }
-    {
-        match self.entries.front() {
-            Some(entry) if entry.left() == 0 => {}
-            _ => return,
+        if count.wrapping_sub(self.cut) == self.messages.len() as u64 {
+            self.behind -= 1;
         }
-        self.entries.pop_front();
-        self.cut = self.cut.wrapping_add(1);
-        give_back(&mut self.entries);
     }
-}
 
-/// Gives back half of a queue's memory if it is for more than a few messages and less than a quarter
-/// full.
-fn give_back(entries: &mut VecDeque<Entry>)
-    ensures { entries.new.items ≡ entries.old.items }
-{
-    let room = entries.capacity();
-    if room > 16 && entries.len() < room / 4 {
-        entries.shrink_to(room / 2);
+    /// Removes all messages but the last `kept`, if these are at most half of them. Keeps the memory.
+    pub fn cut_to(&mut self, kept: usize)
+        ensures { self.new ≡ cut_to kept self.old }
+    {
+        let len = self.messages.len();
+        if kept <= len / 2 {
+            self.cut = self.cut.wrapping_add((len - kept) as u64);
+            self.messages.copy_within(len - kept.., 0);
+            self.messages.truncate(kept);
+        }
     }
 }

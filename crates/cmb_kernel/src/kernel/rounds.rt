@@ -1,10 +1,10 @@
-ghost use Rattle.std.specs.Prelude.{◌≡◌, ℕ, ◌+◌, ◌<◌, ◌≤◌, min, true, false, None, length, map, replicate, slice_index_or, [], Err, OnOk, OnErr};
+ghost use Rattle.std.specs.Prelude.{◌≡◌, ℕ, ◌<◌, ◌≤◌, true, false, None, length, map, replicate, [], Err, OnOk, OnErr};
 ghost use Rattle.std.specs.List.{range_with_len};
 ghost use Rattle.design.specs.Circuit.{pin_count};
 ghost use Rattle.design.specs.Equations.{waves_of};
 ghost use Rattle.cmb_events.specs.declared.event.Event.TheVariants.{Deliver, Advance};
 ghost use Rattle.cmb_kernel.specs.declared.fault.KernelFault.TheVariants.{Memory};
-ghost use Rattle.cmb_kernel.specs.State.{started, frontier_at, least_frontier, least_delay, most_rounds, IsComplete, IsUndrained, is_complete, waves_in};
+ghost use Rattle.cmb_kernel.specs.State.{started, frontier_at, waiting_at, least_frontier, past_least, most_rounds, IsComplete, IsUndrained, is_complete, waves_in};
 ghost use Rattle.cmb_kernel.specs.Step.{steps, deliveries_from, round_of, rounds, completed_within};
 ghost use Rattle.cmb_kernel.specs.Sound.{waves_kept};
 ghost use Rattle.cmb_kernel.specs.Calls.{IsOutcome};
@@ -27,8 +27,7 @@ impl<'d, F: Fabric> Kernel<'d, F> {
         ensures outcome { IsOutcome self.old self.new None (round_of self.old.state) tt result }
         // It raises the least frontier by at least the least delay, or to the end.
         ensures raises { OnOk result
-            (min self.old.end (least_frontier self.old.end self.old.state + least_delay self.old.end self.old.circuit)
-            ≤ least_frontier self.new.end self.new.state) }
+            (past_least self.old.end self.old.circuit self.old.state ≤ least_frontier self.new.end self.new.state) }
         ensures rises { OnOk result (least_frontier self.old.end self.old.state < self.old.end →
             least_frontier self.old.end self.old.state < least_frontier self.new.end self.new.state) }
     {
@@ -90,7 +89,7 @@ impl<'d, F: Fabric> Kernel<'d, F> {
         requires running { self.old.failed ≡ false }
         requires pin { pin < pin_count self.old.circuit }
         ensures ok { OnOk result (self.new ≡ record self.old {
-          state = steps self.old.state (replicate (length (slice_index_or self.old.state.lists pin [])) (Deliver pin));
+          state = steps self.old.state (replicate (length (waiting_at self.old.state pin)) (Deliver pin));
         }) }
         ensures err { OnErr result (self.new.failed ≡ true) }
     {

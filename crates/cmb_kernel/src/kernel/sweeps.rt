@@ -1,10 +1,9 @@
-ghost use Rattle.std.specs.Prelude.{◌≡◌, ℕ, ◌+◌, ◌<◌, ◌≤◌, min, false, true, None, All, length, slice_get, OnOk, OnErr};
+ghost use Rattle.std.specs.Prelude.{◌≡◌, ◌+◌, ◌<◌, false, true, None, All, length, slice_get, OnOk, OnErr};
 ghost use Rattle.std.specs.Option.{ForSome};
 ghost use Rattle.design.specs.Circuit.{Net};
 ghost use Rattle.design.specs.Pins.{first_pin};
-ghost use Rattle.cmb_kernel.specs.State.{floor_at, frontier_at, received_at, least_frontier, least_delay};
-ghost use Rattle.cmb_kernel.specs.Sweeps.{caught_up, swept_net, swept, AllKnow, HoldsAll};
-ghost use Rattle.cmb_kernel.specs.Useful.{NoneFalls};
+ghost use Rattle.cmb_kernel.specs.State.{received_at};
+ghost use Rattle.cmb_kernel.specs.Sweeps.{caught_up, swept_net, swept, IsSwept};
 ghost use Rattle.cmb_kernel.specs.Sound.{IsSound};
 ghost use Rattle.cmb_kernel.specs.Calls.{IsOutcome};
 
@@ -28,23 +27,7 @@ impl<'d, F: Fabric> Kernel<'d, F> {
     pub fn sweep(&mut self, order: &[u32], tick: u64) -> Result<(), KernelFault>
         requires nets { All (λ net. net < length self.old.circuit) order.now }
         ensures outcome { IsOutcome self.old self.new None (swept tick order.now self.old.state) tt result }
-        // If it goes over all nets, to a tick that is not below the least frontier, it raises that by at
-        // least the least delay, or to the end.
-        ensures raises { HoldsAll self.old.circuit order.now → least_frontier self.old.end self.old.state ≤ tick →
-            OnOk result
-            (min self.old.end (least_frontier self.old.end self.old.state + least_delay self.old.end self.old.circuit)
-            ≤ least_frontier self.new.end self.new.state) }
-        ensures rises { HoldsAll self.old.circuit order.now → least_frontier self.old.end self.old.state ≤ tick →
-            OnOk result (least_frontier self.old.end self.old.state < self.old.end →
-            least_frontier self.old.end self.old.state < least_frontier self.new.end self.new.state) }
-        // If every net is known up to a tick, each net of the list is then known at least the least delay
-        // past it, or to the end.
-        ensures farther { (low : ℕ) → AllKnow self.old.circuit low self.old.state → low ≤ tick → low ≤ self.old.end →
-            OnOk result (All (λ net.
-            min self.old.end (low + least_delay self.old.end self.old.circuit) ≤ frontier_at self.new.state net) order.now) }
-        ensures none_falls { OnOk result (NoneFalls self.old.state self.new.state) }
-        // It takes out no changes.
-        ensures floors { OnOk result ((net : ℕ) → floor_at self.new.state net ≡ floor_at self.old.state net) }
+        ensures reaches { OnOk result (IsSwept tick order.now self.old self.new) }
     {
         self.check_running()?;
         for net in order {

@@ -1,8 +1,8 @@
-ghost use Rattle.std.specs.Prelude.{◌≡◌, ℕ, ◌<◌, ◌↔◌, true, false, length, slice_index_or, [], IsNone, IfSome, IfNone};
+ghost use Rattle.std.specs.Prelude.{◌≡◌, ℕ, ◌<◌, ◌↔◌, true, false, length, [], IsNone, IfSome, IfNone};
 ghost use Rattle.design.specs.Circuit.{pin_count};
 ghost use Rattle.design.specs.Equations.{waves_of};
 ghost use Rattle.cmb_events.specs.declared.event.Event.TheVariants.{Deliver, Advance};
-ghost use Rattle.cmb_kernel.specs.State.{frontier_at, IsComplete, IsUndrained, waves_in};
+ghost use Rattle.cmb_kernel.specs.State.{frontier_at, waiting_at, IsComplete, IsUndrained, waves_in};
 ghost use Rattle.cmb_kernel.specs.Sound.{waves_kept};
 ghost use Rattle.cmb_kernel.specs.Useful.{is_useful};
 ghost use Rattle.cmb_events.specs.Schedule.{Exists};
@@ -72,8 +72,8 @@ impl<'d, F: Fabric> Kernel<'d, F> {
     fn waiting_pin(&self) -> Option<u32>
         requires { self.now.failed ≡ false }
         ensures some { IfSome result (λ pin. (pin < pin_count self.now.circuit)
-            × (0 < length (slice_index_or self.now.state.lists pin []))) }
-        ensures none { IfNone result ((pin : ℕ) → slice_index_or self.now.state.lists pin [] ≡ []) }
+            × (0 < length (waiting_at self.now.state pin))) }
+        ensures none { IfNone result ((pin : ℕ) → waiting_at self.now.state pin ≡ []) }
     {
         for pin in 0..self.design.pins() {
             if self.waiting(pin) > 0 {

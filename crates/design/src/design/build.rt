@@ -1,5 +1,5 @@
 ghost use Rattle.std.specs.Prelude.{◌≡◌, ◌≢◌, ◌≤◌, length, IfOk, IsOk};
-ghost use Rattle.text_lines.specs.Text.{longest_text};
+ghost use Rattle.texts.specs.Text.{longest_text};
 ghost use Rattle.netlist.specs.Netlist.{IsNetlist};
 ghost use Rattle.design.specs.Build.{design_of};
 ghost use Rattle.timing_text.specs.Options.{options_of};

@@ -5,7 +5,7 @@ use crate::traces::circuits::{
 };
 use cmb_events::Schedule;
 use cmb_kernel::Counts;
-use event_trace::trace;
+use event_trace::trace_events;
 use std::alloc::Global;
 use std::process::Abort;
 use std::test::Fail;
@@ -199,7 +199,7 @@ fn traces(rt: &impl Abort, alloc: Global, row: &Row) -> Result<(), Fail> {
     let schedule = Schedule::read(alloc, schedule, &design)?;
     let mut out = Vec::new(alloc);
     let horizon = Horizon::new(horizon)?;
-    let answer = trace(alloc, &mut out, &design, horizon, schedule.events());
+    let answer = trace_events(alloc, &mut out, &design, horizon, schedule.events());
     assert!(rt; answer == Ok(counts(wanted)));
     assert!(rt; out.as_slice() == text);
     Ok(())
@@ -228,7 +228,7 @@ fn long_trace(rt: HostRuntime) -> Result<(), Fail> {
     }
     text.push_str("events 4001 changes 0 nulls 2001 rounds 2001\n")?;
     let mut out = Vec::new(alloc);
-    let answer = trace(alloc, &mut out, &design, Horizon::new(2_000)?, &[]);
+    let answer = trace_events(alloc, &mut out, &design, Horizon::new(2_000)?, &[]);
     assert!(&rt; answer == Ok(counts((4_001, 0, 2_001, 2_001))));
     assert!(&rt; out.as_slice() == text.as_bytes());
     Ok(())

@@ -1,5 +1,5 @@
 use Rattle.std.proofs.Common.{◌≡◌}
-use Rattle.text_lines.specs.Fold.{fold_lines, one_a_line}
+use Rattle.texts.specs.Fold.{fold_lines, one_a_line}
 use Rattle.bench_text.specs.NetlistOf.{numbered_statement, statements_of}
 use Rattle.bench_text.specs.Stages.{seen_lines}
 use Rattle.bench_text.proofs.reader.statements.Given as goal

@@ -1,5 +1,5 @@
 use Rattle.std.proofs.Common.{◌≡◌, List, ◌≤◌, ◌++◌, length, map, drop}
-use Rattle.text_lines.specs.Text.{longest_text}
+use Rattle.texts.specs.Text.{longest_text}
 use Rattle.netlist.specs.Netlist.{NetView}
 use Rattle.bench_text.specs.Canonical.{canonical_lines, net_statement}
 use Rattle.bench_text.proofs.writer.push_nets.Given as goal

@@ -1,5 +1,5 @@
 use Rattle.std.proofs.Common.{◌≡◌, ℕ, List, ◌≤◌, ◌++◌, length, map, drop}
-use Rattle.text_lines.specs.Text.{longest_text}
+use Rattle.texts.specs.Text.{longest_text}
 use Rattle.bench_text.specs.Canonical.{canonical_lines, output_statement}
 use Rattle.bench_text.proofs.writer.push_outputs.Given as goal
 

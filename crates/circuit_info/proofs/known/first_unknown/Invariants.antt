@@ -1,5 +1,5 @@
 use Rattle.std.proofs.Common.{◌-◌, length}
-use Rattle.circuit_info.specs.Climb.{KnownBefore}
+use Rattle.circuit_info.specs.Known.{KnownBefore}
 use Rattle.circuit_info.proofs.known.first_unknown.Given as goal
 
 abbrev pub invariant-loop-place : goal.invariant-loop-place

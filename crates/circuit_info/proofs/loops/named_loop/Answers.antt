@@ -2,7 +2,7 @@ use Rattle.std.proofs.Common.{◌≡◌, Contains, false, sym, subst}
 use Rattle.std.proofs.lemmas.Result.{IfOk-weaker}
 use Rattle.netlist.specs.Marks.{is_seen}
 use Rattle.circuit_info.specs.Loops.{IsNamedLoop}
-use Rattle.circuit_info.specs.Climb.{IsRestFrom}
+use Rattle.circuit_info.specs.Known.{IsRestFrom}
 use Rattle.circuit_info.proofs.Marks.{read_true, read_false}
 use Rattle.circuit_info.proofs.Ways.{way_below, IsWay-on, IsNamedLoop-way}
 use Rattle.circuit_info.proofs.loops.named_loop.Goals as goal

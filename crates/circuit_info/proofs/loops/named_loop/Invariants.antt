@@ -1,5 +1,5 @@
 use Rattle.netlist.specs.Marks.{unseen}
-use Rattle.circuit_info.specs.Climb.{IsWay}
+use Rattle.circuit_info.specs.Known.{IsWay}
 use Rattle.circuit_info.proofs.loops.named_loop.Given as goal
 
 abbrev pub invariant-loop-passed : goal.invariant-loop-passed

@@ -1,7 +1,7 @@
 use Rattle.std.proofs.Common.{◌≡◌, ◌<◌, length, slice_index_or, false, sym, ap, subst, arith}
 use Rattle.circuit_info.specs.Levels.{pins_at}
 use Rattle.circuit_info.specs.Loops.{LeadsOn}
-use Rattle.circuit_info.specs.Climb.{is_known, KnownBefore}
+use Rattle.circuit_info.specs.Known.{is_known, KnownBefore}
 use Rattle.circuit_info.proofs.Ways.{some_unknown, LeadsOn-first}
 use Rattle.circuit_info.proofs.loops.next.Goals as goal
 use Rattle.circuit_info.proofs.loops.next.Goals.{After-first_unknown-place}

@@ -12,6 +12,6 @@ pub returns-clause-rounds : goal.returns-clause-rounds
 returns-clause-rounds c circuit ok last state sound events exist complete = shows_as_rounds circuit ok last state events sound exist complete
 
 pub returns-clause-agree : goal.returns-clause-agree
-returns-clause-agree c circuit ok last state sound one other exist_one exist_other complete_one complete_other =
+returns-clause-agree c circuit ok last state sound one exist_one complete_one other exist_other complete_other =
     shows_as_rounds circuit ok last state one sound exist_one complete_one
     ∙ sym (shows_as_rounds circuit ok last state other sound exist_other complete_other)

@@ -1,7 +1,7 @@
 -- The lines so far, and then those of the ticks left, are all.
 use Rattle.std.proofs.Common.{◌≡◌, ◌≤◌, ◌+◌, ◌-◌, ◌++◌, length, flat_map, map}
 use Rattle.std.specs.List.{range_with_len}
-use Rattle.text_lines.specs.Text.{longest_text}
+use Rattle.texts.specs.Text.{longest_text}
 use Rattle.drawn_stimuli.specs.Inputs.{seen_input}
 use Rattle.drawn_stimuli.specs.StimulusText.{tick_text}
 use Rattle.drawn_stimuli.proofs.text.lines_text.Given as goal

@@ -1,5 +1,5 @@
 use Rattle.std.proofs.Common.{◌∙◌, List, ap, map, Ok, sym}
-use Rattle.text_lines.specs.Text.{unless_too_long}
+use Rattle.texts.specs.Text.{unless_too_long}
 use Rattle.drawn_stimuli.specs.declared.fault.DriveFault.TheVariants.{TooLong}
 use Rattle.drawn_stimuli.specs.declared.input.InputNet.{InputNet}
 use Rattle.drawn_stimuli.specs.Inputs.{drawn_count, seen_drive, seen_input}

@@ -1,6 +1,6 @@
-use Rattle.std.proofs.Common.{◌≡◌, ◌∙◌, List, Bool, true, false, [], ◌∷◌, Result, Ok, Err, refl, sym, ap, subst, arith}
+use Rattle.std.proofs.Common.{◌≡◌, ◌∙◌, ℕ, ◌+◌, ◌<◌, ◌≤◌, All, List, Bool, true, false, [], ◌∷◌, Result, Ok, Err, refl, sym, ap, subst, arith}
 use Rattle.std.specs.List.{AllByRecursion}
-use Rattle.std.proofs.lemmas.List.Elements.{All-from_recursion}
+use Rattle.std.proofs.lemmas.List.Elements.{All-from_recursion, All-weaker}
 use Rattle.logic3.specs.declared.change.Change.{Change}
 use Rattle.vcd_dump.specs.declared.fault.DumpFault.{DumpFault}
 use Rattle.vcd_dump.specs.declared.fault.DumpFault.TheVariants.{Failed}
@@ -21,6 +21,22 @@ had_not_failed : {A : Type 0} (failed : Bool) (answer : Result A DumpFault) (don
     failed ≡ false
 had_not_failed true answer done is stops = let fault = stops refl in absurd (cc)
 had_not_failed false answer done is stops = refl
+
+-- changes of a span are no later than a horizon behind it
+within : (from upto horizon : ℕ) (part : List Change) → IsPart from upto part → upto ≤ horizon + 1 → All (λ (change : Change). change.tick ≤ horizon) part
+within from upto horizon part is near =
+    All-weaker (λ (change : Change). change.tick < upto) (λ (change : Change). change.tick ≤ horizon) (λ change early. omega (arith, early, near)) part is.high
+
+pub part-requires-clause-within : goal.part-requires-clause-within
+part-requires-clause-within g c = λ runs.
+    within c.args.stream.now.written c.args.upto c.args.stream.now.horizon c.args.first.now c.requires.first (c.requires.within runs)
+
+pub part-requires-2-clause-within : goal.part-requires-2-clause-within
+part-requires-2-clause-within g c = λ _.
+    let stream = c.args.stream.now in
+    let runs = had_not_failed stream.failed c.part.result _ c.in_ok-part.was c.part.ensures.failed in
+    let horizon = ap (λ (s : StreamView). s.horizon) c.in_ok-part.ensures.stream in
+    within stream.written c.args.upto c.part.new.self.horizon c.args.second.now c.requires.second (omega (arith, c.requires.within runs, horizon))
 
 pub write_parts-requires : goal.write_parts-requires
 write_parts-requires g c = λ _.

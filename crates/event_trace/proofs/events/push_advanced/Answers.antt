@@ -11,5 +11,5 @@ returns-clause-text c =
     (c.is_failed.ensures.sound c.requires.running) c.requires.undrained
     (subst (λ (circuit : Circuit). c.args.net < length circuit) (sym c.requires.circuit) c.requires.exists)
     c.frontier-from.result c.frontier-to.result c.frontier-from.ensures.frontier c.frontier-to.ensures.frontier
-    c.waveform.result.now c.waveform.ensures.undrained c.changes_between-changes.result.now c.changes_between-changes.ensures
+    c.waveform.result.now c.waveform.ensures.undrained c.changes_within-changes.result.now c.changes_within-changes.ensures
     c.args.design.now.circuit c.name.result.now c.name.ensures)

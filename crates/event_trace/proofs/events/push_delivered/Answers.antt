@@ -21,7 +21,7 @@ returns-clause-text c =
     (delivered_line c.args.kernel.now c.apply.new.kernel c.args.pin c.in_ok-apply.ensures.ok (c.is_failed.ensures.circuit c.requires.running)
     (c.is_failed.ensures.sound c.requires.running) c.requires.undrained
     (subst (λ (over : Circuit). c.args.pin < pin_count over) (sym c.requires.circuit) c.requires.exists)
-    c.received-from.result c.received-to.result c.received-from.ensures.received c.received-to.ensures.received c.pin_source.result
-    (subst (λ (over : Circuit). slice_get (sources_of over) c.args.pin ≡ Some c.pin_source.result) (sym c.requires.circuit) c.pin_source.ensures.source)
-    c.waveform.result.now c.waveform.ensures.undrained c.changes_between-changes.result.now c.changes_between-changes.ensures
+    c.received-from.result c.received-to.result c.received-from.ensures.received c.received-to.ensures.received c.pin_source-source.result
+    (subst (λ (over : Circuit). slice_get (sources_of over) c.args.pin ≡ Some c.pin_source-source.result) (sym c.requires.circuit) c.pin_source-source.ensures.source)
+    c.waveform.result.now c.waveform.ensures.undrained c.changes_within-changes.result.now c.changes_within-changes.ensures
     circuit c.requires.circuit c.pin_net-net.result (c.args.pin - c.pin.result) c.name.result.now c.pin_net-net.ensures.net place.1 c.name.ensures)

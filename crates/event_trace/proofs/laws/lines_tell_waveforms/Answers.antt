@@ -2,7 +2,7 @@ use Rattle.event_trace.proofs.Waveforms.{waveform_told}
 use Rattle.event_trace.proofs.laws.lines_tell_waveforms.Goals as goal
 
 pub returns : goal.returns
-returns c = λ circuit ok end events exist net below.
+returns c = λ circuit end events ok exist net below.
     waveform_told circuit ok end
     (record {
       sound = λ state sound. c.truth.ensures.steps circuit ok end state sound;

@@ -5,7 +5,7 @@ use Rattle.cmb_events.specs.declared.event.Event.{Event}
 use Rattle.cmb_events.specs.Schedule.{Exists}
 use Rattle.cmb_kernel.specs.Step.{round_events}
 use Rattle.cmb_kernel.proofs.CallerLemmas.{round_exists}
-use Rattle.vcd_dump.specs.Bytes.{AppendsPrefix}
+use Rattle.texts.specs.Written.{AppendsPrefix}
 use Rattle.event_trace.proofs.RoundEvents.{round_lines_are}
 use Rattle.event_trace.proofs.rounds.walk_round.Goals as goal
 

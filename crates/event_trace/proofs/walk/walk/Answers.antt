@@ -1,8 +1,8 @@
 use Rattle.std.proofs.Common.{subst, ap, arith, ◌∙◌}
 use Rattle.logic3.proofs.CallerLemmas.{OnErr_always}
 use Rattle.cmb_kernel.specs.State.{KernelView}
-use Rattle.vcd_dump.specs.Written.{GoesOut}
-use Rattle.vcd_dump.proofs.CallerLemmas.{GoesOut-then, GoesOut-stopped, GoesOut-fault}
+use Rattle.texts.specs.Written.{GoesOut}
+use Rattle.texts.proofs.CallerLemmas.{GoesOut-then, GoesOut-stopped, GoesOut-fault}
 use Rattle.event_trace.proofs.Walking.{goes_on, lines_on, undrained_on}
 use Rattle.event_trace.proofs.walk.walk.Goals as goal
 

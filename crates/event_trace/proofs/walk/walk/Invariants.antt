@@ -2,7 +2,7 @@
 use Rattle.std.proofs.Common.{◌≡◌, ◌++◌, false, drop}
 use Rattle.cmb_kernel.specs.State.{IsUndrained}
 use Rattle.cmb_kernel.specs.Step.{steps}
-use Rattle.vcd_dump.specs.Written.{GoesOut}
+use Rattle.texts.specs.Written.{GoesOut}
 use Rattle.event_trace.specs.Lines.{lines_text}
 use Rattle.event_trace.specs.Trace.{lines_of}
 use Rattle.event_trace.proofs.walk.walk.Given as goal

@@ -4,7 +4,7 @@ use Rattle.std.proofs.lemmas.Iterator.Consumers.{YieldsList-at, YieldsList-from_
 use Rattle.std.proofs.lemmas.Iterator.Search.{find_from_yields_List}
 use Rattle.std.proofs.lemmas.Iterator.Splits.{YieldsList-from_slice_split}
 use Rattle.explanations.specs.AtFault.{is_gap, is_long}
-use Rattle.text_lines.specs.Text.{is_empty}
+use Rattle.texts.specs.Text.{is_empty}
 use Rattle.explanations.proofs.bench_lines.long_name_behind.Goals as goal
 
 pub returns : goal.returns

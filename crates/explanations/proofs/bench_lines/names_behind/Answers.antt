@@ -3,7 +3,7 @@ use Rattle.std.proofs.lemmas.Iterator.Adapters.{YieldsList-from_skip}
 use Rattle.std.proofs.lemmas.Iterator.Consumers.{map_from_collect, YieldsList-at, YieldsList-from_filter}
 use Rattle.std.proofs.lemmas.Iterator.Splits.{YieldsList-from_slice_split}
 use Rattle.explanations.specs.AtFault.{is_gap}
-use Rattle.text_lines.specs.Text.{is_empty}
+use Rattle.texts.specs.Text.{is_empty}
 use Rattle.explanations.proofs.bench_lines.names_behind.Goals as goal
 
 pub returns : goal.returns

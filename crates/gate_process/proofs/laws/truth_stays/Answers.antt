@@ -6,7 +6,7 @@ pub returns-clause-advanced : goal.returns-clause-advanced
 returns-clause-advanced c = λ signals number process ok. advanced_knows signals number process ok.meets ok.knows
 
 pub returns-clause-heard : goal.returns-clause-heard
-returns-clause-heard c = λ signals number place to process message rest hears.
+returns-clause-heard c = λ signals number process place to message rest hears.
     heard_knows signals number process place hears.source to hears.received message rest hears.truthful.meets hears.truthful.knows
     hears.pin hears.so_far hears.tells
 

@@ -1,6 +1,9 @@
-use Rattle.std.proofs.Common.{◌≡◌, ◌<◌, ℕ, List, ◌++◌, map, take, get_or, length, refl, ap, sym, ◌∙◌, arith}
+use Rattle.std.proofs.Common.{◌≡◌, ◌<◌, ◌≤◌, ℕ, List, ◌++◌, map, take, get_or, length, refl, ap, sym, ◌∙◌, arith}
 use Rattle.std.proofs.lemmas.List.{length-map, length-take-le}
+use Rattle.std.proofs.lemmas.List.Elements.{All-same, All-weaker}
+use Rattle.logic3.specs.declared.change.Change.{Change}
 use Rattle.logic3.specs.Wave.{changes_between}
+use Rattle.logic3.proofs.CallerLemmas.{All-wave_of}
 use Rattle.design.specs.Equations.{value_of}
 use Rattle.cmb_kernel.specs.State.{floor_at}
 use Rattle.vcd_dump.specs.Spans.{StreamView, with_part, with_parts}
@@ -26,8 +29,8 @@ drain_below_into-requires-clause-known c =
 many : {A : Type 0} (f : ℕ → A) (nets : List ℕ) (i : ℕ) → i < length nets → length (map f (take i nets)) ≡ i
 many f nets i inside = length-map (take i nets) f ∙ length-take-le i nets (omega (arith, inside))
 
-pub part-requires : goal.part-requires
-part-requires c = λ running.
+pub part-requires-clause-next : goal.part-requires-clause-next
+part-requires-clause-next c = λ running.
     let start = c.args.kernel.now in
     let i = c.loop-net.net-index in
     let inside : i < length c.args.nets.now = omega arith in
@@ -36,6 +39,17 @@ part-requires c = λ running.
     let nets = ap (λ (s : StreamView). s.nets) is in
     let done = many (λ net. changes_between (value_of start.circuit net) (floor_at start.state net) c.args.bound) c.args.nets.now i inside in
     omega (arith, given, nets, done, inside, c.requires.each)
+
+pub part-requires-clause-within : goal.part-requires-clause-within
+part-requires-clause-within c = λ running.
+    let net = get_or c.args.nets.now c.loop-net.net-index 0 in
+    let signal = value_of c.loop-net.kernel.circuit net in
+    let from = floor_at c.loop-net.kernel.state net in
+    let horizon = ap (λ (s : StreamView). s.horizon) c.loop-net.invariant.stream in
+    let is = c.as_slice.ensures.value ∙ c.in_ok-drain_below_into.ensures.changes ∙ ap (λ cs. cs ++ changes_between signal from c.args.bound) c.clear.ensures.items in
+    All-same (λ (change : Change). change.tick ≤ c.loop-net.stream.horizon) c.as_slice.result.now (changes_between signal from c.args.bound) is
+    (All-weaker (λ (change : Change). change.tick < c.args.bound) (λ (change : Change). change.tick ≤ c.loop-net.stream.horizon)
+    (λ change early. omega (arith, early, horizon, c.requires.end)) (changes_between signal from c.args.bound) (All-wave_of signal from c.args.bound))
 
 pub loop-net-preserved : goal.loop-net-preserved
 loop-net-preserved c =

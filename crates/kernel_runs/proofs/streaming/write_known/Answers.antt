@@ -6,7 +6,7 @@ use Rattle.std.proofs.lemmas.Result.{err_from_is_err_and}
 use Rattle.design.specs.Equations.{value_of}
 use Rattle.cmb_kernel.specs.State.{KernelView, floor_at}
 use Rattle.vcd_dump.specs.declared.fault.DumpFault.TheVariants.{Failed}
-use Rattle.vcd_dump.specs.Bytes.{AppendsPrefix}
+use Rattle.texts.specs.Written.{AppendsPrefix}
 use Rattle.vcd_dump.specs.Spans.{StreamView, CanSpan, lines_text, parts_of, span_text, spanned, stream_at, with_parts}
 use Rattle.vcd_dump.proofs.CallerLemmas.{stream_at-can, stream_at-spanned, with_parts-none}
 use Rattle.kernel_runs.specs.Drained.{values_of}

@@ -14,6 +14,9 @@ returns-in-Ok-clause-goes c =
       led = subst (EventsLead start.circuit start.state) state
           (c.sweeps.ensures.events start.circuit (c.is_failed.ensures.circuit c.requires.running) start.end start.state
           (c.is_failed.ensures.sound c.requires.running) c.args.tick c.args.nets.now c.requires.nets);
-      none_falls = c.in-Ok.ensures.none_falls;
-      floors = c.in-Ok.ensures.floors;
+      none_falls = c.in-Ok.ensures.reaches.none_falls;
+      floors = c.in-Ok.ensures.reaches.floors;
     }
+
+pub returns-in-Ok-clause-farther : goal.returns-in-Ok-clause-farther
+returns-in-Ok-clause-farther c = c.in-Ok.ensures.reaches.farther

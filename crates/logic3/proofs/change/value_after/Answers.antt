@@ -1,12 +1,14 @@
-use Rattle.std.proofs.Common.{rules, leb}
-use Rattle.std.proofs.lemmas.List.Sorted.{IsPartitionPoint-from_clause, IsPartitionedBy-leb}
-use Rattle.logic3.specs.declared.change.Change.{Change}
-use Rattle.logic3.proofs.Rising.{value_after-found, RisesBy-ascends}
+use Rattle.std.proofs.Common.{rules}
+use Rattle.logic3.specs.Wave.{changes_until}
+use Rattle.logic3.proofs.Rising.{value_after-until, value_in_the_end-last}
 use Rattle.logic3.proofs.change.value_after.Goals as goal
 
 pub returns : goal.returns
 returns c =
-    let parted = IsPartitionedBy-leb (λ (change : Change). change.tick) _ c.args.tick (RisesBy-ascends (λ (change : Change). change.tick) _ c.requires) in
-    let point = IsPartitionPoint-from_clause (λ (change : Change). leb change.tick c.args.tick) _ _ c.partition_point-due.ensures.partitioned parted (λ a r q k. search rules) in
-    let found = value_after-found c.args.before _ c.args.tick _ _ c.partition_point-due.ensures.bound point c.last.ensures.value in
-    rw (← found) (search rules)
+    rw (
+      value_after-until c.args.before c.args.changes.now c.args.tick,
+      value_in_the_end-last c.args.before (changes_until c.args.tick c.args.changes.now),
+      ← c.changes_until.ensures,
+      ← c.last.ensures.value,
+    )
+    (search rules)

@@ -1,6 +1,6 @@
 use Rattle.std.proofs.Common.{rules, Result, Ok, Err, OnErr, OnOk, true, subst, ◌∙◌}
 use Rattle.std.proofs.lemmas.Result.{on_err_weaker, on_ok_weaker}
-use Rattle.vcd_dump.specs.Bytes.{AppendsPrefix}
+use Rattle.texts.specs.Written.{AppendsPrefix}
 use Rattle.prepared_runs.specs.Percents.{progress_text}
 use Rattle.prepared_runs.proofs.CallerLemmas.{AppendsPrefix-progress}
 use Rattle.program_io.specs.Progress.{BrokenTicks, DoneTicks, horizon_reported}

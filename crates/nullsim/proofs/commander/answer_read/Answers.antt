@@ -1,6 +1,6 @@
 use Rattle.std.proofs.Common.{None, inl, inr}
 use Rattle.program_io.specs.OrderAnswer.{IsAnswerTo}
-use Rattle.nullsim.proofs.CountsLine.{AnswerDone-outcome}
+use Rattle.nullsim.proofs.Answering.{AnswerDone-outcome}
 use Rattle.nullsim.proofs.commander.answer_read.Goals as goal
 
 pub returns-in-Ok-clause-reported : goal.returns-in-Ok-clause-reported

@@ -1,7 +1,7 @@
 use Rattle.std.proofs.Common.{inl, inr, refl}
 use Rattle.program_io.proofs.CallerLemmas.{IsAnswer-read}
 use Rattle.program_io.specs.OrderAnswer.{IsAnswer, IsAnswerTo}
-use Rattle.nullsim.proofs.CountsLine.{Answered-weaker}
+use Rattle.nullsim.proofs.Answering.{Answered-weaker}
 use Rattle.nullsim.proofs.commander.exit_of_order.Goals as goal
 
 -- what is the answer over the texts that were read is that to the order

@@ -1,7 +1,7 @@
 use Rattle.std.proofs.Common.{◌∙◌, subst}
 use Rattle.std.specs.Io.KnownBytes.{Appends}
 use Rattle.std.proofs.lemmas.Result.{err_from_is_err_and}
-use Rattle.vcd_dump.specs.Bytes.{AppendsPrefix}
+use Rattle.texts.specs.Written.{AppendsPrefix}
 use Rattle.plain_runs.proofs.Diagrams.{diagram_of_design-waves}
 use Rattle.prepared_runs.proofs.CallerLemmas.{BreaksOff-dump, BreaksOff-memory, All-shown_nets, few-shown_nets}
 use Rattle.plain_runs.proofs.diagram_run.draw_design.Goals as goal

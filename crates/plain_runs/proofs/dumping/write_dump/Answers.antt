@@ -1,7 +1,7 @@
 use Rattle.std.proofs.Common.{subst}
 use Rattle.std.specs.Io.KnownBytes.{Appends}
 use Rattle.std.proofs.lemmas.Result.{err_from_is_err_and}
-use Rattle.vcd_dump.specs.Bytes.{AppendsPrefix}
+use Rattle.texts.specs.Written.{AppendsPrefix}
 use Rattle.prepared_runs.proofs.CallerLemmas.{BreaksOff-dump, All-shown_nets, AllPairs-shown_nets, All-before, All-within, dump_of_design-waves}
 use Rattle.plain_runs.proofs.dumping.write_dump.Goals as goal
 

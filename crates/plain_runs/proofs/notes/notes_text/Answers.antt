@@ -6,14 +6,14 @@ use Rattle.plain_runs.specs.Noted.{notes_of_source}
 use Rattle.plain_runs.proofs.Answer.{notes_of_source-bad, notes_of_source-good}
 use Rattle.plain_runs.proofs.notes.notes_text.Goals as goal
 
-pub returns-in_err-design-clause-err : goal.returns-in_err-design-clause-err
-returns-in_err-design-clause-err c =
+pub returns-in_err-ticks-clause-err : goal.returns-in_err-ticks-clause-err
+returns-in_err-ticks-clause-err c =
     let p = err_from_is_err_and c.from_residual.result c.from_residual.ensures.1 in
     let source = seen_source c.args.source.now in
     rw (p.1, p.2) (IsRefusal-lifted (design_of_source source c.args.horizon) (notes_of_source source c.args.horizon) _
-    (notes_of_source-bad source c.args.horizon _) c.in_err-design.ensures.err)
+    (notes_of_source-bad source c.args.horizon _) c.in_err-ticks.ensures.err)
 
 pub returns-clause-ok : goal.returns-clause-ok
 returns-clause-ok c =
-    notes_of_source-good (seen_source c.args.source.now) c.args.horizon _ _ c.in_ok-design.ensures.ok
+    notes_of_source-good (seen_source c.args.source.now) c.args.horizon _ _ c.in_ok-ticks.ensures.ok
     ∙ ap (λ text. Ok text) (sym c.in_ok-design_notes.ensures)

@@ -1,5 +1,5 @@
 use Rattle.std.proofs.Common.{◌≡◌, ◌-◌, ◌^◌, ◌∙◌, ◌∷◌, min, true, false, option_map, bytes_eq, codes, sym, ap, rules}
-use Rattle.text_lines.specs.Text.{is_empty, words_of}
+use Rattle.texts.specs.Text.{is_empty, words_of}
 use Rattle.prepared_runs.specs.Deck.{line_words}
 use Rattle.prepared_runs.proofs.Words.{horizon_in-two, horizon_in-more, horizon_in-other}
 use Rattle.prepared_runs.proofs.sections.horizon_in.Goals as goal

@@ -3,7 +3,7 @@ use Rattle.std.proofs.Common.{◌≡◌, ◌∙◌, refl}
 use Rattle.kernel_runs.specs.Checked.{checked}
 use Rattle.prepared_runs.specs.Prepared.{run_of_source}
 use Rattle.prepared_runs.specs.Source.{seen_source}
-use Rattle.program_io.specs.AnswerText.{check_text}
+use Rattle.kernel_runs.specs.AnswerText.{check_text}
 use Rattle.program_io.specs.Answers.{check_answer, just}
 use Rattle.program_io.proofs.AnswerEnds.{AnswerEndsBy-refused, AnswerEndsBy-text, GoesOut-text, WriteEndsBy-no_read, answered-checked, fault_of_run-no_read}
 use Rattle.program_io.proofs.answers.write_check.Goals as goal

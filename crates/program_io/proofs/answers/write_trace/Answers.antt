@@ -1,6 +1,6 @@
 use Rattle.std.proofs.Common.{◌≡◌, refl}
 use Rattle.std.proofs.lemmas.Result.{err_from_is_err_and}
-use Rattle.kernel_runs.specs.Traced.{trace_of_source}
+use Rattle.event_trace.specs.Traced.{trace_of_source}
 use Rattle.prepared_runs.specs.Source.{seen_source}
 use Rattle.program_io.specs.Answers.{trace_answer}
 use Rattle.program_io.proofs.AnswerEnds.{AnswerEndsBy-dump, AnswerEndsBy-flush, GoesOut-dump, GoesOut-flushed, fault_of_run-no_read}

@@ -1,7 +1,7 @@
 use Rattle.std.proofs.lemmas.Result.{err_from_is_err_and}
 use Rattle.std.proofs.Common.{◌∙◌}
 use Rattle.prepared_runs.specs.Source.{seen_source}
-use Rattle.program_io.specs.AnswerText.{twin_text}
+use Rattle.kernel_runs.specs.AnswerText.{twin_text}
 use Rattle.program_io.specs.Answers.{IsAnswerOfTwin, just}
 use Rattle.program_io.proofs.AnswerEnds.{AnswerEndsBy-text, AnswerEndsBy-twin, GoesOut-text, IsTwinAnswer-done, IsTwinAnswer-refused, WriteEndsBy-no_read, fault_of_run-no_read}
 use Rattle.program_io.proofs.answers.write_twin.Goals as goal

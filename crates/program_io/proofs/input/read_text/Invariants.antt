@@ -1,7 +1,7 @@
 -- The text so far is what the reader gave.
 use Rattle.std.proofs.Common.{◌≤◌, ◌+◌, ◌-◌, length}
 use Rattle.std.specs.Io.KnownBytes.{Consumes}
-use Rattle.text_lines.specs.Text.{longest_text}
+use Rattle.texts.specs.Text.{longest_text}
 use Rattle.program_io.proofs.input.read_text.Given as goal
 
 abbrev pub invariant-loop-piece : goal.invariant-loop-piece

@@ -1,6 +1,6 @@
 use Rattle.std.proofs.Common.{◌∙◌, ◌+◌, ◌*◌, ◌++◌, ap, codes}
 use Rattle.timing_diagram.specs.Columns.{first_tick}
-use Rattle.timing_diagram.specs.Picture.{numbered}
+use Rattle.texts.specs.Written.{numbered}
 use Rattle.timing_diagram.proofs.Joined.{joined₅}
 use Rattle.timing_diagram.proofs.picture.push_grid_line.Goals as goal
 

@@ -1,5 +1,5 @@
 use Rattle.std.proofs.Common.{◌+◌, ◌*◌, codes}
-use Rattle.timing_diagram.specs.Picture.{numbered}
+use Rattle.texts.specs.Written.{numbered}
 use Rattle.timing_diagram.proofs.Joined.{joined₃}
 use Rattle.timing_diagram.proofs.picture.push_heading.Goals as goal
 

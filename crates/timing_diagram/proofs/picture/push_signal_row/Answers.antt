@@ -1,6 +1,7 @@
 use Rattle.std.proofs.Common.{◌+◌, ◌*◌, codes}
 use Rattle.logic3.specs.Wave.{value_at}
-use Rattle.timing_diagram.specs.Picture.{numbered, signal_path}
+use Rattle.texts.specs.Written.{numbered}
+use Rattle.timing_diagram.specs.Picture.{signal_path}
 use Rattle.timing_diagram.proofs.Joined.{joined₅}
 use Rattle.timing_diagram.proofs.picture.push_signal_row.Goals as goal
 

@@ -1,5 +1,5 @@
 use Rattle.std.proofs.Common.{map}
-use Rattle.text_lines.specs.Text.{code_lines}
+use Rattle.texts.specs.Text.{code_lines}
 use Rattle.timing_text.proofs.GivenStimuli.{Given}
 use Rattle.timing_text.proofs.stimuli.read_stimuli.Given as goal
 

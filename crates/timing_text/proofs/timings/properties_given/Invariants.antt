@@ -1,4 +1,4 @@
-use Rattle.text_lines.specs.Text.{code_lines}
+use Rattle.texts.specs.Text.{code_lines}
 use Rattle.timing_text.specs.Timings.{net_lines}
 use Rattle.timing_text.proofs.GivenProperties.{Given}
 use Rattle.timing_text.proofs.timings.properties_given.Given as goal

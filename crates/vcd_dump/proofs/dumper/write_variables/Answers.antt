@@ -4,10 +4,9 @@ use Rattle.logic3.proofs.CallerLemmas.{OnErr_always}
 use Rattle.design.specs.Circuit.{Net, Circuit}
 use Rattle.vcd_dump.specs.Codes.{code_at}
 use Rattle.vcd_dump.specs.Dump.{declaration, declaration_text}
-use Rattle.vcd_dump.specs.Written.{GoesOut}
-use Rattle.vcd_dump.specs.Bytes.{AppendsPrefix}
+use Rattle.texts.specs.Written.{GoesOut, AppendsPrefix}
+use Rattle.texts.proofs.CallerLemmas.{GoesOut-then, GoesOut-stopped, GoesOut-fault}
 use Rattle.vcd_dump.proofs.Between.{between, between-first, between-none}
-use Rattle.vcd_dump.proofs.GoingOut.{GoesOut-then, GoesOut-stopped, GoesOut-fault}
 use Rattle.vcd_dump.proofs.Variables.{named_at, declaration-named_at, declarations-named}
 use Rattle.vcd_dump.proofs.dumper.write_variables.Goals as goal
 
@@ -16,16 +15,16 @@ abbrev text : Circuit → List ℕ → ℕ → List ℕ
 text circuit shown place = declaration (named_at circuit shown place)
 
 -- a declaration that was pushed
-pushed : (circuit : Circuit) (shown : List ℕ) (place net : ℕ) (name waiting piece : List ℕ) → place < length shown →
+pushed : (circuit : Circuit) (shown : List ℕ) (place net : ℕ) (code name waiting piece : List ℕ) → place < length shown →
     slice_get shown place ≡ Some net → option_map (λ (n : Net). n.name) (slice_get circuit net) ≡ Some name →
-    piece ≡ waiting ++ declaration_text (code_at place) name →
+    code ≡ code_at place → piece ≡ waiting ++ declaration_text code name →
     waiting ++ between (text circuit shown) place (length shown) ≡ piece ++ between (text circuit shown) (place + 1) (length shown)
-pushed circuit shown place net name waiting piece within at named is =
+pushed circuit shown place net code name waiting piece within at named known is =
     let rest = between (text circuit shown) (place + 1) (length shown) in
     ap (λ xs. waiting ++ xs) (between-first (text circuit shown) place (length shown) within)
     ∙ sym (append_assoc waiting (text circuit shown place) rest)
     ∙ ap (λ xs. (waiting ++ xs) ++ rest) (declaration-named_at circuit shown place net name at named)
-    ∙ ap (λ xs. xs ++ rest) (sym is)
+    ∙ ap (λ xs. xs ++ rest) (ap (λ xs. waiting ++ declaration_text xs name) (sym known) ∙ sym is)
 
 pub returns-in_err-push_declaration-clause-err : goal.returns-in_err-push_declaration-clause-err
 returns-in_err-push_declaration-clause-err g c =
@@ -41,8 +40,9 @@ returns-in_err-send_long-clause-err g c =
     let circuit = c.args.design.now.circuit in
     let shown = c.args.shown.now in
     let place = c.loop-place.place in
-    let is = pushed circuit shown place _ _ c.loop-place.text.items c.push_declaration.new.line.items (omega arith)
-    (slice_get-get_or shown place 0 (omega arith)) c.name.ensures c.in_ok-push_declaration.ensures in
+    let is = pushed circuit shown place _ _ _ c.loop-place.text.items c.push_declaration.new.line.items (omega arith)
+    (slice_get-get_or shown place 0 (omega arith)) c.name.ensures
+    (c.index-codes-place.is ∙ c.requires.codes place _ (omega (arith, c.requires.one_code_each))) c.in_ok-push_declaration.ensures in
     OnErr_always c.from_residual-in_err-send_long.result
     (subst (λ xs. AppendsPrefix (held c.args.out.now) (held c.send_long.new.out) (c.args.text.now.items ++ xs))
     (sym (declarations-named circuit shown))
@@ -55,8 +55,9 @@ loop-place-preserved g c =
     let circuit = c.args.design.now.circuit in
     let shown = c.args.shown.now in
     let place = c.loop-place.place in
-    let is = pushed circuit shown place _ _ c.loop-place.text.items c.push_declaration.new.line.items (omega arith)
-    (slice_get-get_or shown place 0 (omega arith)) c.name.ensures c.in_ok-push_declaration.ensures in
+    let is = pushed circuit shown place _ _ _ c.loop-place.text.items c.push_declaration.new.line.items (omega arith)
+    (slice_get-get_or shown place 0 (omega arith)) c.name.ensures
+    (c.index-codes-place.is ∙ c.requires.codes place _ (omega (arith, c.requires.one_code_each))) c.in_ok-push_declaration.ensures in
     GoesOut-then (held c.args.out.now) (held c.loop-place.out) (held c.send_long.new.out) _ c.push_declaration.new.line.items
     c.send_long.new.text.items (between (text circuit shown) (place + 1) (length shown))
     (subst (GoesOut _ _ _) is c.loop-place.invariant) c.in_ok-send_long.ensures.ok

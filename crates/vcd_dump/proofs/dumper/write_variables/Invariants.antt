@@ -1,7 +1,7 @@
 -- What went out, what waits and the declarations to come are the whole.
 use Rattle.std.proofs.Common.{◌++◌, length}
 use Rattle.vcd_dump.specs.Dump.{declaration}
-use Rattle.vcd_dump.specs.Written.{GoesOut}
+use Rattle.texts.specs.Written.{GoesOut}
 use Rattle.vcd_dump.proofs.Between.{between}
 use Rattle.vcd_dump.proofs.Variables.{named_at}
 use Rattle.vcd_dump.proofs.dumper.write_variables.Given as goal

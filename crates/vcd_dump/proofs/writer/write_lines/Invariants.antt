@@ -1,6 +1,7 @@
 -- What went out, what waits and the lines to come are the whole, and the last of these is the last of all.
 use Rattle.std.proofs.Common.{◌≡◌, ◌++◌, drop}
-use Rattle.vcd_dump.specs.Written.{GoesOut, written_text, last_tick}
+use Rattle.texts.specs.Written.{GoesOut}
+use Rattle.vcd_dump.specs.Written.{written_text, last_tick}
 use Rattle.vcd_dump.proofs.writer.write_lines.Given as goal
 
 abbrev pub invariant-loop-line : goal.invariant-loop-line

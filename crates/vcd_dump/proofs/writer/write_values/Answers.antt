@@ -2,12 +2,10 @@ use Rattle.std.proofs.Common.{◌≡◌, ◌++◌, ◌∙◌, sym, List, ℕ, ap
 use Rattle.std.specs.Fmt.{decimal}
 use Rattle.std.proofs.lemmas.Fmt.{decimal_digit}
 use Rattle.logic3.proofs.CallerLemmas.{OnErr_always}
-use Rattle.vcd_dump.specs.Bytes.{AppendsPrefix}
-use Rattle.vcd_dump.specs.Dump.{line}
+use Rattle.texts.specs.Written.{AppendsPrefix, line, GoesOut}
+use Rattle.texts.proofs.CallerLemmas.{AppendsPrefix-longer, GoesOut-stopped, GoesOut-behind}
 use Rattle.vcd_dump.specs.Spans.{zero_text}
-use Rattle.vcd_dump.specs.Written.{GoesOut, written_text}
-use Rattle.vcd_dump.proofs.BytesLemmas.{AppendsPrefix-longer}
-use Rattle.vcd_dump.proofs.GoingOut.{GoesOut-stopped, GoesOut-behind}
+use Rattle.vcd_dump.specs.Written.{written_text}
 use Rattle.vcd_dump.proofs.writer.write_values.Goals as goal
 
 abbrev beginning : List ℕ

@@ -1,8 +1,7 @@
 use Rattle.std.proofs.Common.{sym, subst, ◌∙◌}
 use Rattle.std.specs.Option.{IfSome}
-use Rattle.logic3.specs.Wave.{value_at}
+use Rattle.logic3.specs.Wave.{value_at, IsBefore}
 use Rattle.wave_diff.specs.Compared.{IsCompared}
-use Rattle.wave_diff.specs.Ticks.{IsBefore}
 use Rattle.wave_diff.proofs.FirstDifference.{apart_values, first_difference-None, first_difference-Some}
 use Rattle.wave_diff.proofs.difference.first_difference.Goals as goal
 

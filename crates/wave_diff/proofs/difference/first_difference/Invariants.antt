@@ -1,7 +1,6 @@
 use Rattle.std.proofs.Common.{◌≡◌, ℕ, ◌+◌, ◌-◌}
 use Rattle.std.specs.Option.{IfSome, option_map_or}
-use Rattle.logic3.specs.Wave.{value_at}
-use Rattle.wave_diff.specs.Ticks.{IsBefore}
+use Rattle.logic3.specs.Wave.{value_at, IsBefore}
 use Rattle.wave_diff.specs.Compared.{IsCompared}
 use Rattle.wave_diff.proofs.difference.first_difference.Given as goal
 

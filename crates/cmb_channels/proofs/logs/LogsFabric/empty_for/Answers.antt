@@ -1,4 +1,5 @@
 use Rattle.std.proofs.Common.{◌≡◌, [], length, replicate, ap, sym, subst, ◌∙◌}
+use Rattle.design.specs.Pins.{all_fed}
 use Rattle.design.proofs.CallerLemmas.{length-sources}
 use Rattle.cmb_channels.specs.Logs.{AreLogs, logs_read_by, unread_lists}
 use Rattle.cmb_channels.proofs.AllLogs.{lists_first, length-read_by, logs_first}
@@ -18,9 +19,15 @@ pub invariant_of-result : goal.invariant_of-result
 invariant_of-result c =
     let at = (goal.at.invariant_of-result c).In_ok-logs in
     let nets = length c.args.design.now.circuit in
-    subst (λ logs. AreLogs logs c.in_ok-sources.sources.items c.in_ok-counts.counts.items) (sym (logs_are at))
-    (subst (AreLogs (logs_read_by nets c.in_ok-sources.sources.items) c.in_ok-sources.sources.items) (sym (counts_are at))
-    (logs_first nets c.in_ok-sources.sources.items c.in_ok-sources.ensures.within))
+    let sources = c.in_ok-sources.sources.items in
+    record {
+      logs_are =
+          subst (λ logs. AreLogs logs sources c.in_ok-counts.counts.items) (sym (logs_are at))
+          (subst (AreLogs (logs_read_by nets sources) sources) (sym (counts_are at)) (logs_first nets sources c.in_ok-sources.ensures.within));
+      fed_are =
+          c.in_ok-fed.ensures.fed
+          ∙ (λ i. all_fed (sym (ap length (logs_are at) ∙ length-read_by nets sources) i) (sym c.in_ok-sources.ensures.sources i));
+    }
 
 pub returns-clause-lists : goal.returns-clause-lists
 returns-clause-lists c =

@@ -1,5 +1,5 @@
 use Rattle.std.proofs.Common.{◌≡◌, [], Ok, arith, rules}
-use Rattle.text_lines.specs.Fold.{fold_text}
+use Rattle.texts.specs.Fold.{fold_text}
 use Rattle.cmb_events.specs.Schedule.{events_after}
 use Rattle.cmb_events.proofs.EventCount.{few-events_of}
 use Rattle.cmb_events.proofs.schedule.Schedule.read.Goals as goal

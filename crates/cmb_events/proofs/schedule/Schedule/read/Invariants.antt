@@ -1,5 +1,5 @@
 use Rattle.std.proofs.Common.{◌≡◌, [], All}
-use Rattle.text_lines.specs.Fold.{fold_lines, fold_text}
+use Rattle.texts.specs.Fold.{fold_lines, fold_text}
 use Rattle.cmb_events.specs.Schedule.{events_after, Exists}
 use Rattle.cmb_events.proofs.schedule.Schedule.read.Given as goal
 

@@ -1,4 +1,4 @@
-use Rattle.vcd_dump.proofs.CallerLemmas.{AppendsPrefix-either}
+use Rattle.texts.proofs.CallerLemmas.{AppendsPrefix-either}
 use Rattle.prepared_runs.proofs.percents.Percents.show.Goals as goal
 
 pub returns-then-not-self-clause-part : goal.returns-then-not-self-clause-part

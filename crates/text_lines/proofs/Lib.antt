@@ -1,6 +1,0 @@
-pub mod CallerLemmas
-mod Cuts
-mod Digits
-mod FirstWord
-mod FoldLemmas
-mod Written

@@ -1,0 +1,4 @@
+pub mod Faults
+pub mod Fold
+pub mod Text
+pub mod Written
