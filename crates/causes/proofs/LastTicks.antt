@@ -1,5 +1,5 @@
 -- Since when a waveform shows what it shows.
-use Rattle.std.proofs.Common.{◌≡◌, ◌≢◌, ℕ, zero, suc, ◌+◌, ◌-◌, ◌<◌, ◌≤◌, true, false, List, [], ◌∷◌, length, get_or, Bool, refl, ap, sym, ◌∙◌, arith, ◌⊎◌, inl, inr, Option, None, Some, option_map, slice_get, cond}
+use Rattle.std.proofs.Common.{◌≡◌, ◌≢◌, ℕ, zero, suc, ◌+◌, ◌-◌, ◌<◌, ◌≤◌, true, false, List, [], ◌∷◌, length, get_or, Bool, refl, ap, sym, ◌∙◌, arith, ◌⊎◌, inl, inr, Option, None, Some, option_map, slice_get, cond, true≢false}
 use Rattle.std.specs.Option.{option_map_or, unwrap_or}
 use Rattle.std.proofs.lemmas.Bool.{cases_lt, le-leb, lt-leb}
 use Rattle.logic3.specs.declared.value.Value.{Value}
@@ -114,3 +114,31 @@ since-le signal (suc tick) = go (is_same (signal (suc tick)) (signal tick)) (sin
     go : (same : Bool) → since signal tick ≤ tick → cond same (since signal tick) (suc tick) ≤ suc tick
     go true le = omega (arith, le)
     go false le = omega arith
+
+-- from that tick on it shows what it shows
+pub since-holds : (signal : ℕ → Value) (tick at : ℕ) → since signal tick ≤ at → at ≤ tick → signal at ≡ signal tick
+since-holds signal zero at from to = ap signal (let e : at ≡ zero = omega (arith, to) in e)
+since-holds signal (suc tick) at from to =
+    go (is_same (signal (suc tick)) (signal tick)) refl from (λ from to. since-holds signal tick at from to) (cases_lt tick at)
+  where
+    here : tick < at → signal at ≡ signal (suc tick)
+    here past = ap signal (let e : at ≡ suc tick = omega (arith, past, to) in e)
+
+    go : (same : Bool) → is_same (signal (suc tick)) (signal tick) ≡ same → cond same (since signal tick) (suc tick) ≤ at →
+        (since signal tick ≤ at → at ≤ tick → signal at ≡ signal tick) → (tick < at) ⊎ (at ≤ tick) → signal at ≡ signal (suc tick)
+    go same is from rest (inl past) = here past
+    go true is from rest (inr within) = rest from within ∙ sym (is_same-true (signal (suc tick)) (signal tick) is)
+    go false is from rest (inr within) = absurd (omega (arith, from, within))
+
+-- and one tick before it something else
+pub since-changed : (signal : ℕ → Value) (tick before : ℕ) → since signal tick ≡ suc before → signal before ≢ signal tick
+since-changed signal zero before is = absurd (omega (arith, is))
+since-changed signal (suc tick) before is =
+    go (is_same (signal (suc tick)) (signal tick)) refl is (λ is. since-changed signal tick before is)
+  where
+    go : (same : Bool) → is_same (signal (suc tick)) (signal tick) ≡ same → cond same (since signal tick) (suc tick) ≡ suc before →
+        (since signal tick ≡ suc before → signal before ≢ signal tick) → signal before ≢ signal (suc tick)
+    go true e is rest = λ same. rest is (same ∙ is_same-true (signal (suc tick)) (signal tick) e)
+    go false e is rest = λ same.
+        let back : before ≡ tick = omega (arith, is) in
+        true≢false (sym (is_same_equiv.refl (signal (suc tick))) ∙ ap (is_same (signal (suc tick))) (sym same ∙ ap signal back) ∙ e)

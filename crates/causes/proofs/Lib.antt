@@ -1,5 +1,4 @@
 mod Chain
-mod Counted
 mod Inside
 mod LastTicks
 mod Marked
@@ -8,4 +7,5 @@ mod PinLists
 mod Places
 mod Settled
 mod SignalsUpTo
+mod SwingStarts
 mod WhyCauses

@@ -53,7 +53,7 @@ source_found wire asked at le is = rw (le-ltb asked wire le) (ap Some (sym is))
 -- ---- signals that are the same up to a tick
 
 module _ (f g : ℕ → ℕ → Value) where
-  same_since : (net tick : ℕ) → ((at : ℕ) → at ≤ tick → f net at ≡ g net at) → since (f net) tick ≡ since (g net) tick
+  pub same_since : (net tick : ℕ) → ((at : ℕ) → at ≤ tick → f net at ≡ g net at) → since (f net) tick ≡ since (g net) tick
   same_since net zero same = refl
   same_since net (suc tick) same =
       λ i. cond (is_same (same (suc tick) (omega arith) i) (same tick (omega arith) i)) (same_since net tick (λ at le. same at (omega arith)) i) (suc tick)

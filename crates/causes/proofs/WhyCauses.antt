@@ -5,7 +5,7 @@ use Rattle.design.specs.Circuit.{Circuit, IsCircuit}
 use Rattle.causes.specs.declared.cause.Cause.{Cause}
 use Rattle.causes.specs.Causes.{cause_behind, causes_of, causes_within, leads_to}
 use Rattle.causes.specs.Why.{moment_of, IsWhy}
-use Rattle.causes.proofs.Chain.{ticks_left, leads_back}
+use Rattle.causes.proofs.Chain.{ticks_left, leads_back, leads_within, took_by}
 
 module _ (circuit : Circuit) where
   head_is : (count : ℕ) (prior : List Cause) (next : Option (ℕ × ℕ)) (cause : Cause) →
@@ -58,12 +58,14 @@ module _ (circuit : Circuit) where
   ends_there ok (suc count) prior (Some (net, tick)) enough zero cause at long =
       let behind = cause_behind circuit prior net tick in
       let back = leads_back circuit ok behind in
+      let took = took_by circuit prior net tick in
       ap (leads_to circuit) (sym (same_Some behind cause at))
-      ∙ none_left count (prior ++ behind ∷ []) (leads_to circuit behind) (omega arith) (omega arith)
+      ∙ none_left count (prior ++ behind ∷ []) (leads_to circuit behind) (omega (arith, back, took, enough)) (omega arith)
   ends_there ok (suc count) prior (Some (net, tick)) enough (suc place) cause at long =
       let behind = cause_behind circuit prior net tick in
       let back = leads_back circuit ok behind in
-      ends_there ok count (prior ++ behind ∷ []) (leads_to circuit behind) (omega arith) place cause at (omega arith)
+      let took = took_by circuit prior net tick in
+      ends_there ok count (prior ++ behind ∷ []) (leads_to circuit behind) (omega (arith, back, took, enough)) place cause at (omega arith)
 
   pub is_why : IsCircuit circuit → (net tick : ℕ) → IsWhy circuit net tick (causes_of circuit net tick)
   unfolding causes_of
@@ -71,6 +73,13 @@ module _ (circuit : Circuit) where
     first = first_is;
     each = λ place cause at. each_is (tick + 1) [] (Some (net, tick)) place cause at;
     leads = λ place cause next at after. leads_on (tick + 1) [] (Some (net, tick)) place cause next at after;
+    earlier = λ place cause next at after.
+        let is = each_is (tick + 1) [] (Some (net, tick)) place cause at in
+        let on = leads_on (tick + 1) [] (Some (net, tick)) place cause next at after in
+        let within = leads_within circuit ok cause (next.net, next.tick) on in
+        let took = took_by circuit (take place (causes_within circuit (tick + 1) [] (Some (net, tick)))) cause.net cause.tick in
+        let same = ap (λ (c : Cause). c.at) is in
+        omega (arith, within.1, took, same);
     ends = λ place cause at long. ends_there ok (tick + 1) [] (Some (net, tick)) (omega arith) place cause at long;
   }
     where

@@ -9,6 +9,7 @@ pub use Rattle.design.specs.Samples
 pub use Rattle.design.specs.Equations
 pub mod Deciding
 pub mod Reasons
+pub mod Swings
 pub mod Causes
 pub mod Marks
 pub mod Text

@@ -1,9 +1,9 @@
 -- Marks for the nets and values that occur in causes.
-use Rattle.std.specs.Prelude.{◌≡◌, ℕ, ◌+◌, ◌*◌, ◌<◌, List, Option, None, option_map, slice_index_or}
+use Rattle.std.specs.Prelude.{◌≡◌, ℕ, ◌+◌, ◌*◌, ◌<◌, ◌≤◌, All, List, Option, None, slice_index_or}
 use Rattle.logic3.specs.declared.value.Value.{Value}
 use Rattle.logic3.specs.declared.value.Value.TheVariants.{Zero, One, Unknown}
 use Rattle.causes.specs.declared.cause.Cause.{Cause}
-use Rattle.causes.specs.Causes.{repeated}
+use Rattle.causes.specs.Causes.{taken_again}
 
 -- a number for each value
 abbrev pub value_number : Value → ℕ
@@ -15,8 +15,12 @@ value_number Unknown = 2
 abbrev pub mark_place : ℕ → Value → ℕ
 mark_place net value = 3 * net + value_number value
 
--- the mark of a net with a value is the tick of the first cause that has the two
+-- the mark of a net with a value is the tick at which it took the value, by the last cause that has the two
 abbrev pub AreMarked : ℕ → List Cause → List (Option ℕ) → Type 0
 AreMarked nets causes marks =
     (net : ℕ) (value : Value) → net < nets →
-    slice_index_or marks (mark_place net value) None ≡ option_map (λ (cause : Cause). cause.tick) (repeated causes net value)
+    slice_index_or marks (mark_place net value) None ≡ taken_again None causes net value
+
+-- nets that took their values by a tick
+abbrev pub TookBy : ℕ → List Cause → Type 0
+TookBy top causes = All (λ (cause : Cause). cause.since ≤ top) causes

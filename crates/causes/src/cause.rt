@@ -1,11 +1,17 @@
 use logic3::Value;
 
-/// What a net shows at a tick, and why.
+/// What a net shows at a tick, since when, and why.
 #[derive(Clone, Copy, Debug, PartialEq, Eq)]
 pub struct Cause {
     pub net: u32,
     pub tick: u64,
     pub value: Value,
+    /// The tick since which it shows the value: that of its last change, or 0 if there was none.
+    pub since: u64,
+    /// The tick of which `reason` is: `since` if the net took the value by a change. If it shows the value
+    /// since tick 0, this is `tick`, and 0 if an earlier cause has the same net with the same value since
+    /// tick 0.
+    pub at: u64,
     pub reason: Reason,
 }
 
@@ -24,6 +30,8 @@ pub enum Reason {
     BeforeFirstSample,
     /// The pin at this place decides, and its wire delay isn't over.
     BeforeWire(usize),
-    /// An earlier cause, at this tick, has the same net with the same value.
-    Loop(u64),
+    /// A pin decides, and the net swings: it took this value again `period` ticks later, by an earlier
+    /// cause. Up to then, from the tick after `since` on, it showed at each tick what it showed `period`
+    /// ticks before. The next cause is that of the net at tick `since`.
+    Swings { since: u64, period: u64 },
 }

@@ -6,6 +6,7 @@ mod deciding;
 pub mod laws;
 mod pins;
 mod reasons;
+mod swings;
 mod text;
 mod walk;
 

@@ -9,7 +9,7 @@ use logic3::{Value, Waveform};
 use std::alloc::{AllocError, Global};
 
 /// Returns the tick since which a net shows what it shows at a tick.
-fn since(waves: &[Waveform], net: u32, tick: u64) -> u64
+pub fn since(waves: &[Waveform], net: u32, tick: u64) -> u64
     requires { net < length waves.now }
     ensures since { result ≡ since (signals_in waves.now net) tick }
     ensures within { result ≤ tick }

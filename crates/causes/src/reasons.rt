@@ -101,14 +101,15 @@ fn pin_reason(wires: &[u32], asked: u64, place: usize) -> Reason
 }
 
 /// Returns where a cause leads: the source of the pin that decides, and the tick of it that the pin
-/// shows.
+/// shows, or where a swing began.
 pub fn leads_to(design: &Design, cause: Cause) -> Option<(u32, u64)>
     requires formed { IsDesign design.now }
     requires is_net { cause.net < length design.now.circuit }
     ensures { result ≡ leads_to design.now.circuit cause }
 {
     match cause.reason {
-        Reason::Pin(place) => source_of(design, cause.net, cause.tick, place),
+        Reason::Pin(place) => source_of(design, cause.net, cause.at, place),
+        Reason::Swings { since, .. } if since < cause.at => Some((cause.net, since)),
         _ => None,
     }
 }

@@ -2,7 +2,7 @@
 ghost use Rattle.std.specs.Prelude.{◌≡◌, ◌<◌, ◌++◌, length, slice_get, All, IfOk, OnOk};
 ghost use Rattle.design.specs.Design.{IsDesign};
 ghost use Rattle.causes.specs.Causes.{ShowUpTo};
-ghost use Rattle.causes.specs.Text.{cause_line, looks_text, loop_text, moment_text, pin_text, pins_text, reason_text, shown_text, stimulus_text, why_text};
+ghost use Rattle.causes.specs.Text.{cause_line, looks_text, moment_text, pin_text, pins_text, reason_text, shown_text, since_text, stimulus_text, swings_text, why_text};
 
 use crate::cause::{Cause, Reason};
 use crate::walk::why;
@@ -14,9 +14,10 @@ use std::alloc::{AllocError, Global};
 use texts::push_numbered;
 
 /// Returns why a net has its value at a tick, by [`why`], with a line for each cause: what the net
-/// shows at which tick, its statement, and what its pins show when it reads them, or why it needs no
-/// other cause. An example is `y@7 = 1: y = NAND(a, b), a@6 = 0, b@6 = x`, and after it
-/// `a@6 = 0: INPUT(a), stimulus 5 a 0`.
+/// shows at which tick, and since when if it took the value before; its statement; and what its pins
+/// showed when it took the value, or why it needs no other cause. An example is
+/// `y@9 = 1 since 7: y = NAND(a, b), a@6 = 0, b@6 = x`, and after it
+/// `a@6 = 0 since 5: INPUT(a), stimulus 5 a 0`.
 ///
 /// The waveforms are those of all nets, in order, at least up to the tick.
 ///
@@ -50,7 +51,7 @@ fn push_cause(
 ) -> Result<(), AllocError>
     requires formed { IsDesign design.now }
     requires is_net { cause.net < length design.now.circuit }
-    requires waves { ShowUpTo design.now.circuit cause.tick waves.now }
+    requires waves { ShowUpTo design.now.circuit cause.at waves.now }
     ensures { OnOk result (text.new.items ≡ text.old.items ++ cause_line design.now cause) }
 {
     push_shown(
@@ -59,6 +60,7 @@ fn push_cause(
         cause.tick,
         cause.value,
     )?;
+    push_since(text, cause.tick, cause.since)?;
     text.extend_from_slice(b": ")?;
     push_statement(text, design.netlist(), cause.net)?;
     push_reason(text, design, waves, cause)?;
@@ -66,7 +68,17 @@ fn push_cause(
     Ok(())
 }
 
-/// Adds why a net shows its value.
+/// Adds since when a net shows what it shows at a tick, if not only since this tick.
+fn push_since(text: &mut Vec<u8>, tick: u64, since: u64) -> Result<(), AllocError>
+    ensures { OnOk result (text.new.items ≡ text.old.items ++ since_text tick since) }
+{
+    if since == tick {
+        return Ok(());
+    }
+    push_numbered(text, b" since ", since)
+}
+
+/// Adds why a net took its value.
 fn push_reason(
     text: &mut Vec<u8>,
     design: &Design,
@@ -75,21 +87,25 @@ fn push_reason(
 ) -> Result<(), AllocError>
     requires formed { IsDesign design.now }
     requires is_net { cause.net < length design.now.circuit }
-    requires waves { ShowUpTo design.now.circuit cause.tick waves.now }
+    requires waves { ShowUpTo design.now.circuit cause.at waves.now }
     ensures { OnOk result (text.new.items ≡ text.old.items ++ reason_text design.now cause cause.reason) }
 {
     let name = design.netlist().name(cause.net);
     match cause.reason {
-        Reason::Pin(_) => push_looks(text, design, waves, cause.net, cause.tick),
+        Reason::Pin(_) => push_looks(text, design, waves, cause.net, cause.at),
         Reason::BeforeWire(_) => {
-            push_looks(text, design, waves, cause.net, cause.tick)?;
+            push_looks(text, design, waves, cause.net, cause.at)?;
             text.extend_from_slice(b", before the delay of a wire is over")
         }
         Reason::Stimulus(tick) => push_stimulus(text, name, cause.value, tick),
         Reason::NoStimulus => text.extend_from_slice(b", no stimulus yet"),
         Reason::BeforeDelay => text.extend_from_slice(b", before its delay is over"),
         Reason::BeforeFirstSample => text.extend_from_slice(b", before its first sample shows"),
-        Reason::Loop(tick) => push_loop(text, name, tick),
+        Reason::Swings { since, period } => {
+            push_looks(text, design, waves, cause.net, cause.at)?;
+            push_swings(text, since, period)?;
+            Ok(())
+        }
     }
 }
 
@@ -105,12 +121,12 @@ fn push_stimulus(text: &mut Vec<u8>, name: &[u8], value: Value, tick: u64) -> Re
     Ok(())
 }
 
-/// Adds the net and tick that a loop leads back to.
-fn push_loop(text: &mut Vec<u8>, name: &[u8], tick: u64) -> Result<(), AllocError>
-    ensures { OnOk result (text.new.items ≡ text.old.items ++ loop_text name.now tick) }
+/// Adds since when a net swings, and after how many ticks each value comes again.
+fn push_swings(text: &mut Vec<u8>, start: u64, period: u64) -> Result<(), AllocError>
+    ensures { OnOk result (text.new.items ≡ text.old.items ++ swings_text start period) }
 {
-    text.extend_from_slice(b", a loop: the same as ")?;
-    push_moment(text, name, tick)?;
+    push_numbered(text, b", swings since ", start)?;
+    push_numbered(text, b" with period ", period)?;
     Ok(())
 }
 

@@ -20,7 +20,7 @@ module _ (netlist : NetlistView) where
       let most = greatest_bounds (map (level_at levels) (pins_at netlist net)) k (omega (arith, within, size)) in
       omega (arith, most, get_or-map (level_at levels) (pins_at netlist net) k 0 0 within, gate_level levels ok net is)
 
-  above : (levels : List ℕ) → IsLevelling netlist levels → (net pin : ℕ) → IsTrue (is_gate_at netlist net) → Contains (pins_at netlist net) pin →
+  pub above : (levels : List ℕ) → IsLevelling netlist levels → (net pin : ℕ) → IsTrue (is_gate_at netlist net) → Contains (pins_at netlist net) pin →
       level_at levels pin < level_at levels net
   above levels ok net pin is (k, within, at) =
       subst (λ pin. level_at levels pin < level_at levels net) (get_or_default (pins_at netlist net) k 0 pin within ∙ at) (above_pin levels ok net is k within)

@@ -6,3 +6,4 @@ pub mod Loops
 pub mod Known
 pub mod Text
 pub mod InfoText
+pub mod Paths

@@ -1,9 +1,9 @@
 -- Which nets have levels, and the loop that is named if some have none.
-use Rattle.std.specs.Prelude.{◌≡◌, ◌≢◌, ℕ, ◌+◌, ◌-◌, ◌<◌, false, IsTrue, List, ◌++◌, length, take, slice_index_or, All, AllPairs, Contains}
+use Rattle.std.specs.Prelude.{◌≡◌, ◌≢◌, ℕ, ◌+◌, ◌-◌, ◌<◌, ◌≤◌, false, IsTrue, List, ◌++◌, length, take, slice_index_or, All, AllPairs, Contains}
 use Rattle.netlist.specs.Netlist.{NetlistView}
 use Rattle.circuit_info.specs.declared.levels.Depths.{Depths}
 use Rattle.circuit_info.specs.declared.levels.Depths.TheVariants.{Levels, Loop}
-use Rattle.circuit_info.specs.Levels.{is_gate_at, pins_at, IsLevelling}
+use Rattle.circuit_info.specs.Levels.{is_gate_at, level_at, pins_at, IsLevelling}
 
 -- an input or a flip-flop has a level, and so has a gate if the nets at all of its pins have one
 pub data HasLevel (netlist : NetlistView) : ℕ → Type 0 where
@@ -42,3 +42,8 @@ pub record IsNamedLoop (netlist : NetlistView) (nets : List ℕ) : Type 0 where
 abbrev pub IsDepths : NetlistView → Depths → Type 0
 IsDepths netlist (Levels levels) = IsLevelling netlist levels.items
 IsDepths netlist (Loop nets) = IsNamedLoop netlist nets.items
+
+-- no level is above the number of nets
+abbrev pub HasFewLevels : NetlistView → Depths → Type 0
+HasFewLevels netlist (Levels levels) = (net : ℕ) → level_at levels.items net ≤ length netlist.nets
+HasFewLevels netlist (Loop nets) = Unit {0}

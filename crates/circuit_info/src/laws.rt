@@ -1,8 +1,10 @@
 //! Facts about levels, loops and the text alone.
-ghost use Rattle.std.specs.Prelude.{◌≡◌, ℕ, List};
+ghost use Rattle.std.specs.Prelude.{◌≡◌, ℕ, ◌≤◌, List};
 ghost use Rattle.netlist.specs.Netlist.{NetlistView};
+ghost use Rattle.design.specs.Design.{DesignView, IsDesign};
 ghost use Rattle.circuit_info.specs.Levels.{IsGateLoop, IsLevelling};
 ghost use Rattle.circuit_info.specs.Loops.{HasLevel, IsNamedLoop};
+ghost use Rattle.circuit_info.specs.Paths.{longest_to, HasNoLoop, IsPath};
 ghost use Rattle.circuit_info.specs.Text.{IsInfoText};
 
 /// A netlist has at most one assignment of levels: none if its gates form a loop, and one exactly if each net has a
@@ -21,6 +23,14 @@ pub fn one_named_loop()
         IsNamedLoop netlist nets → IsNamedLoop netlist others → nets ≡ others }
     ensures gates { (netlist : NetlistView) (nets : List ℕ) → IsNamedLoop netlist nets → IsGateLoop netlist nets }
     ensures without { (netlist : NetlistView) (nets : List ℕ) → IsNamedLoop netlist nets → ((net : ℕ) → HasLevel netlist net) → ⊥ }
+{}
+
+/// If gates form no loop, no path to a net takes more ticks than the longest one, and some path takes as many.
+pub fn longest_path()
+    ensures most { (design : DesignView) (net ticks : ℕ) (path : List ℕ) →
+        IsDesign design → HasNoLoop design.netlist → IsPath design net path ticks → ticks ≤ longest_to design net }
+    ensures one { (design : DesignView) (net : ℕ) →
+        IsDesign design → HasNoLoop design.netlist → (path : List ℕ) × IsPath design net path (longest_to design net) }
 {}
 
 /// A netlist has at most one info text.

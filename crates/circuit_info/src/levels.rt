@@ -5,7 +5,7 @@
 ghost use Rattle.std.specs.Prelude.{◌≡◌, ℕ, ◌+◌, ◌<◌, ◌≤◌, length, map, All, IfOk};
 ghost use Rattle.netlist.specs.Netlist.{most_nets};
 ghost use Rattle.circuit_info.specs.Levels.{greatest, level_at};
-ghost use Rattle.circuit_info.specs.Loops.{IsDepths};
+ghost use Rattle.circuit_info.specs.Loops.{HasFewLevels, IsDepths};
 ghost use Rattle.circuit_info.specs.Known.{KnowsLevels};
 
 use crate::known::first_unknown;
@@ -32,7 +32,8 @@ pub enum Depths {
 /// # Errors
 /// `AllocError` if an allocation fails.
 pub fn levels_of(alloc: Global, netlist: &Netlist) -> Result<Depths, AllocError>
-    ensures { IfOk result (IsDepths netlist.now) }
+    ensures depths { IfOk result (IsDepths netlist.now) }
+    ensures few { IfOk result (HasFewLevels netlist.now) }
 {
     let levels = known_levels(alloc, netlist)?;
     match least_without(netlist, levels.as_slice()) {
@@ -46,7 +47,8 @@ pub fn levels_of(alloc: Global, netlist: &Netlist) -> Result<Depths, AllocError>
 
 /// Returns the level of each net that has one, and 0 for the others.
 fn known_levels(alloc: Global, netlist: &Netlist) -> Result<Vec<u32>, AllocError>
-    ensures { IfOk result (λ levels. KnowsLevels netlist.now levels.items) }
+    ensures known { IfOk result (λ levels. KnowsLevels netlist.now levels.items) }
+    ensures few { IfOk result (λ levels. (net : ℕ) → level_at levels.items net ≤ length netlist.now.nets) }
 {
     let gates = gate_order(alloc, netlist)?;
     let mut levels = vec![in alloc; 0; netlist.nets() as usize]?;

@@ -8,9 +8,11 @@ mod known;
 pub mod laws;
 mod levels;
 mod loops;
+mod paths;
 mod text;
 
 pub use bench_info::info;
 pub use counts::{fan_ins, fan_outs, first_greatest, gate_count, part_count};
 pub use levels::{Depths, greatest, levels_of};
+pub use paths::longest_paths;
 pub use text::info_text;

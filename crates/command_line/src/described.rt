@@ -20,7 +20,7 @@ pub(super) enum Takes {
     Word(&'static str, &'static [&'static str]),
     /// The name of a net.
     Net,
-    /// The name of a fault, as a positional argument.
+    /// The name of a fault, as a positional argument or two.
     Fault,
     /// The names of nets, as positional arguments.
     Nets,
@@ -73,7 +73,7 @@ fn arg<'a>(alloc: Global, option: &'static Described) -> Result<Arg<'a>, AllocEr
     let arg = Arg::new(alloc, name).help(help);
     let arg = match takes {
         Takes::Nets => arg.num_args(1..),
-        Takes::Fault => arg,
+        Takes::Fault => arg.num_args(1..=2),
         _ => arg.long(name),
     };
     let arg = taking(arg, takes)?;

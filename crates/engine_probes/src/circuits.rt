@@ -1,7 +1,8 @@
 //! The numbers of a circuit, and its unobserved nets.
 use crate::telling::Teller;
 use bench_text::read;
-use circuit_info::{Depths, fan_ins, fan_outs, levels_of};
+use circuit_info::{Depths, fan_ins, fan_outs, levels_of, longest_paths};
+use design::Design;
 use fanin_cone::outside;
 use netlist::{Netlist, gate_order};
 use std::alloc::{AllocError, Global};
@@ -29,7 +30,8 @@ pub(crate) fn probe<W: Write>(alloc: Global, teller: &mut Teller<W>) -> Option<(
     levels(alloc, teller, &netlist)?;
     let nets = outside(alloc, &netlist, netlist.outputs());
     lists(teller, "fanin_cone::outside", nets, &[7, 8, 9, 10, 11])?;
-    ring(alloc, teller)
+    ring(alloc, teller)?;
+    paths(alloc, teller)
 }
 
 /// Reports a call that makes a list of numbers.
@@ -81,4 +83,17 @@ fn ring<W: Write>(alloc: Global, teller: &mut Teller<W>) -> Option<()> {
         Depths::Loop(gates) => gates.as_slice() == [0, 1, 2, 3, 4].as_slice(),
     };
     teller.fine("levels_of", holds)
+}
+
+fn paths<W: Write>(alloc: Global, teller: &mut Teller<W>) -> Option<()> {
+    let wanted = [6, 5, 4, 3, 2, 1, 0, 1, 2, 3, 4, 5];
+    let netlist = teller.told("bench_text::read", read(alloc, CHAIN))?;
+    let design = Design::build(alloc, netlist, b"", b"", 1, 10);
+    let design = teller.told("Design::build", design)?;
+    let found = teller.told("longest_paths", longest_paths(alloc, &design))?;
+    let holds = match &found {
+        Some(ticks) => ticks.as_slice() == wanted.as_slice(),
+        None => false,
+    };
+    teller.fine("longest_paths", holds)
 }

@@ -1,2 +1,5 @@
 mod Chains
+mod Edits
 mod Left
+mod LineFronts
+mod LineTokens

@@ -170,6 +170,13 @@ abbrev pub word_told : List ℕ → Option (List ℕ) → List ℕ
 word_told said None = []
 word_told said (Some word) = said ++ shown_line word ++ codes "\n"
 
+-- a name in quotes
+abbrev pub quoted_told : List ℕ → List ℕ → List ℕ
+quoted_told said name = said ++ codes "'" ++ shown_line name ++ codes "'\n"
+
+abbrev pub undefined_told : Option (List ℕ) → List ℕ
+undefined_told name = option_map_or (quoted_told (codes "no line defines ")) name []
+
 -- the faults about a line with the same topic as an earlier one
 abbrev pub of_repeats : List (List ℕ)
 of_repeats = codes "DefinedTwice" ∷ codes "Twice" ∷ codes "NotRising" ∷ []
@@ -178,7 +185,7 @@ of_repeats = codes "DefinedTwice" ∷ codes "Twice" ∷ codes "NotRising" ∷ []
 abbrev pub at_fault_in : Subject → List ℕ → ℕ → List ℕ → List ℕ → List ℕ
 at_fault_in subject name number text code =
     if is_among of_repeats name then earlier_line subject number (topic_of subject code) text
-    else if bytes_eq name (codes "Undefined") then word_told (codes "no line defines ") (undefined_in code text)
+    else if bytes_eq name (codes "Undefined") then undefined_told (undefined_in code text)
     else word_told (codes "given: ") (word_at_fault subject name code)
 
 -- for the line with this number, if the text is known and has it

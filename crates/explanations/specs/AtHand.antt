@@ -1,5 +1,5 @@
--- The message about a fault that occurred: the line of its text, the word at fault, the system's message, what it means and what
--- is needed.
+-- The message about a fault that occurred: the line of its text; a text of another kind; the word at fault; the system's message;
+-- and what else is known of this fault, or if nothing is, what it means and what is needed.
 use Rattle.std.specs.Prelude.{ℕ, ◌==◌, if◌then◌else◌, List, [], ◌++◌, flat_map, codes, decimal, option_and_then, Option, None, Some}
 use Rattle.explanations.specs.declared.explanation.Explanation.{Explanation}
 use Rattle.explanations.specs.declared.subject.Subject.{Subject}
@@ -7,6 +7,11 @@ use Rattle.explanations.specs.declared.subject.Subject.TheVariants.{Bench, Delay
 use Rattle.explanations.specs.declared.table.Table.{Table}
 use Rattle.explanations.specs.AtFault.{at_fault, word_told}
 use Rattle.explanations.specs.Excerpt.{excerpt, line_at}
+use Rattle.explanations.specs.Foreign.{foreign_text}
+use Rattle.explanations.specs.OtherParts.{part_at_fault}
+use Rattle.explanations.specs.Places.{misplaced}
+use Rattle.explanations.specs.Suggestion.{suggestion}
+use Rattle.texts.specs.Text.{is_empty}
 use Rattle.explanations.specs.Explained.{is_called, meaning_line, title_of, wanted_line}
 
 -- ---- what it means
@@ -47,7 +52,7 @@ number_line None = []
 number_line (Some number) = codes "given: " ++ decimal number ++ codes "\n"
 
 -- a fault that occurred: its subject, its name and its line, and, if known, the text at fault, the word and the number at fault
--- that no text contains, and the system's message
+-- that no text contains, the system's message, and the circuit's text
 pub record FaultView : Type 0 where
   pub subject : Subject
   pub name : List ℕ
@@ -56,13 +61,42 @@ pub record FaultView : Type 0 where
   pub word : Option (List ℕ)
   pub number : Option ℕ
   pub reason : Option (List ℕ)
+  pub circuit : Option (List ℕ)
+
+-- a text, or another one if it is empty
+abbrev pub unless_empty : List ℕ → List ℕ → List ℕ
+unless_empty text other = if is_empty text then other else text
+
+-- what stands for a part that there isn't, or a near name
+abbrev pub part_or_name : FaultView → List ℕ
+part_or_name fault =
+    unless_empty (part_at_fault fault.subject fault.name (option_and_then (line_at fault.line) fault.text))
+    (suggestion fault.subject fault.name fault.line fault.text fault.word fault.circuit)
+
+-- what is known of this fault: the place at which its line stops having a form, and what may have been meant
+abbrev pub sharper : FaultView → List ℕ
+sharper fault = misplaced fault.subject fault.name fault.line fault.text ++ part_or_name fault
+
+-- if nothing is known, what the fault means and what is needed
+abbrev pub sharper_or_hints : List Table → FaultView → List ℕ
+sharper_or_hints tables fault = unless_empty (sharper fault) (flat_map (hints_in fault.subject fault.name) tables)
+
+-- the message about a fault of a text of the kind that is read
+abbrev pub told_of_own_kind : List Table → FaultView → List ℕ
+told_of_own_kind tables fault =
+    at_fault fault.subject fault.name fault.line fault.text
+    ++ word_told (codes "given: ") fault.word
+    ++ number_line fault.number
+    ++ reason_line fault.reason
+    ++ sharper_or_hints tables fault
+
+-- the message about a text of another kind, if it looks to be of one
+abbrev pub told_of_kind : List Table → FaultView → List ℕ
+told_of_kind tables fault =
+    unless_empty (foreign_text fault.subject fault.name fault.line fault.text) (told_of_own_kind tables fault)
 
 -- the whole message
 abbrev pub told_at_hand : List Table → FaultView → List ℕ
 told_at_hand tables fault =
     excerpt fault.line (option_and_then (line_at fault.line) fault.text)
-    ++ at_fault fault.subject fault.name fault.line fault.text
-    ++ word_told (codes "given: ") fault.word
-    ++ number_line fault.number
-    ++ reason_line fault.reason
-    ++ flat_map (hints_in fault.subject fault.name) tables
+    ++ told_of_kind tables fault

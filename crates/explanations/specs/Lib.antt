@@ -1,5 +1,15 @@
 pub mod AtFault
 pub mod AtHand
 pub mod Excerpt
+pub mod Foreign
+pub mod OtherParts
 pub mod Explained
+pub mod Forms
+pub mod Fronts
+pub mod Places
 pub mod Seen
+pub mod SeenForms
+pub mod Tokens
+pub mod Near
+pub mod Suggestion
+pub mod UnknownFault

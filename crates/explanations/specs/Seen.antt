@@ -17,4 +17,5 @@ seen_fault fault = record {
   word = option_map (λ word. word.now) fault.word;
   number = fault.number;
   reason = option_map (λ reason. reason.now) fault.reason;
+  circuit = option_map (λ circuit. circuit.now) fault.circuit;
 }

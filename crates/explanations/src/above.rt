@@ -20,7 +20,7 @@ pub(crate) fn line_above(subject: Subject, number: u64, topic: Topic<'_>, text: 
 }
 
 /// Returns the number of a line, or 0 for `None`.
-fn number_or_none(line: Option<(u64, &[u8])>) -> u64
+pub(crate) fn number_or_none(line: Option<(u64, &[u8])>) -> u64
     ensures { result ≡ number_or_none (option_map (λ line. (line.0, line.1.now)) line.entry) }
 {
     match line {

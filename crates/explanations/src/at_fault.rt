@@ -1,7 +1,7 @@
 //! The message about the word at fault.
 ghost use Rattle.std.specs.Prelude.{◌≡◌, ◌++◌, option_map, None, OnOk};
 ghost use Rattle.std.specs.List.{find, last_or};
-ghost use Rattle.explanations.specs.AtFault.{at_fault, at_fault_in, bench_word, earlier_line, is_among, is_unplain, of_nets, of_repeats, of_thirds, too, topic_of, word_at_fault, word_told};
+ghost use Rattle.explanations.specs.AtFault.{at_fault, at_fault_in, bench_word, earlier_line, is_among, is_unplain, of_nets, of_repeats, of_thirds, quoted_told, too, topic_of, undefined_told, word_at_fault, word_told};
 ghost use Rattle.texts.specs.Text.{words_of};
 
 use crate::above::line_above;
@@ -50,7 +50,7 @@ fn push_at_fault_in(
     if is_of_repeats(name) {
         push_earlier(alloc, told, subject, number, text, code)
     } else if name == "Undefined" {
-        push_word(told, b"no line defines ", undefined_in(alloc, code, text)?)
+        push_undefined(told, undefined_in(alloc, code, text)?)
     } else {
         push_word(told, b"given: ", word_at_fault(subject, name, code))
     }
@@ -150,6 +150,27 @@ fn unplain_word(code: &[u8]) -> Option<&[u8]>
     ensures { option_map (λ word. word.now) result ≡ find is_unplain (words_of code.now) }
 {
     words_of(code).find(|word| !is_plain(word))
+}
+
+/// Adds that no line defines a name, if there is such a name.
+fn push_undefined(told: &mut Vec<u8>, name: Option<&[u8]>) -> Result<(), AllocError>
+    ensures { OnOk result (told.new.items ≡ told.old.items
+        ++ undefined_told (option_map (λ name. name.now) name.entry)) }
+{
+    match name {
+        Some(name) => push_quoted(told, b"no line defines ", name),
+        None => Ok(()),
+    }
+}
+
+/// Adds the message about a name, the name in quotes, and a line feed.
+pub(crate) fn push_quoted(told: &mut Vec<u8>, said: &[u8], name: &[u8]) -> Result<(), AllocError>
+    ensures { OnOk result (told.new.items ≡ told.old.items ++ quoted_told said.now name.now) }
+{
+    told.extend_from_slice(said)?;
+    told.push(b'\'')?;
+    push_shown(told, name)?;
+    told.extend_from_slice(b"'\n")
 }
 
 /// Adds the message about a word, the word, and a line feed, if there is a word.

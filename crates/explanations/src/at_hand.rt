@@ -1,13 +1,17 @@
 //! The message about a fault that occurred.
 ghost use Rattle.std.specs.Prelude.{◌≡◌, ◌++◌, flat_map, option_and_then, option_map, string_bytes, IfOk, OnOk};
-ghost use Rattle.explanations.specs.AtHand.{hint_if_called, hint_of, hints_in, number_line, told_at_hand};
+ghost use Rattle.explanations.specs.AtHand.{hint_if_called, hint_of, hints_in, number_line, part_or_name, sharper, sharper_or_hints, told_at_hand, told_of_kind, told_of_own_kind};
 ghost use Rattle.explanations.specs.Excerpt.{line_at};
 ghost use Rattle.explanations.specs.Seen.{seen_fault};
 
 use crate::at_fault::{push_at_fault, push_word};
 use crate::excerpt::{line_at, push_excerpt};
 use crate::explanation::Explanation;
+use crate::foreign::foreign_text;
+use crate::other_parts::part_at_fault;
+use crate::places::misplaced;
 use crate::subject::Subject;
+use crate::suggestion::push_suggestion;
 use crate::table::Table;
 use crate::telling::{push_meaning, push_wanted};
 use std::alloc::{AllocError, Global};
@@ -28,12 +32,16 @@ pub struct AtHand<'a> {
     pub number: Option<u64>,
     /// The system's message about a failed read or write, if any.
     pub reason: Option<&'a [u8]>,
+    /// The text of the circuit, if known, for a net that it doesn't define.
+    pub circuit: Option<&'a [u8]>,
 }
 
 /// Returns the message about a fault: the line of its text, if known; the word at fault or the earlier line
 /// with the same topic, if the lines determine it; the word or number at fault that no text contains; the
-/// system's message; what the fault means; and what is needed. Of a long line the first 100 bytes are
-/// shown, and a byte that isn't printable as `?`.
+/// system's message; and what else is known of this fault, or if nothing is, what it means and what is needed.
+/// Known may be the place at which the line stops having a form, what stands for a part that there isn't, and
+/// the only name near to the one at fault. If the text looks to be of another kind, the message is about that.
+/// Of a long line the first 100 bytes are shown, and a byte that isn't printable as `?`.
 pub fn fault_text(alloc: Global, tables: &[Table], fault: AtHand<'_>) -> Result<Vec<u8>, AllocError>
     ensures { IfOk result (λ told. told.items ≡ told_at_hand tables.now (seen_fault fault.entry)) }
 {
@@ -44,20 +52,97 @@ pub fn fault_text(alloc: Global, tables: &[Table], fault: AtHand<'_>) -> Result<
         fault.line,
         line_of(fault.line, fault.text),
     )?;
+    push_of_kind(alloc, &mut told, tables, fault)?;
+    Ok(told)
+}
+
+/// Adds the message about a text of another kind, if it looks to be of one, or else about the fault.
+fn push_of_kind(
+    alloc: Global,
+    told: &mut Vec<u8>,
+    tables: &[Table],
+    fault: AtHand<'_>,
+) -> Result<(), AllocError>
+    ensures { OnOk result (told.new.items ≡ told.old.items ++ told_of_kind tables.now (seen_fault fault.entry)) }
+{
+    let foreign = foreign_text(alloc, fault.subject, fault.name, fault.line, fault.text)?;
+    if foreign.is_empty() {
+        push_own_kind(alloc, told, tables, fault)
+    } else {
+        told.extend_from_slice(&foreign)
+    }
+}
+
+/// Adds the message about a fault of a text of the kind that is read.
+fn push_own_kind(
+    alloc: Global,
+    told: &mut Vec<u8>,
+    tables: &[Table],
+    fault: AtHand<'_>,
+) -> Result<(), AllocError>
+    ensures { OnOk result (told.new.items ≡ told.old.items ++ told_of_own_kind tables.now (seen_fault fault.entry)) }
+{
     push_at_fault(
         alloc,
-        &mut told,
+        told,
         fault.subject,
         fault.name,
         fault.line,
         fault.text,
     )?;
-    push_word(&mut told, b"given: ", fault.word)?;
-    push_number(alloc, &mut told, fault.number)?;
-    push_word(&mut told, b"system error: ", fault.reason)?;
-    let hints = hints_text(alloc, tables, fault.subject, fault.name)?;
-    told.extend_from_slice(hints.as_str().as_bytes())?;
-    Ok(told)
+    push_word(told, b"given: ", fault.word)?;
+    push_number(alloc, told, fault.number)?;
+    push_word(told, b"system error: ", fault.reason)?;
+    push_sharper_or_hints(alloc, told, tables, fault)
+}
+
+/// Adds what is known of this fault, or if nothing is, what it means and what is needed.
+fn push_sharper_or_hints(
+    alloc: Global,
+    told: &mut Vec<u8>,
+    tables: &[Table],
+    fault: AtHand<'_>,
+) -> Result<(), AllocError>
+    ensures { OnOk result (told.new.items ≡ told.old.items ++ sharper_or_hints tables.now (seen_fault fault.entry)) }
+{
+    let known = sharper(alloc, fault)?;
+    if known.is_empty() {
+        let hints = hints_text(alloc, tables, fault.subject, fault.name)?;
+        told.extend_from_slice(hints.as_str().as_bytes())
+    } else {
+        told.extend_from_slice(&known)
+    }
+}
+
+/// Returns the place at which the line stops having a form, and what may have been meant.
+fn sharper(alloc: Global, fault: AtHand<'_>) -> Result<Vec<u8>, AllocError>
+    ensures { IfOk result (λ text. text.items ≡ sharper (seen_fault fault.entry)) }
+{
+    let mut text = misplaced(alloc, fault.subject, fault.name, fault.line, fault.text)?;
+    push_part_or_name(alloc, &mut text, fault)?;
+    Ok(text)
+}
+
+/// Adds what stands for a part that there isn't, or the near name.
+fn push_part_or_name(alloc: Global, told: &mut Vec<u8>, fault: AtHand<'_>) -> Result<(), AllocError>
+    ensures { OnOk result (told.new.items ≡ told.old.items ++ part_or_name (seen_fault fault.entry)) }
+{
+    let line = line_of(fault.line, fault.text);
+    let part = part_at_fault(alloc, fault.subject, fault.name, line)?;
+    if part.is_empty() {
+        push_suggestion(
+            alloc,
+            told,
+            fault.subject,
+            fault.name,
+            fault.line,
+            fault.text,
+            fault.word,
+            fault.circuit,
+        )
+    } else {
+        told.extend_from_slice(&part)
+    }
 }
 
 /// Adds the message about a number, the number, and a line feed, if there is a number.

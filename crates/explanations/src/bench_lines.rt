@@ -90,7 +90,8 @@ fn is_gap(byte: u8) -> bool
     is_white(byte) || b"(),=".contains(&byte)
 }
 
-fn is_assignment(code: &[u8]) -> bool
+/// Returns whether a line without its comment has the form `NAME = GATE(NAME, NAME)`.
+pub(crate) fn is_assignment(code: &[u8]) -> bool
     ensures { result ≡ is_assignment code.now }
 {
     code.contains(&b'=')

@@ -78,6 +78,11 @@ abbrev pub text_at_fault : ProgramFault → OrderTexts → Option (List ℕ)
 text_at_fault (Run side fault) texts = text_in_run (texts_on texts side) fault
 text_at_fault other texts = None
 
+-- the circuit of the run at fault
+abbrev pub circuit_at_fault : ProgramFault → OrderTexts → Option (List ℕ)
+circuit_at_fault (Run side fault) texts = Some (texts_on texts side).bench.items
+circuit_at_fault other texts = None
+
 -- what is printed for the fault of an order, by what is known
 abbrev pub explanation : List Table → Remembered → Order → ProgramFault → List ℕ
 explanation tables remembered order fault = told_at_hand tables (record {
@@ -88,6 +93,7 @@ explanation tables remembered order fault = told_at_hand tables (record {
   word = option_and_then (name_at_fault order fault) remembered.texts;
   number = number_at_fault order fault;
   reason = reason_of remembered.said fault;
+  circuit = option_and_then (circuit_at_fault fault) remembered.texts;
 })
 
 -- ---- how an order ends with a fault

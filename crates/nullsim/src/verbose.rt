@@ -4,7 +4,7 @@ ghost use Rattle.program_io.specs.Report.{IsWritten, WithStatus};
 ghost use Rattle.nullsim.specs.AtFault.{name_at_fault};
 ghost use Rattle.nullsim.specs.Ends.{EndsBy, Writes};
 ghost use Rattle.nullsim.specs.Progress.{AnsweredVerbosely, OrderExplained};
-ghost use Rattle.nullsim.specs.Verbose.{ReportsVerbosely, explanation, if_given, reason_of, subject_of, subject_of_run, text_at_fault, text_in_run};
+ghost use Rattle.nullsim.specs.Verbose.{ReportsVerbosely, circuit_at_fault, explanation, if_given, reason_of, subject_of, subject_of_run, text_at_fault, text_in_run};
 
 use crate::carrying::carry_out_heard;
 use crate::names::name_at_fault;
@@ -25,7 +25,7 @@ use vcd_dump::DumpFault;
 ///
 /// An explanation follows the line of a fault on `err`: the line of the text and the word at fault, the name or
 /// the number at fault in the order, the system's message on a failed read, as the texts know it, or on a
-/// failed write, the meaning, and what is needed instead. Without a fault, the notes on the run are written
+/// failed write, the only name near to the one at fault, the meaning, and what is needed instead. Without a fault, the notes on the run are written
 /// there, as [`notes_text`](plain_runs::notes_text) returns them. If an allocation for either fails, it is left
 /// out.
 pub fn answer_verbosely<T: Texts, W: Write, E: Write>(
@@ -152,6 +152,7 @@ fn explanation<'a>(
         word: name_if_read(alloc, order, fault, texts)?,
         number: number_at_fault(order, fault),
         reason: reason_of(fault, said),
+        circuit: circuit_if_read(fault, texts),
     };
     fault_text(alloc, tables, at_hand)
 }
@@ -169,6 +170,23 @@ fn text_at_fault<'a>(fault: ProgramFault<'_>, texts: &'a OrderTexts) -> Option<&
 {
     match fault {
         ProgramFault::Run { side, fault } => text_in_run(fault, texts.on(side)),
+        _ => None,
+    }
+}
+
+/// Returns the circuit of the run at fault, if the texts were read.
+fn circuit_if_read<'a>(fault: ProgramFault<'_>, texts: Option<&'a OrderTexts>) -> Option<&'a [u8]>
+    ensures { if_given result
+        ≡ option_and_then (circuit_at_fault fault.entry) (if_given texts.entry) }
+{
+    circuit_at_fault(fault, texts?)
+}
+
+fn circuit_at_fault<'a>(fault: ProgramFault<'_>, texts: &'a OrderTexts) -> Option<&'a [u8]>
+    ensures { if_given result ≡ circuit_at_fault fault.entry texts.now }
+{
+    match fault {
+        ProgramFault::Run { side, .. } => Some(texts.on(side).bench.as_slice()),
         _ => None,
     }
 }

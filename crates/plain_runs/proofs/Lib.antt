@@ -2,5 +2,6 @@ mod Answer
 mod Causes
 mod Diagrams
 mod Listed
+mod Marked
 mod Tested
 mod Throughout

@@ -4,3 +4,4 @@ pub mod Noted
 pub mod Remarks
 pub mod Shows
 pub mod Text
+pub mod Unused

@@ -9,6 +9,7 @@ mod notes;
 mod plain_run;
 mod remark;
 mod text;
+mod unused;
 mod why_run;
 
 pub use diagram_fault::DiagramFault;

@@ -7,12 +7,14 @@ ghost use Rattle.prepared_runs.specs.Source.{seen_source, MayWantMemory};
 ghost use Rattle.prepared_runs.specs.declared.fault.SimFault.TheVariants.{Memory};
 ghost use Rattle.plain_runs.specs.Noted.{notes_of_source};
 ghost use Rattle.plain_runs.specs.Remarks.{noted_nets};
-ghost use Rattle.plain_runs.specs.Text.{notes_of_design, remark_note};
+ghost use Rattle.plain_runs.specs.Text.{notes_of_design, remark_note, sampling, unused_note};
 
 use crate::remark::Remark;
 use crate::text::{push_nets_note, push_outputs_note};
+use crate::unused::{has_flops, unused_inputs};
 use design::{Design, plain_waves};
 use logic3::Waveform;
+use netlist::Netlist;
 use prepared_runs::{SimFault, Source, prepare};
 use std::alloc::{AllocError, Global};
 use timing_text::Horizon;
@@ -22,9 +24,11 @@ use timing_text::Horizon;
 /// - `note: no net is an output`
 /// - `note: inputs without a stimulus, X throughout: a b`
 /// - `note: inputs whose stimuli after the horizon are ignored: e`
+/// - `note: unused inputs: c`, and, if there are flip-flops, `; flip-flops sample by --period or clock lines`
 /// - `note: other nets that are X throughout: y z`
 ///
-/// Names are in the order in which the netlist defines their nets. The plain engine computes the run, with
+/// Names are in the order in which the netlist defines their nets, at most twelve in a line. If there are more, the
+/// number of the others follows, as in ` and 188 more`. An unused input is at no pin and isn't an output. The plain engine computes the run, with
 /// all waveforms in memory.
 ///
 /// # Errors
@@ -53,6 +57,7 @@ fn design_notes(
     push_outputs_note(&mut text, design.netlist())?;
     push_remark(alloc, &mut text, design, horizon, waves, Remark::Undriven)?;
     push_remark(alloc, &mut text, design, horizon, waves, Remark::Late)?;
+    push_unused(alloc, &mut text, design.netlist())?;
     push_remark(alloc, &mut text, design, horizon, waves, Remark::Unknown)?;
     Ok(text)
 }
@@ -70,7 +75,32 @@ fn push_remark(
     ensures { OnOk result (text.new.items ≡ text.old.items ++ remark_note remark horizon design.now) }
 {
     let nets = noted_nets(alloc, design, horizon, waves, remark)?;
-    push_nets_note(text, design.netlist(), remark.words(), nets.as_slice())
+    push_nets_note(text, design.netlist(), remark.words(), nets.as_slice(), "")
+}
+
+/// Adds the line of the inputs that nothing uses.
+fn push_unused(alloc: Global, text: &mut Vec<u8>, netlist: &Netlist) -> Result<(), AllocError>
+    ensures { OnOk result (text.new.items ≡ text.old.items ++ unused_note netlist.now) }
+{
+    let nets = unused_inputs(alloc, netlist)?;
+    push_nets_note(
+        text,
+        netlist,
+        "unused inputs",
+        nets.as_slice(),
+        sampling(netlist),
+    )
+}
+
+/// Returns what follows the names of unused inputs.
+fn sampling(netlist: &Netlist) -> &'static str
+    ensures { result.now ≡ sampling netlist.now }
+{
+    if has_flops(netlist) {
+        "; flip-flops sample by --period or clock lines"
+    } else {
+        ""
+    }
 }
 
 /// Returns the numbers of the nets that a remark is about, in rising order.

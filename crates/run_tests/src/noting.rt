@@ -30,9 +30,24 @@ const RING: Source<'static> = Source {
     ..DRIVEN
 };
 
-// A run with every note.
+// An input that nothing uses, beside a flip-flop.
+const CLOCKED: Source<'static> = Source {
+    bench: b"INPUT(clk)\nINPUT(d)\nOUTPUT(q)\nq = DFF(d)\n",
+    stimuli: b"0 clk 0\n0 d 1\n",
+    ..DRIVEN
+};
+
+// A gate at thirteen inputs.
+const WIDE: Source<'static> = Source {
+    bench: b"INPUT(a)\nINPUT(b)\nINPUT(c)\nINPUT(d)\nINPUT(e)\nINPUT(f)\nINPUT(g)\nINPUT(h)\nINPUT(i)\n\
+          INPUT(j)\nINPUT(k)\nINPUT(l)\nINPUT(m)\nOUTPUT(y)\ny = OR(a, b, c, d, e, f, g, h, i, j, k, l, m)\n",
+    stimuli: b"",
+    ..DRIVEN
+};
+
+// A run with every note on nets.
 const ALL: Source<'static> = Source {
-    bench: b"INPUT(e)\nz = NOT(y)\ny = AND(a, e)\nINPUT(a)\n",
+    bench: b"INPUT(e)\nz = NOT(y)\ny = AND(a, e)\nINPUT(a)\nINPUT(c)\n",
     stimuli: b"0 e 1\n9 e 0\n",
     ..DRIVEN
 };
@@ -44,7 +59,7 @@ const NO_OUTPUT: &[u8] = b"note: no net is an output\n";
 /// A run, its horizon, and the notes on it.
 type Row = (Source<'static>, u64, &'static [u8]);
 
-static NOTED: [Row; 13] = [
+static NOTED: [Row; 17] = [
     (DRIVEN, 9, b""),
     (DRIVEN, 8, LATE),
     // Only the last stimulus, which comes too late.
@@ -122,8 +137,9 @@ static NOTED: [Row; 13] = [
         ALL,
         8,
         b"note: no net is an output\n\
-          note: inputs without a stimulus, X throughout: a\n\
+          note: inputs without a stimulus, X throughout: a c\n\
           note: inputs whose stimuli after the horizon are ignored: e\n\
+          note: unused inputs: c\n\
           note: other nets that are X throughout: z y\n",
     ),
     // The 0 at tick 9 shows after both gates.
@@ -131,7 +147,38 @@ static NOTED: [Row; 13] = [
         ALL,
         11,
         b"note: no net is an output\n\
-          note: inputs without a stimulus, X throughout: a\n",
+          note: inputs without a stimulus, X throughout: a c\n\
+          note: unused inputs: c\n",
+    ),
+    (
+        CLOCKED,
+        9,
+        b"note: unused inputs: clk; flip-flops sample by --period or clock lines\n",
+    ),
+    // An output is used.
+    (
+        Source {
+            bench: b"INPUT(clk)\nINPUT(d)\nOUTPUT(clk)\nq = DFF(d)\n",
+            ..CLOCKED
+        },
+        9,
+        b"",
+    ),
+    // A line has twelve names.
+    (
+        WIDE,
+        9,
+        b"note: inputs without a stimulus, X throughout: a b c d e f g h i j k l and 1 more\n\
+          note: other nets that are X throughout: y\n",
+    ),
+    (
+        Source {
+            stimuli: b"0 m 0\n",
+            ..WIDE
+        },
+        9,
+        b"note: inputs without a stimulus, X throughout: a b c d e f g h i j k l\n\
+          note: other nets that are X throughout: y\n",
     ),
 ];
 

@@ -1,10 +1,14 @@
-//! Tests of texts and netlists, and of the texts and settings that a design is built with.
+//! Tests of texts, netlists and near names, and of the texts and settings that a design is built with.
 #![tactic(auto)]
 
 #[cfg(test)]
 mod flow;
 #[cfg(test)]
 mod lines;
+#[cfg(test)]
+mod mistakes;
+#[cfg(test)]
+mod near_names;
 #[cfg(test)]
 mod reading;
 #[cfg(test)]

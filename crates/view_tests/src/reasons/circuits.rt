@@ -36,6 +36,35 @@ pub(crate) const CONTROLLED: Circuit = Circuit {
     ..HAZARD
 };
 
+/// A gate whose two pins fall at one tick.
+pub(crate) const BOTH: Circuit = Circuit {
+    bench: b"INPUT(a)\nINPUT(b)\ny = NAND(a, b)\n",
+    stimuli: b"0 a 1\n0 b 1\n5 a 0\n5 b 0\n8 a 1\n",
+    ..HAZARD
+};
+
+/// Two gates that keep a bit: `r` clears it until tick 4, and a pulse of `s` sets it.
+pub(crate) const LATCH: Circuit = Circuit {
+    bench: b"INPUT(s)\nINPUT(r)\nq = NAND(s, p)\np = NAND(r, q)\n",
+    stimuli: b"0 s 1\n0 r 0\n4 r 1\n10 s 0\n13 s 1\n",
+    ..HAZARD
+};
+
+/// A gate that swings from tick 6 on.
+pub(crate) const OSCILLATOR: Circuit = Circuit {
+    bench: b"INPUT(e)\ny = NAND(e, y)\n",
+    stimuli: b"0 e 0\n6 e 1\n",
+    ..HAZARD
+};
+
+/// A counter of two bits, whose carry should be an AND.
+pub(crate) const WRONG_COUNTER: Circuit = Circuit {
+    bench: b"INPUT(en)\nq1 = DFF(d1)\nq0 = DFF(d0)\nd1 = XOR(q1, carry)\nd0 = XOR(q0, en)\ncarry = OR(q0, en)\n",
+    timing: b"timing version 2\ninit q1 0\ninit q0 0\n",
+    stimuli: b"0 en 0\n7 en 1\n",
+    period: 5,
+};
+
 /// A flip-flop that samples its own opposite, with no reset.
 pub(crate) const RING_COUNTER: Circuit = Circuit {
     bench: b"q = DFF(n)\nn = NOT(q)\n",

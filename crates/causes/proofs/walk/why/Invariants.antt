@@ -1,17 +1,16 @@
 use Rattle.std.proofs.Common.{◌≡◌, ℕ, ◌*◌, ◌+◌, ◌<◌, ◌≤◌, ◌++◌, length, Some}
-use Rattle.causes.specs.Causes.{causes_of, causes_within, ShowUpTo}
-use Rattle.causes.specs.Marks.{AreMarked}
+use Rattle.causes.specs.Causes.{causes_of, causes_within}
+use Rattle.causes.specs.Marks.{AreMarked, TookBy}
 use Rattle.causes.proofs.Chain.{ticks_left}
-use Rattle.causes.proofs.Counted.{unset}
 use Rattle.causes.proofs.walk.why.Given as goal
 
 abbrev pub invariant-loop-next : goal.invariant-loop-next
 invariant-loop-next l = record {
   size : length l.marks.items ≡ 3 * length l.design.circuit;
-  marked : (from : ℕ × ℕ) → l.next ≡ Some from → AreMarked (length l.design.circuit) l.causes.items l.marks.items;
-  inside : (from : ℕ × ℕ) → l.next ≡ Some from → (from.0 < length l.design.circuit) × ShowUpTo l.design.circuit from.1 l.waves;
-  left : (from : ℕ × ℕ) → l.next ≡ Some from → length l.causes.items + unset l.marks.items ≤ 3 * length l.design.circuit;
-  few : length l.causes.items ≤ 3 * length l.design.circuit + 1;
+  marked : AreMarked (length l.design.circuit) l.causes.items l.marks.items;
+  took : TookBy l.tick l.causes.items;
+  inside : (from : ℕ × ℕ) → l.next ≡ Some from → (from.0 < length l.design.circuit) × (from.1 ≤ l.tick);
+  few : length l.causes.items + ticks_left l.next ≤ l.tick + 1;
   rest : l.causes.items ++ causes_within l.design.circuit (ticks_left l.next) l.causes.items l.next ≡ causes_of l.design.circuit l.net l.tick;
 }
 

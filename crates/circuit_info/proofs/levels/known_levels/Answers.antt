@@ -1,5 +1,6 @@
-use Rattle.std.proofs.Common.{◌≡◌, ℕ, List, cond, subst, sym, ◌∙◌, arith}
+use Rattle.std.proofs.Common.{◌≡◌, ℕ, ◌==◌, not, List, cond, subst, sym, ◌∙◌, arith}
 use Rattle.std.proofs.lemmas.List.{take_all}
+use Rattle.std.proofs.lemmas.List.Sums.{count_by-le-length}
 use Rattle.netlist.specs.Repeats.{times}
 use Rattle.netlist.specs.Flow.{is_gate_in, FollowsFlow}
 use Rattle.circuit_info.proofs.OnePass.{all_known, order_below, IsPassed, IsPassed-known, IsPassed-unknown}
@@ -38,8 +39,12 @@ loop-gate-preserved c =
           (follows at) c.first_unknown.result inside unknown)
     ]
 
-pub returns : goal.returns
-returns c =
+pub returns-clause-known : goal.returns-clause-known
+returns-clause-known c =
     KnowsLevels-passed c.args.netlist.now c.in_ok-gates.gates.items c.in_ok-gates.ensures.each c.loop-gate.levels.items
     (subst (λ (order : List ℕ). IsPassed c.args.netlist.now order c.loop-gate.levels.items)
     (take_all c.loop-gate.gate-index c.deref-gate-items.result.now (omega arith) ∙ c.deref-gate-items.ensures.value) c.loop-gate.invariant)
+
+pub returns-clause-few : goal.returns-clause-few
+returns-clause-few c = λ net.
+    omega (arith, c.loop-gate.invariant.few net, count_by-le-length (λ level. not (level == 0)) c.loop-gate.levels.items, c.loop-gate.invariant.size)

@@ -1,0 +1,482 @@
+//! Lines without a form, and what is said of the place at which each stops having one.
+use explanations::{AtHand, Subject, fault_text, tables};
+use std::alloc::{AllocError, Global};
+use std::process::Abort;
+use std::test::Fail;
+
+/// A line without a form, and what is said of it.
+struct Mistake {
+    line: &'static str,
+    said: &'static str,
+}
+
+// What is printed of the last line of a text, with this number.
+fn told(alloc: Global, subject: Subject, number: u64, text: &[u8]) -> Result<Vec<u8>, AllocError> {
+    let name = match subject {
+        Subject::Deck => "BadDeck",
+        _ => "BadLine",
+    };
+    let fault = AtHand {
+        subject,
+        name,
+        line: number,
+        text: Some(text),
+        word: None,
+        number: None,
+        reason: None,
+        circuit: None,
+    };
+    fault_text(alloc, &tables(), fault)
+}
+
+// What is printed of a line after other lines: the line, and what is said of it.
+fn is_said(
+    rt: &impl Abort,
+    alloc: Global,
+    subject: Subject,
+    before: &str,
+    number: u64,
+    mistake: &Mistake,
+) -> Result<(), Fail> {
+    let (line, said) = (mistake.line, mistake.said);
+    let text = format!(in alloc; "{before}{line}")?;
+    let wanted = format!(in alloc; "line {number}: {line}\n{said}\n")?;
+    let told = told(alloc, subject, number, text.as_str().as_bytes())?;
+    assert!(rt; told.as_slice() == wanted.as_str().as_bytes());
+    Ok(())
+}
+
+// Lines of .bench texts.
+static BENCH: [Mistake; 28] = [
+    Mistake {
+        line: "INPUT a",
+        said: "column 7, after 'INPUT': found 'a', expected '(' or '='",
+    },
+    Mistake {
+        line: "INPUT",
+        said: "at the end of the line, after 'INPUT': expected '(' or '='",
+    },
+    Mistake {
+        line: "output(y",
+        said: "at the end of the line, after 'output(y': expected ')'",
+    },
+    Mistake {
+        line: "y = NAND(a b)",
+        said: "column 12, after 'NAND(a': found 'b', expected ',' or ')'",
+    },
+    Mistake {
+        line: "y = NAND(a,",
+        said: "at the end of the line, after 'a,': expected a name",
+    },
+    Mistake {
+        line: "y = NAND(a, b",
+        said: "at the end of the line, after 'a, b': expected ',' or ')'",
+    },
+    Mistake {
+        line: "y = NAND(a, \\",
+        said: "at the end of the line, after 'a, \\': expected ',' or ')'",
+    },
+    Mistake {
+        line: "y = NAND(a,b,)",
+        said: "column 14, after 'b,': found ')', expected a name",
+    },
+    Mistake {
+        line: "y = NAND(,a)",
+        said: "column 10, after 'NAND(': found ',', expected ')' or a name",
+    },
+    Mistake {
+        line: "y = NAND(a,b);",
+        said: "column 14, after 'b)': found ';', expected the end of the line",
+    },
+    Mistake {
+        line: "y = AND();",
+        said: "column 10, after 'AND()': found ';', expected the end of the line",
+    },
+    Mistake {
+        line: "INPUT(a) INPUT(b)",
+        said: "column 10, after 'a)': found 'INPUT', expected the end of the line",
+    },
+    Mistake {
+        line: "// note",
+        said: "column 1: '//' doesn't begin a comment; # does",
+    },
+    Mistake {
+        line: "y = AND(NOT(a), b)",
+        said: "column 12, after 'AND(NOT': found '(', expected ',' or ')'",
+    },
+    Mistake {
+        line: "y = a & b",
+        said: "column 7, after 'y = a': found '&', expected '('",
+    },
+    Mistake {
+        line: "y = a&b",
+        said: "at the end of the line, after 'y = a&b': expected '('",
+    },
+    Mistake {
+        line: "y = a",
+        said: "at the end of the line, after 'y = a': expected '('",
+    },
+    Mistake {
+        line: "y = (a)",
+        said: "column 5, after 'y =': found '(', expected a gate word",
+    },
+    Mistake {
+        line: "y",
+        said: "at the end of the line, after 'y': expected '='",
+    },
+    Mistake {
+        line: "AND(y,a,b)",
+        said: "column 4, after 'AND': found '(', expected '='",
+    },
+    Mistake {
+        line: "INPUT(a, b)",
+        said: "column 8, after 'INPUT(a': found ',', expected ')'",
+    },
+    Mistake {
+        line: "INPUT(my net)",
+        said: "column 10, after 'INPUT(my': found 'net', expected ')'",
+    },
+    Mistake {
+        line: "my net = NOT(a)",
+        said: "column 4, after 'my': found 'net', expected '='",
+    },
+    Mistake {
+        line: "$n1 = NOT(a)",
+        said: "column 1: found '$n1', expected 'INPUT', 'OUTPUT' or a name",
+    },
+    Mistake {
+        line: "y = AND(a, $n1)",
+        said: "column 12, after 'a,': found '$n1', expected a name",
+    },
+    Mistake {
+        line: "= NOT(a)",
+        said: "column 1: found '=', expected 'INPUT', 'OUTPUT' or a name",
+    },
+    Mistake {
+        line: "INPUT(a#)",
+        said: "column 8, after 'INPUT(a': found a comment, which begins at #; expected ')'",
+    },
+    Mistake {
+        line: "  y = NAND(a  b) # both",
+        said: "column 15, after 'NAND(a': found 'b', expected ',' or ')'",
+    },
+];
+
+#[test]
+fn bench_lines(rt: HostRuntime) -> Result<(), Fail> {
+    for mistake in &BENCH {
+        is_said(&rt, rt.alloc(), Subject::Bench, "", 1, mistake)?;
+    }
+    Ok(())
+}
+
+// First lines of delay texts.
+static FIRST: [Mistake; 8] = [
+    Mistake {
+        line: "y 3ns",
+        said: "column 3, after 'y': found '3ns', expected TICKS, a whole number of 1 to 1000000",
+    },
+    Mistake {
+        line: "y #3",
+        said: "column 3, after 'y': found a comment, which begins at #; expected TICKS, a whole number of 1 to 1000000",
+    },
+    Mistake {
+        line: "y=3",
+        said: "at the end of the line, after 'y=3': expected TICKS, a whole number of 1 to 1000000",
+    },
+    Mistake {
+        line: "y = 3",
+        said: "column 3, after 'y': found '=', expected TICKS, a whole number of 1 to 1000000",
+    },
+    Mistake {
+        line: "delay y 3",
+        said: "column 7, after 'delay': found 'y', expected TICKS, a whole number of 1 to 1000000",
+    },
+    Mistake {
+        line: "timing version 3",
+        said: "column 16, after 'timing version': found '3', expected '2'",
+    },
+    Mistake {
+        line: "timing version 2 x",
+        said: "column 18, after 'timing version 2': found 'x', expected the end of the line",
+    },
+    Mistake {
+        line: "timing Version 2",
+        said: "column 8, after 'timing': found 'Version', expected 'version' or TICKS, a whole number of 1 to 1000000",
+    },
+];
+
+#[test]
+fn first_delay_lines(rt: HostRuntime) -> Result<(), Fail> {
+    for mistake in &FIRST {
+        is_said(&rt, rt.alloc(), Subject::Delays, "", 1, mistake)?;
+    }
+    Ok(())
+}
+
+// Later lines of delay texts of version 1.
+static LATER: [Mistake; 3] = [
+    Mistake {
+        line: "y 3 4",
+        said: "column 5, after 'y 3': found '4', expected the end of the line",
+    },
+    Mistake {
+        line: "wire y 0 2",
+        said: "column 6, after 'wire': found 'y', expected TICKS, a whole number of 1 to 1000000",
+    },
+    Mistake {
+        line: "timing version 2",
+        said: "column 8, after 'timing': found 'version', expected TICKS, a whole number of 1 to 1000000",
+    },
+];
+
+#[test]
+fn later_delay_lines(rt: HostRuntime) -> Result<(), Fail> {
+    for mistake in &LATER {
+        is_said(&rt, rt.alloc(), Subject::Delays, "z 2\n", 2, mistake)?;
+    }
+    Ok(())
+}
+
+// Lines of delay texts of version 2.
+static SECOND: [Mistake; 10] = [
+    Mistake {
+        line: "wire y n 2",
+        said: "column 8, after 'wire y': found 'n', expected PLACE, a whole number",
+    },
+    Mistake {
+        line: "wire y 1",
+        said: "at the end of the line, after 'wire y 1': expected TICKS, a whole number of 0 to 1000000",
+    },
+    Mistake {
+        line: "DELAY y 3",
+        said: "column 1: found 'DELAY', expected 'delay', 'clock', 'init' or 'wire'",
+    },
+    Mistake {
+        line: "y 3",
+        said: "column 1: found 'y', expected 'delay', 'clock', 'init' or 'wire'",
+    },
+    Mistake {
+        line: "timing version 2",
+        said: "column 1: found 'timing', expected 'delay', 'clock', 'init' or 'wire'",
+    },
+    Mistake {
+        line: "delay y",
+        said: "at the end of the line, after 'delay y': expected TICKS, a whole number of 1 to 1000000",
+    },
+    Mistake {
+        line: "clock q p",
+        said: "column 9, after 'clock q': found 'p', expected PERIOD, a whole number of 1 to 10000000",
+    },
+    Mistake {
+        line: "clock q 4",
+        said: "at the end of the line, after 'clock q 4': expected PHASE, a whole number below PERIOD",
+    },
+    Mistake {
+        line: "init q",
+        said: "at the end of the line, after 'init q': expected VALUE, which is 0, 1, x or X",
+    },
+    Mistake {
+        line: "init q 1 0",
+        said: "column 10, after 'init q 1': found '0', expected the end of the line",
+    },
+];
+
+#[test]
+fn delay_lines_of_version_2(rt: HostRuntime) -> Result<(), Fail> {
+    for mistake in &SECOND {
+        is_said(
+            &rt,
+            rt.alloc(),
+            Subject::Delays,
+            "# delays\n\n timing version 2\t# all\n",
+            4,
+            mistake,
+        )?;
+    }
+    Ok(())
+}
+
+// Lines of stimulus texts.
+static STIMULI: [Mistake; 11] = [
+    Mistake {
+        line: "10ns a 1",
+        said: "column 1: found '10ns', expected TICK, a whole number of 0 to 10000000",
+    },
+    Mistake {
+        line: "2.5 a 1",
+        said: "column 1: found '2.5', expected TICK, a whole number of 0 to 10000000",
+    },
+    Mistake {
+        line: "-5 a 1",
+        said: "column 1: found '-5', expected TICK, a whole number of 0 to 10000000",
+    },
+    Mistake {
+        line: "a 10 1",
+        said: "column 1: found 'a', expected TICK, a whole number of 0 to 10000000",
+    },
+    Mistake {
+        line: "a=1",
+        said: "column 1: found 'a=1', expected TICK, a whole number of 0 to 10000000",
+    },
+    Mistake {
+        line: "a 1",
+        said: "column 1: found 'a', expected TICK, a whole number of 0 to 10000000",
+    },
+    Mistake {
+        line: "5",
+        said: "at the end of the line, after '5': expected NAME",
+    },
+    Mistake {
+        line: "5 a",
+        said: "at the end of the line, after '5 a': expected VALUE, which is 0, 1, x or X",
+    },
+    Mistake {
+        line: "5 a 1 b 0",
+        said: "column 7, after '5 a 1': found 'b', expected the end of the line",
+    },
+    Mistake {
+        line: "0 a = 1",
+        said: "column 7, after '0 a =': found '1', expected the end of the line",
+    },
+    Mistake {
+        line: "0123456789012345678901234567890123456789. a 1",
+        said: "column 1: found '0123456789012345678901234567890123456789 ..', expected TICK, a whole number of 0 to 10000000",
+    },
+];
+
+#[test]
+fn stimulus_lines(rt: HostRuntime) -> Result<(), Fail> {
+    for mistake in &STIMULI {
+        is_said(&rt, rt.alloc(), Subject::Stimuli, "", 1, mistake)?;
+    }
+    Ok(())
+}
+
+// Lines of schedule texts.
+static SCHEDULE: [Mistake; 7] = [
+    Mistake {
+        line: "advance a 0 -> 1",
+        said: "column 11, after 'advance a': found '0', expected the end of the line",
+    },
+    Mistake {
+        line: "round 1",
+        said: "column 1: found 'round', expected 'advance' or 'deliver'",
+    },
+    Mistake {
+        line: "Advance a",
+        said: "column 1: found 'Advance', expected 'advance' or 'deliver'",
+    },
+    Mistake {
+        line: "advance",
+        said: "at the end of the line, after 'advance': expected NAME",
+    },
+    Mistake {
+        line: "deliver y",
+        said: "at the end of the line, after 'deliver y': expected PLACE, a whole number",
+    },
+    Mistake {
+        line: "deliver y a",
+        said: "column 11, after 'deliver y': found 'a', expected PLACE, a whole number",
+    },
+    Mistake {
+        line: "deliver y 0: 1",
+        said: "column 11, after 'deliver y': found '0:', expected PLACE, a whole number",
+    },
+];
+
+#[test]
+fn schedule_lines(rt: HostRuntime) -> Result<(), Fail> {
+    for mistake in &SCHEDULE {
+        is_said(&rt, rt.alloc(), Subject::Schedule, "", 1, mistake)?;
+    }
+    Ok(())
+}
+
+// First lines of decks.
+static DECK: [Mistake; 7] = [
+    Mistake {
+        line: "",
+        said: "at the end of the line: expected '%nullsim'",
+    },
+    Mistake {
+        line: "%nullsim",
+        said: "at the end of the line, after '%nullsim': expected the horizon, a whole number of 0 to 10000000",
+    },
+    Mistake {
+        line: "%nullsim 10ns",
+        said: "column 10, after '%nullsim': found '10ns', expected the horizon, a whole number of 0 to 10000000",
+    },
+    Mistake {
+        line: "%nullsim 5 # x",
+        said: "column 12, after '%nullsim 5': found '#', expected the end of the line",
+    },
+    Mistake {
+        line: "# a deck",
+        said: "column 1: found '#', expected '%nullsim'",
+    },
+    Mistake {
+        line: "%NULLSIM 5",
+        said: "column 1: found '%NULLSIM', expected '%nullsim'",
+    },
+    Mistake {
+        line: "INPUT(a)",
+        said: "column 1: found 'INPUT(a)', expected '%nullsim'",
+    },
+];
+
+#[test]
+fn first_lines_of_decks(rt: HostRuntime) -> Result<(), Fail> {
+    for mistake in &DECK {
+        is_said(&rt, rt.alloc(), Subject::Deck, "", 1, mistake)?;
+    }
+    Ok(())
+}
+
+// Texts whose last line, with a tab or with a byte that isn't printable, has no form; and all that is printed.
+static ODD: [(Subject, u64, &[u8], &str); 4] = [
+    (
+        Subject::Bench,
+        2,
+        b"INPUT(a)\n\ty = NAND(a\tb)\r",
+        "line 2:  y = NAND(a b) \ncolumn 13, after 'NAND(a': found 'b', expected ',' or ')'\n",
+    ),
+    (
+        Subject::Delays,
+        1,
+        b"y \xc3\xa9 3",
+        "line 1: y ?? 3\ncolumn 3: found the byte C3, which is neither white space nor printable ASCII\n",
+    ),
+    (
+        Subject::Stimuli,
+        1,
+        b"\xef0 a 1",
+        "line 1: ?0 a 1\ncolumn 1: found the byte EF, which is neither white space nor printable ASCII\n",
+    ),
+    (
+        Subject::Deck,
+        1,
+        b"%nullsim 5\x0b",
+        "line 1: %nullsim 5?\ncolumn 11: found the byte 0B, which is neither white space nor printable ASCII\n",
+    ),
+];
+
+#[test]
+fn odd_bytes(rt: HostRuntime) -> Result<(), Fail> {
+    for &(subject, number, text, wanted) in &ODD {
+        let told = told(rt.alloc(), subject, number, text)?;
+        assert!(rt; told.as_slice() == wanted.as_bytes());
+    }
+    Ok(())
+}
+
+// The other lines of a deck have no form of their own: what the fault means is printed.
+#[test]
+fn later_lines_of_decks(rt: HostRuntime) -> Result<(), Fail> {
+    let told = told(rt.alloc(), Subject::Deck, 2, b"%nullsim 5\nwords")?;
+    assert!(rt;
+        told.as_slice()
+            .starts_with(b"line 2: words\nBadDeck (deck): ")
+    );
+    Ok(())
+}
