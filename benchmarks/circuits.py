@@ -178,15 +178,29 @@ def multiplier(random, size):
     return circuit
 
 
+def add_ring(circuit, random):
+    """Adds a ring oscillator of a NAND and ten inverters, which an enable lets loose after 20 to 50 ticks."""
+    enable = circuit.input([(0, "0"), (random.randint(20, 50), "1")])
+    first = last = circuit.gate("NAND", [enable])
+    for _ in range(RING_GATES - 1):
+        last = circuit.gate("NOT", [last])
+    circuit.feed(first, last)
+
+
 def rings(random, size):
-    """Ring oscillators of a NAND and ten inverters, each let loose by an enable of its own, over 32,000 ticks."""
+    """Ring oscillators, each let loose by an enable of its own, over 32,000 ticks."""
     circuit = Circuit(horizon=32_000)
     for _ in range(scaled(1_000, size)):
-        enable = circuit.input([(0, "0"), (random.randint(20, 50), "1")])
-        first = last = circuit.gate("NAND", [enable])
-        for _ in range(RING_GATES - 1):
-            last = circuit.gate("NOT", [last])
-        circuit.feed(first, last)
+        add_ring(circuit, random)
+    return circuit
+
+
+def quiet(random, size):
+    """A ring oscillator over 5,000,000 ticks, beside inverters whose inputs get a value at tick 0 and no other."""
+    circuit = Circuit(horizon=5_000_000)
+    add_ring(circuit, random)
+    for _ in range(scaled(49_994, size)):
+        circuit.gate("NOT", [circuit.input([(0, random.choice("01"))])])
     return circuit
 
 
@@ -211,6 +225,7 @@ CIRCUITS = {
     "large": large,
     "rings": rings,
     "buses": buses,
+    "quiet": quiet,
 }
 
 

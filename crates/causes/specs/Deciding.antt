@@ -1,5 +1,5 @@
 -- Which pin of a gate decides what it shows, and since when signals show what they do.
-use Rattle.std.specs.Prelude.{◌≡◌, ℕ, zero, suc, ◌+◌, ◌==◌, max, if◌then◌else◌, List, [], ◌∷◌, Option, None, Some, slice_get}
+use Rattle.std.specs.Prelude.{◌≡◌, ℕ, zero, suc, ◌+◌, ◌<◌, ◌≤◌, ◌==◌, max, if◌then◌else◌, List, [], ◌∷◌, Option, None, Some, length, slice_get, slice_index_or}
 use Rattle.std.specs.List.{list_any, position_or_len}
 use Rattle.std.specs.Option.{option_and_then, option_map_or}
 use Rattle.logic3.specs.declared.value.Value.{Value}
@@ -54,6 +54,10 @@ first_greatest numbers = position_or_len (λ number. number == greatest numbers)
 abbrev pub deciding_place : GateKind → List Value → List ℕ → ℕ
 deciding_place kind values since =
     option_map_or (λ value. position_or_len (is_same value) values) (deciding_value kind values) (first_greatest since)
+
+-- no number is above that at a place
+abbrev pub IsGreatest : List ℕ → ℕ → Type 0
+IsGreatest numbers place = (other : ℕ) → other < length numbers → slice_index_or numbers other 0 ≤ slice_index_or numbers place 0
 
 -- the tick since which a signal shows what it shows at a tick
 abbrev pub since : (ℕ → Value) → ℕ → ℕ

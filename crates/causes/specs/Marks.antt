@@ -1,9 +1,11 @@
 -- Marks for the nets and values that occur in causes.
-use Rattle.std.specs.Prelude.{◌≡◌, ℕ, ◌+◌, ◌*◌, ◌<◌, ◌≤◌, All, List, Option, None, slice_index_or}
+use Rattle.std.specs.Prelude.{◌≡◌, ℕ, ◌+◌, ◌*◌, ◌<◌, ◌≤◌, All, List, length, Option, None, slice_index_or}
 use Rattle.logic3.specs.declared.value.Value.{Value}
 use Rattle.logic3.specs.declared.value.Value.TheVariants.{Zero, One, Unknown}
+use Rattle.logic3.specs.Wave.{Wave}
+use Rattle.design.specs.Circuit.{Circuit}
 use Rattle.causes.specs.declared.cause.Cause.{Cause}
-use Rattle.causes.specs.Causes.{taken_again}
+use Rattle.causes.specs.Causes.{taken_again, ShowUpTo}
 
 -- a number for each value
 abbrev pub value_number : Value → ℕ
@@ -24,3 +26,8 @@ AreMarked nets causes marks =
 -- nets that took their values by a tick
 abbrev pub TookBy : ℕ → List Cause → Type 0
 TookBy top causes = All (λ (cause : Cause). cause.since ≤ top) causes
+
+-- this holds of any causes with these marks, over waveforms that show the run up to the ticks at which the causes took their values
+abbrev pub ForMarked : Circuit → List (Option ℕ) → List Wave → (List Cause → Type 0) → Type 0
+ForMarked circuit marks waves P =
+    (causes : List Cause) (top : ℕ) → AreMarked (length circuit) causes marks → ShowUpTo circuit top waves → TookBy top causes → P causes

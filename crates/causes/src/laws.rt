@@ -1,5 +1,5 @@
 //! Facts about causes alone.
-ghost use Rattle.std.specs.Prelude.{◌≡◌, ◌≢◌, ℕ, suc, true, false, ◌≤◌, ◌<◌, List, length, slice_get, slice_index_or, None, Some};
+ghost use Rattle.std.specs.Prelude.{◌≡◌, ◌≢◌, ℕ, suc, true, false, ◌≤◌, ◌<◌, List, length, slice_get, None, Some};
 ghost use Rattle.logic3.specs.declared.value.Value.{Value};
 ghost use Rattle.logic3.specs.declared.value.Value.TheVariants.{Unknown};
 ghost use Rattle.logic3.specs.declared.gates.GateKind.{GateKind};
@@ -7,7 +7,7 @@ ghost use Rattle.logic3.specs.Gate.{HasArity, value_of_gate};
 ghost use Rattle.design.specs.Circuit.{Circuit, IsCircuit};
 ghost use Rattle.causes.specs.Causes.{causes_of, leads_to};
 ghost use Rattle.causes.specs.declared.cause.Cause.{Cause};
-ghost use Rattle.causes.specs.Deciding.{deciding_place, deciding_value, since, IsControlled};
+ghost use Rattle.causes.specs.Deciding.{deciding_place, deciding_value, since, IsControlled, IsGreatest};
 ghost use Rattle.causes.specs.Swings.{repeats, swing_start};
 ghost use Rattle.causes.specs.Why.{IsWhy};
 
@@ -40,6 +40,6 @@ pub fn pins_that_decide()
         value_of_gate kind values ≡ Unknown → slice_get values (deciding_place kind values since) ≡ Some Unknown }
     ensures settles { (kind : GateKind) (values others : List Value) →
         IsControlled kind values → IsControlled kind others → value_of_gate kind others ≡ value_of_gate kind values }
-    ensures last { (kind : GateKind) (values : List Value) (since : List ℕ) (place : ℕ) → deciding_value kind values ≡ None →
-        place < length since → slice_index_or since place 0 ≤ slice_index_or since (deciding_place kind values since) 0 }
+    ensures last { (kind : GateKind) (values : List Value) (since : List ℕ) → deciding_value kind values ≡ None →
+        IsGreatest since (deciding_place kind values since) }
 {}

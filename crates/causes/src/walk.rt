@@ -1,9 +1,9 @@
 //! The walk from a net and a tick back to a cause that needs no other.
-ghost use Rattle.std.specs.Prelude.{◌≡◌, ◌<◌, ◌≤◌, ◌*◌, ◌+◌, List, length, replicate, IfOk, None, ℕ};
+ghost use Rattle.std.specs.Prelude.{◌≡◌, ◌<◌, ◌≤◌, ◌*◌, ◌+◌, length, replicate, IfOk, None};
 ghost use Rattle.design.specs.Design.{IsDesign};
 ghost use Rattle.causes.specs.declared.cause.Cause.{Cause};
 ghost use Rattle.causes.specs.Causes.{cause_behind, causes_of, explained_at, ShowUpTo};
-ghost use Rattle.causes.specs.Marks.{mark_place, AreMarked, TookBy};
+ghost use Rattle.causes.specs.Marks.{mark_place, ForMarked};
 
 use crate::cause::{Cause, Reason};
 use crate::pins::since;
@@ -102,9 +102,8 @@ fn cause_behind(
     requires is_net { net < length design.now.circuit }
     requires waves { ShowUpTo design.now.circuit tick waves.now }
     requires marks { length marks.now ≡ 3 * length design.now.circuit }
-    ensures { IfOk result (λ cause. (causes : List Cause) (top : ℕ) → AreMarked (length design.now.circuit) causes marks.now →
-        ShowUpTo design.now.circuit top waves.now → TookBy top causes →
-        cause ≡ cause_behind design.now.circuit causes net tick) }
+    ensures { IfOk result (λ cause. ForMarked design.now.circuit marks.now waves.now
+        (λ causes. cause ≡ cause_behind design.now.circuit causes net tick)) }
 {
     let value = shown(waves, net, tick);
     let from = since(waves, net, tick);

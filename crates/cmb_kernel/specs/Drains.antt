@@ -70,6 +70,7 @@ changes_given circuit net from to = changes_between (value_of circuit net) from 
 
 -- some actions complete a run from its beginning
 pub record CompleteRun (circuit : Circuit) (last : ℕ) (actions : List Action) : Type 0 where
+  pub well_formed : IsCircuit circuit
   pub allowed : CanAct circuit (started circuit last) actions
   pub complete : IsComplete (all_acted (started circuit last) actions)
 

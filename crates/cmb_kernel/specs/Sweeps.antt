@@ -49,6 +49,10 @@ ForSweeps circuit P = (tick : ℕ) (order : List ℕ) → All (λ net. net < len
 abbrev pub HoldsAll : Circuit → List ℕ → Type 0
 HoldsAll circuit order = (net : ℕ) → net < length circuit → Contains order net
 
+-- this holds of each sweep over all nets of a circuit
+abbrev pub ForWholeSweeps : Circuit → (ℕ → List ℕ → Type 0) → Type 0
+ForWholeSweeps circuit P = ForSweeps circuit (λ tick order. HoldsAll circuit order → P tick order)
+
 -- each net of a circuit is known up to a tick
 abbrev pub AllKnow : Circuit → ℕ → State → Type 0
 AllKnow circuit tick state = (net : ℕ) → net < length circuit → tick ≤ frontier_at state net

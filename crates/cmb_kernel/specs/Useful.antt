@@ -1,5 +1,5 @@
 -- Events that are useful, and how many are.
-use Rattle.std.specs.Prelude.{◌≢◌, ℕ, ◌+◌, ◌-◌, ◌*◌, ◌<◌, ◌≤◌, ◌⊎◌, nat_lt, if◌then◌else◌, Bool, true, false, List, [], ◌∷◌, length, sum_by}
+use Rattle.std.specs.Prelude.{◌≡◌, ◌≢◌, ℕ, ◌+◌, ◌-◌, ◌*◌, ◌<◌, ◌≤◌, ◌⊎◌, nat_lt, if◌then◌else◌, Bool, true, false, List, [], ◌∷◌, length, sum_by, All}
 use Rattle.design.specs.Circuit.{Circuit, pin_count}
 use Rattle.design.specs.Pins.{net_of_pin}
 use Rattle.gate_process.specs.Knowledge.{Knowledge}
@@ -7,7 +7,7 @@ use Rattle.gate_process.specs.Step.{ProcessState}
 use Rattle.cmb_events.specs.declared.event.Event.{Event}
 use Rattle.cmb_events.specs.declared.event.Event.TheVariants.{Deliver, Advance}
 use Rattle.cmb_kernel.specs.State.{State, frontier_at, received_at}
-use Rattle.cmb_kernel.specs.Step.{step}
+use Rattle.cmb_kernel.specs.Step.{step, steps, ForEvents}
 
 -- the sum of the frontiers of a process and of its pins
 abbrev pub progress_of : ProcessState → ℕ
@@ -43,6 +43,11 @@ useful_count state (event ∷ events) = (if is_useful state event then 1 else 0)
 abbrev pub IsUnheard : Circuit → ℕ → Event → Type 0
 IsUnheard circuit net (Deliver pin) = net_of_pin circuit pin ≢ net
 IsUnheard circuit net (Advance other) = Unit {0}
+
+-- a net has nothing to send until one of its pins takes a message
+abbrev pub StaysQuiet : Circuit → State → ℕ → Type 0
+StaysQuiet circuit state net =
+    ForEvents circuit (λ events. All (IsUnheard circuit net) events → is_useful (steps state events) (Advance net) ≡ false)
 
 abbrev pub is_advance : Event → Bool
 is_advance (Deliver pin) = false

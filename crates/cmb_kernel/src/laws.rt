@@ -7,8 +7,8 @@ ghost use Rattle.cmb_events.specs.declared.event.Event.{Event};
 ghost use Rattle.cmb_events.specs.declared.event.Event.TheVariants.{Deliver, Advance};
 ghost use Rattle.cmb_kernel.specs.State.{State, started, frontier_at, received_at, floor_at, waiting_at, least_frontier, least_delay, past_least, most_rounds, IsComplete, waves_in};
 ghost use Rattle.cmb_kernel.specs.Step.{counted, news_at, step, steps, ForEvents, ForCompletions, after_drain, round_of, rounds, completed_within};
-ghost use Rattle.cmb_kernel.specs.Sweeps.{swept, ForSweeps, HoldsAll, EventsLead};
-ghost use Rattle.cmb_kernel.specs.Useful.{NoneFalls, SomeRises, is_useful, IsUnheard, progress, remaining, useful_count, useful_advances};
+ghost use Rattle.cmb_kernel.specs.Sweeps.{swept, ForSweeps, ForWholeSweeps, EventsLead};
+ghost use Rattle.cmb_kernel.specs.Useful.{NoneFalls, SomeRises, is_useful, StaysQuiet, progress, remaining, useful_count, useful_advances};
 ghost use Rattle.cmb_events.specs.Schedule.{Exists};
 ghost use Rattle.cmb_kernel.specs.Sound.{EachNet, EachPin, CanDrain, IsSound, ForSound, KnowsNet, HearsItsSource};
 ghost use Rattle.cmb_kernel.specs.Drains.{Action, all_acted, events_among, changes_given, AllComesOut, ForActions, ForAlike, CompleteRun, apart_from_waves};
@@ -114,8 +114,7 @@ pub fn advances()
         is_useful (step state (Advance net)) (Advance other) ≡ is_useful state (Advance other)) }
     // The net has nothing more to send until one of its pins takes a message.
     ensures quiet { ForSound (λ circuit last state. (net : ℕ) → net < length circuit →
-        ForEvents circuit (λ events. All (IsUnheard circuit net) events →
-        is_useful (steps (step state (Advance net)) events) (Advance net) ≡ false)) }
+        StaysQuiet circuit (step state (Advance net)) net) }
 {}
 
 /// A sweep consists only of events, so what holds for any events holds for sweeps; and a run that isn't
@@ -123,8 +122,8 @@ pub fn advances()
 pub fn sweeps()
     ensures events { ForSound (λ circuit last state. ForSweeps circuit (λ tick order.
         EventsLead circuit state (swept tick order state))) }
-    ensures raises { ForSound (λ circuit last state. ForSweeps circuit (λ tick order.
-        HoldsAll circuit order → least_frontier last state ≤ tick →
+    ensures raises { ForSound (λ circuit last state. ForWholeSweeps circuit (λ tick order.
+        least_frontier last state ≤ tick →
         past_least last circuit state ≤ least_frontier last (swept tick order state))) }
     // A pin that is known up to the tick takes nothing.
     ensures enough { ForSound (λ circuit last state. ForSweeps circuit (λ tick order.
@@ -146,7 +145,6 @@ pub fn drains_play_no_part()
     ensures values { ForSound (λ circuit last state. ForActions circuit state (λ actions.
         AllComesOut state actions (λ net process.
         changes_given circuit net (floor_at state net) process.known.frontier))) }
-    ensures complete { (circuit : Circuit) → IsCircuit circuit → (last : ℕ) (actions : List Action) →
-        CompleteRun circuit last actions →
+    ensures complete { (circuit : Circuit) (last : ℕ) (actions : List Action) → CompleteRun circuit last actions →
         AllComesOut (started circuit last) actions (λ net process. changes_given circuit net 0 last) }
 {}

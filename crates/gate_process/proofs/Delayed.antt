@@ -86,18 +86,6 @@ pub not_due : (unknown : Option ℕ) (tick : ℕ) → option_map_or (λ from. na
 not_due None tick is = refl
 not_due (Some from) tick is = rw is refl
 
--- the first change is the first of the changes, else that to X
-pub first_with : (changes ending : List Change) (first : ℕ) → option_map (λ (change : Change). change.tick) (slice_get changes 0) ≡ Some first →
-    Some first ≡ option_map (λ (change : Change). change.tick) (slice_get (changes ++ ending) 0)
-first_with [] ending first is = cc
-first_with (change ∷ changes) ending first is = sym is
-
-pub first_unknown : (changes : List Change) (unknown : Option ℕ) → option_map (λ (change : Change). change.tick) (slice_get changes 0) ≡ None →
-    unknown ≡ option_map (λ (change : Change). change.tick) (slice_get (changes ++ unknown_from unknown) 0)
-first_unknown [] None none = refl
-first_unknown [] (Some from) none = refl
-first_unknown (change ∷ changes) unknown none = cc
-
 -- the first change is seen later too
 pub first_delayed : (wire : ℕ) (changes : List Change) (first : Change) → slice_get changes 0 ≡ Some first →
     Some (first.tick + wire) ≡ option_map (λ (change : Change). change.tick) (slice_get (delayed_changes wire changes) 0)

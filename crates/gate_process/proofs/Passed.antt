@@ -1,6 +1,6 @@
 -- The changes that are left of a list whose ticks rise, once those up to a tick are passed.
-use Rattle.std.proofs.Common.{◌≡◌, ℕ, zero, suc, ◌+◌, ◌<◌, ◌≤◌, nat_le, Bool, true, false, cond, List, [], ◌∷◌, ◌++◌, length, All, take, drop, refl, ap, sym, ◌∙◌, arith, leb-true, leb-false, one-add, None, Some, slice_get}
-use Rattle.std.specs.Option.{option_map}
+use Rattle.std.proofs.Common.{◌≡◌, ℕ, zero, suc, ◌+◌, ◌<◌, ◌≤◌, nat_le, Bool, true, false, cond, List, [], ◌∷◌, ◌++◌, length, All, take, drop, refl, ap, sym, ◌∙◌, arith, leb-true, leb-false, one-add, Option, None, Some, slice_get}
+use Rattle.std.specs.Option.{option_map, unwrap_or}
 use Rattle.std.specs.List.{prefix_len}
 use Rattle.std.proofs.lemmas.Bool.{le-leb, lt-leb}
 use Rattle.std.proofs.lemmas.List.Elements.{All-head, All-tail, All-append}
@@ -10,6 +10,8 @@ use Rattle.logic3.specs.declared.value.Value.{Value}
 use Rattle.logic3.specs.declared.change.Change.{Change}
 use Rattle.logic3.specs.Rising.{TicksRise}
 use Rattle.logic3.specs.Wave.{value_after, value_in_the_end}
+use Rattle.gate_process.specs.Knowledge.{unknown_from}
+use Rattle.gate_process.specs.LaterChanges.{first_tick}
 
 -- how many changes come first that aren't after a tick
 abbrev pub due_by : ℕ → List Change → ℕ
@@ -86,26 +88,35 @@ value_now before changes tick rise =
 
 -- ---- the first change
 
--- the value before a change at the end of a list
-pub first_tick-steady : (before : Value) (changes : List Change) (first tick : ℕ) → TicksRise changes →
-    option_map (λ (change : Change). change.tick) (slice_get changes 0) ≡ Some first → tick < first → value_after before changes tick ≡ before
-first_tick-steady before [] first tick rise is early = refl
-first_tick-steady before (change ∷ changes) first tick rise is early =
-    let here = same_Some change.tick first is in
-    value_before_all before (change ∷ changes) tick (all_after change changes tick rise (omega (arith, here, early)))
+-- before its tick the value is the one before all of them
+pub steady_before_first : (before : Value) (changes : List Change) (tick : ℕ) → TicksRise changes → tick < first_tick changes →
+    value_after before changes tick ≡ before
+steady_before_first before [] tick rise early = refl
+steady_before_first before (first ∷ changes) tick rise early = value_before_all before (first ∷ changes) tick (all_after first changes tick rise early)
 
-pub no_first-steady : (before : Value) (changes : List Change) (tick : ℕ) →
-    option_map (λ (change : Change). change.tick) (slice_get changes 0) ≡ None → value_after before changes tick ≡ before
-no_first-steady before [] tick is = refl
-no_first-steady before (change ∷ changes) tick is = cc
+-- and all of them are still to come
+pub after_before_first : (changes : List Change) (tick : ℕ) → TicksRise changes → tick < first_tick changes →
+    All (λ (change : Change). tick < change.tick) changes
+after_before_first [] tick rise early = λ k d inside. absurd (omega arith)
+after_before_first (first ∷ changes) tick rise early = all_after first changes tick rise early
 
-pub first_tick-later : (changes : List Change) (first tick : ℕ) → All (λ (change : Change). tick < change.tick) changes →
-    option_map (λ (change : Change). change.tick) (slice_get changes 0) ≡ Some first → tick < first
-first_tick-later [] first tick after is = cc
-first_tick-later (change ∷ changes) first tick after is =
-    let here = same_Some change.tick first is in
-    let late = All-head (λ (change : Change). tick < change.tick) change changes after in
-    omega (arith, here, late)
+-- it comes after a tick that all of them are after; if there is none, no tick is as late
+pub first_after : (changes : List Change) (tick : ℕ) → All (λ (change : Change). tick < change.tick) changes → tick < first_tick [] →
+    tick < first_tick changes
+first_after [] tick after early = early
+first_after (first ∷ changes) tick after early = All-head (λ (change : Change). tick < change.tick) first changes after
+
+-- it is the first of the changes, else that to X
+pub first_is : (changes ending : List Change) (first : ℕ) → option_map (λ (change : Change). change.tick) (slice_get changes 0) ≡ Some first →
+    first ≡ first_tick (changes ++ ending)
+first_is [] ending first is = cc
+first_is (change ∷ changes) ending first is = sym (same_Some change.tick first is)
+
+pub first_unknown : (changes : List Change) (unknown : Option ℕ) → option_map (λ (change : Change). change.tick) (slice_get changes 0) ≡ None →
+    unwrap_or unknown (first_tick []) ≡ first_tick (changes ++ unknown_from unknown)
+first_unknown [] None none = refl
+first_unknown [] (Some tick) none = refl
+first_unknown (change ∷ changes) unknown none = cc
 
 -- ---- changes with others behind them
 

@@ -78,3 +78,42 @@ module _ (start : List Wave) (tick limit place : ℕ) (read : List Wave) (next :
   module _ (done : length read ≤ place) where
     pub all_seen : (t : ℕ) → take place (seen_at t start) ≡ seen_at t start
     all_seen t = let count = so_far.count in take_all place (seen_at t start) (omega (arith, done, count, length-seen t start))
+
+-- what shows the same from a tick on, and stays then, stayed before
+pub one_steady : (old new : Wave) (tick more : ℕ) → ((t : ℕ) → tick ≤ t → value_at new t ≡ value_at old t) →
+    ((t : ℕ) → t < more → value_at new t ≡ new.before) → tick < more →
+    (t : ℕ) → tick ≤ t → t < more → value_at old t ≡ value_at old tick
+one_steady old new tick more same stays after t a b =
+    sym (same t a) ∙ stays t b ∙ sym (stays tick after) ∙ same tick (omega arith)
+
+-- ---- two waveforms, each of which is replaced by one that shows the same from a tick on
+
+pub two_first : (read : List Wave) (first second then : Wave) → length read ≡ 2 →
+    then ≡ get_or (slice_set (slice_set read 0 first) 1 second) 0 then → then ≡ first
+two_first [] first second then two is = absurd (omega arith)
+two_first (one ∷ []) first second then two is = absurd (omega arith)
+two_first (one ∷ other ∷ read) first second then two is = is
+
+pub two_second : (read : List Wave) (first second then : Wave) → length read ≡ 2 →
+    then ≡ get_or (slice_set (slice_set read 0 first) 1 second) 1 then → then ≡ second
+two_second [] first second then two is = absurd (omega arith)
+two_second (one ∷ []) first second then two is = absurd (omega arith)
+two_second (one ∷ other ∷ read) first second then two is = is
+
+pub two_left : (read : List Wave) (tick : ℕ) (none new_first other_none new_second : Wave) → length read ≡ 2 →
+    value_at new_first tick ≡ value_at (get_or read 0 none) tick →
+    value_at new_second tick ≡ value_at (get_or (slice_set read 0 new_first) 1 other_none) tick →
+    seen_at tick (slice_set (slice_set read 0 new_first) 1 new_second) ≡ seen_at tick read
+two_left [] tick none new_first other_none new_second two a b = absurd (omega arith)
+two_left (one ∷ []) tick none new_first other_none new_second two a b = absurd (omega arith)
+two_left (one ∷ other ∷ more ∷ read) tick none new_first other_none new_second two a b = absurd (omega arith)
+two_left (one ∷ other ∷ []) tick none new_first other_none new_second two a b = λ i. a i ∷ b i ∷ []
+
+pub two_steady : (read : List Wave) (tick late : ℕ) (none new_first other_none : Wave) → length read ≡ 2 →
+    value_at (get_or read 0 none) late ≡ value_at (get_or read 0 none) tick →
+    value_at (get_or (slice_set read 0 new_first) 1 other_none) late ≡ value_at (get_or (slice_set read 0 new_first) 1 other_none) tick →
+    seen_at late read ≡ seen_at tick read
+two_steady [] tick late none new_first other_none two a b = absurd (omega arith)
+two_steady (one ∷ []) tick late none new_first other_none two a b = absurd (omega arith)
+two_steady (one ∷ other ∷ more ∷ read) tick late none new_first other_none two a b = absurd (omega arith)
+two_steady (one ∷ other ∷ []) tick late none new_first other_none two a b = λ i. a i ∷ b i ∷ []

@@ -135,6 +135,8 @@ fn stays(net: &OwnNet<'_>, received: &[Received], span: Span, most: u64) -> bool
 /// Extends a net's waveform by what the net shows over what it reads, adds the messages to the list, and
 /// returns the new frontier: the first tick at which not all pins are known and the net would show X, or
 /// `most`.
+// A walk of its own for each number of pins: that of few pins keeps them in registers.
+#[inline(always)]
 fn walk(
     net: &OwnNet<'_>,
     read: &mut [Cursor<'_>],
@@ -159,13 +161,14 @@ fn walk(
 {
     // The messages so far report the net up to here.
     let mut told = span.from;
+    let mut last = wave.last_value();
     let mut tick = span.from;
     while tick < most {
         let look = net.look(read, tick, limit_at(tick, span.sure, most));
         if waits(span.sure, tick, look.value) {
             return tell_up_to(tick, told, messages);
         }
-        if look.value != wave.last_value() {
+        if look.value != last {
             let change = Change {
                 tick,
                 value: look.value,
@@ -173,6 +176,7 @@ fn walk(
             wave.push(change)?;
             messages.push(Message::Change(change))?;
             told = tick + 1;
+            last = look.value;
         }
         tick = look.until;
     }

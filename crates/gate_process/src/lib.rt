@@ -24,6 +24,7 @@ mod own_net;
 mod process;
 mod processes;
 mod received;
+mod two_pins;
 
 pub use process::Process;
 pub use processes::Processes;

@@ -1,18 +1,19 @@
-ghost use Rattle.std.specs.Prelude.{◌≡◌, ◌≢◌, ℕ, ◌+◌, ◌<◌, ◌≤◌, min, List, length, slice_get, Some};
+ghost use Rattle.std.specs.Prelude.{◌≡◌, ◌≢◌, ℕ, ◌+◌, ◌<◌, ◌≤◌, min, List, length, map, slice_get, Some};
 ghost use Rattle.std.specs.Option.{option_map_or};
 ghost use Rattle.logic3.specs.declared.value.Value.{Value};
 ghost use Rattle.logic3.specs.declared.value.Value.TheVariants.{Unknown};
 ghost use Rattle.logic3.specs.Summary.{summary_of};
+ghost use Rattle.logic3.specs.Wave.{value_at};
 ghost use Rattle.netlist.specs.declared.part.Part.TheVariants.{Input};
 ghost use Rattle.timing_text.specs.Ranges.{most_delay, most_ticks};
 ghost use Rattle.design.specs.Samples.{first_asker};
-ghost use Rattle.design.specs.Equations.{equation};
+ghost use Rattle.design.specs.Equations.{equation, values_at};
 ghost use Rattle.gate_process.specs.Knowledge.{seen_pins};
 ghost use Rattle.gate_process.specs.Reading.{reads, read_tick, made_of, shown, most_of_part};
 ghost use Rattle.gate_process.specs.Step.{frontier_of, oldest_asked, signals_of};
 ghost use Rattle.gate_process.specs.Truth.{IsNet};
 
-use crate::cursor::{Cursor, read_at};
+use crate::cursor::{Cursor, Reading, read_at, read_gate};
 use crate::received::{Received, seen_at};
 use design::{Design, asked_tick, first_asker};
 use logic3::{Summary, Value};
@@ -28,14 +29,19 @@ pub struct Look {
 }
 
 /// The net of a process: its number, and the design that has all else.
+///
+/// Each look at a gate needs its kind and its delay, so these two are fetched from the design once.
 #[derive(Debug, Drop)]
 pub struct OwnNet<'d> {
     design: &'d Design,
     net: u32,
+    // The delay in ticks, at most 1,000,000.
+    delay: u32,
+    part: Part,
 }
 
 impl<'d> Model for OwnNet<'d> {
-    ghost use Rattle.std.specs.Prelude.{◌<◌, length};
+    ghost use Rattle.std.specs.Prelude.{◌≡◌, ◌<◌, length};
     ghost use Rattle.design.specs.Circuit.{Net};
     ghost use Rattle.gate_process.specs.Truth.{IsNet, net_at};
 
@@ -43,7 +49,9 @@ impl<'d> Model for OwnNet<'d> {
 
     ghost view = { λ n. net_at n.design.now.circuit n.net };
 
-    ghost invariant = { λ n. (n.net < length n.design.now.circuit) × IsNet (net_at n.design.now.circuit n.net) };
+    ghost invariant = { λ n. (n.net < length n.design.now.circuit) × IsNet (net_at n.design.now.circuit n.net)
+        × (n.part ≡ (net_at n.design.now.circuit n.net).part)
+        × (n.delay ≡ (net_at n.design.now.circuit n.net).timing.delay) };
 }
 
 impl<'d> OwnNet<'d> {
@@ -55,7 +63,12 @@ impl<'d> OwnNet<'d> {
         // Called for its contract: the design is well formed.
         let nets = design.nets();
         prove!(net < nets);
-        OwnNet { design, net }
+        OwnNet {
+            design,
+            net,
+            delay: design.delay(net) as u32,
+            part: design.part(net),
+        }
     }
 
     /// Returns what drives the net.
@@ -63,7 +76,14 @@ impl<'d> OwnNet<'d> {
         ensures part { result ≡ self.now.part }
         ensures well_formed { IsNet self.now }
     {
-        self.design.part(self.net)
+        self.part
+    }
+
+    /// Returns the delay of the net in ticks.
+    fn delay(&self) -> u64
+        ensures { result ≡ self.now.timing.delay }
+    {
+        u64::from(self.delay)
     }
 
     /// Returns when the net reads its pins.
@@ -96,7 +116,7 @@ impl<'d> OwnNet<'d> {
         ensures { result ≡ oldest_asked self.now place frontier }
     {
         frontier
-            .saturating_sub(self.timing().delay)
+            .saturating_sub(self.delay())
             .saturating_sub(u64::from(self.wires()[place]))
     }
 
@@ -106,7 +126,7 @@ impl<'d> OwnNet<'d> {
         requires safe { safe ≤ most_ticks + 1 + most_delay }
         ensures { result ≡ frontier_of self.now end safe }
     {
-        match first_asker(self.part(), self.timing(), safe) {
+        match self.first_asker(safe) {
             Some(first) => end.min(first),
             None => end,
         }
@@ -133,6 +153,7 @@ impl<'d> OwnNet<'d> {
     /// most the limit.
     ///
     /// The cursors move to the tick that decides the value, and can be used for ticks from this one on.
+    #[inline(always)]
     pub fn look(&self, read: &mut [Cursor<'_>], tick: u64, limit: u64) -> Look
         requires read { length read.old ≡ reads self.now }
         requires before { tick < limit }
@@ -152,10 +173,35 @@ impl<'d> OwnNet<'d> {
                 until: self.until(0, limit),
             };
         };
-        let reading = read_at(read, at, limit);
+        let reading = self.read(read, at, limit);
         Look {
-            value: self.made_of(&reading.pins),
+            value: reading.value,
             until: self.until(reading.next, limit),
+        }
+    }
+
+    /// Moves the cursors to a tick, and returns the net's value over what they show there and the tick of the
+    /// first change after it, at most the limit.
+    #[inline(always)]
+    fn read(&self, read: &mut [Cursor<'_>], tick: u64, limit: u64) -> Reading
+        requires read { length read.old ≡ reads self.now }
+        requires before { tick < limit }
+        ensures value { result.value ≡ made_of self.now.part (values_at tick (map value_at read.old)) }
+        ensures later { tick < result.next }
+        ensures within { result.next ≤ limit }
+        ensures steady { (t : ℕ) → tick ≤ t → t < result.next →
+            values_at t (map value_at read.old) ≡ values_at tick (map value_at read.old) }
+        ensures left { (t : ℕ) → tick ≤ t →
+            values_at t (map value_at read.new) ≡ values_at t (map value_at read.old) }
+        ensures length { length read.new ≡ length read.old }
+    {
+        if let Part::Gate(kind) = self.part() {
+            return read_gate(kind, read, tick, limit);
+        }
+        let all = read_at(read, tick, limit);
+        Reading {
+            value: self.made_of(&all.pins),
+            next: all.next,
         }
     }
 
@@ -179,6 +225,7 @@ impl<'d> OwnNet<'d> {
     {
         match self.part() {
             Part::Input => Some(tick),
+            Part::Gate(_) => tick.checked_sub(self.delay()),
             part => asked_tick(part, self.timing(), tick),
         }
     }
@@ -201,9 +248,20 @@ impl<'d> OwnNet<'d> {
         requires end { limit ≤ most_ticks + 1 }
         ensures { result ≡ option_map_or (min limit) (first_asker self.now change) change }
     {
-        match first_asker(self.part(), self.timing(), change) {
+        match self.first_asker(change) {
             Some(first) => limit.min(first),
             None => change,
+        }
+    }
+
+    /// Returns the first tick at which the net asks for this tick of its pins or a later one.
+    fn first_asker(&self, tick: u64) -> Option<u64>
+        requires { tick ≤ most_ticks + 1 + most_delay }
+        ensures { result ≡ first_asker self.now tick }
+    {
+        match self.part() {
+            Part::Gate(_) => Some(tick + self.delay()),
+            part => first_asker(part, self.timing(), tick),
         }
     }
 }

@@ -1,5 +1,5 @@
 -- The gate table.
-use Rattle.std.specs.Prelude.{◌≡◌, ℕ, ◌<◌, ◌%◌, ◌==◌, ◌⊎◌, if◌then◌else◌, List, [], ◌∷◌, count_by}
+use Rattle.std.specs.Prelude.{◌≡◌, ◌≢◌, ℕ, ◌<◌, ◌%◌, ◌==◌, ◌⊎◌, if◌then◌else◌, List, [], ◌∷◌, count_by}
 use Rattle.std.specs.List.{list_any, list_all}
 use Rattle.logic3.specs.declared.value.Value.{Value}
 use Rattle.logic3.specs.declared.value.Value.TheVariants.{Zero, One, Unknown}
@@ -41,6 +41,10 @@ abbrev pub HasArity : GateKind → ℕ → Type 0
 HasArity Not pins = pins ≡ 1
 HasArity Buf pins = pins ≡ 1
 HasArity _ pins = 0 < pins
+
+-- if a gate gives 0 or 1 for some values of its pins, it gives the same for others
+abbrev pub AnswerStays : GateKind → List Value → List Value → Type 0
+AnswerStays kind pins others = value_of_gate kind pins ≢ Unknown → value_of_gate kind others ≡ value_of_gate kind pins
 
 -- the same pins, except that some X pins have received a value
 abbrev pub Refines : List Value → List Value → Type 0

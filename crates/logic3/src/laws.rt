@@ -4,7 +4,7 @@ ghost use Rattle.logic3.specs.declared.value.Value.{Value};
 ghost use Rattle.logic3.specs.declared.value.Value.TheVariants.{Unknown};
 ghost use Rattle.logic3.specs.declared.change.Change.{Change};
 ghost use Rattle.logic3.specs.declared.gates.GateKind.{GateKind};
-ghost use Rattle.logic3.specs.Gate.{HasArity, Refines, value_of_gate};
+ghost use Rattle.logic3.specs.Gate.{AnswerStays, HasArity, Refines, value_of_gate};
 ghost use Rattle.logic3.specs.Rising.{TicksRise};
 ghost use Rattle.logic3.specs.Wave.{IsChangeOf, IsWave, joined, value_at, wave_of};
 
@@ -18,11 +18,9 @@ pub fn unknown_pins()
 /// change the result.
 pub fn known_answer_stays()
     ensures one_pin { (kind : GateKind) (pins : List Value) (place : ℕ) (value : Value) →
-        slice_get pins place ≡ Some Unknown → value_of_gate kind pins ≢ Unknown →
-        value_of_gate kind (slice_set pins place value) ≡ value_of_gate kind pins }
+        slice_get pins place ≡ Some Unknown → AnswerStays kind pins (slice_set pins place value) }
     ensures any_pins { (kind : GateKind) (pins refined : List Value) →
-        Refines pins refined → value_of_gate kind pins ≢ Unknown →
-        value_of_gate kind refined ≡ value_of_gate kind pins }
+        Refines pins refined → AnswerStays kind pins refined }
 {}
 
 /// The waveform of a signal has a change at exactly those ticks of its span at which the signal

@@ -6,11 +6,14 @@ use Rattle.logic3.specs.declared.value.Value.TheVariants.{Unknown}
 use Rattle.logic3.specs.declared.change.Change.{Change}
 use Rattle.logic3.specs.Wave.{changes_between}
 use Rattle.logic3.specs.Rising.{TicksRise}
+use Rattle.design.specs.Circuit.{Circuit}
 use Rattle.texts.specs.Text.{is_empty}
 use Rattle.texts.specs.Written.{line}
+use Rattle.vcd_dump.specs.declared.unit.TimeUnit.{TimeUnit}
 use Rattle.vcd_dump.specs.Lines.{LineView}
 use Rattle.vcd_dump.specs.Codes.{code_at}
-use Rattle.vcd_dump.specs.Dump.{Trace, change_text, time_line, time_line_after}
+use Rattle.vcd_dump.specs.Dump.{Trace, declarations, change_text, time_line, time_line_after}
+use Rattle.vcd_dump.specs.Traces.{named}
 
 -- ---- lines
 
@@ -189,3 +192,8 @@ shown_signals traces = map (λ (trace : Trace). trace.1) traces
 abbrev pub whole_text : ℕ → List (ℕ → Value) → List ℕ
 whole_text horizon signals =
     span_text 0 (horizon + 1) (parts_of signals 0 (horizon + 1)) ++ last_text (stream_at signals horizon (horizon + 1))
+
+-- what a stream writes of the signals of shown nets, with the declarations before it
+abbrev pub streamed_text : TimeUnit → ℕ → Circuit → List ℕ → (ℕ → ℕ → Value) → List ℕ
+streamed_text unit horizon circuit shown signal =
+    declarations unit (named circuit shown) ++ whole_text horizon (map signal shown)

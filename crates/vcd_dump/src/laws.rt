@@ -1,5 +1,5 @@
 //! Facts about the definitions alone.
-ghost use Rattle.std.specs.Prelude.{◌≡◌, ◌≢◌, ℕ, ◌+◌, ◌<◌, ◌≤◌, ◌^◌, false, List, [], ◌∷◌, ◌++◌, length, map, flat_map, All, Contains};
+ghost use Rattle.std.specs.Prelude.{◌≡◌, ◌≢◌, ℕ, ◌+◌, ◌<◌, ◌≤◌, ◌^◌, false, List, [], ◌∷◌, ◌++◌, length, flat_map, All, Contains};
 ghost use Rattle.logic3.specs.declared.value.Value.{Value};
 ghost use Rattle.logic3.specs.declared.change.Change.{Change};
 ghost use Rattle.design.specs.Circuit.{Circuit};
@@ -8,9 +8,9 @@ ghost use Rattle.netlist.specs.Netlist.{most_nets};
 ghost use Rattle.vcd_dump.specs.declared.unit.TimeUnit.{TimeUnit};
 ghost use Rattle.vcd_dump.specs.Codes.{code_at};
 ghost use Rattle.vcd_dump.specs.Dump.{dump_keywords, Trace, variables_of, declarations, dump_text};
-ghost use Rattle.vcd_dump.specs.Spans.{StreamView, begun, with_part, with_parts, spanned, span_text, IsPart, IsSpan, CanSpan, parts_of, stream_at, shown_signals, whole_text};
+ghost use Rattle.vcd_dump.specs.Spans.{StreamView, begun, with_part, with_parts, spanned, span_text, IsSpan, CanSpan, parts_of, stream_at, shown_signals, whole_text, streamed_text};
 ghost use Rattle.vcd_dump.specs.Shown.{dump_tokens, IsReadable, Shows};
-ghost use Rattle.vcd_dump.specs.Traces.{named, net_traces};
+ghost use Rattle.vcd_dump.specs.Traces.{net_traces};
 
 /// The identifier codes of distinct places differ.
 pub fn distinct_codes()
@@ -45,9 +45,6 @@ pub fn parts_are_given()
         with_part (with_parts stream parts) part ≡ with_parts stream (parts ++ part ∷ []) }
     ensures span { (stream : StreamView) (upto : ℕ) (parts : List (List Change)) → IsSpan stream upto parts →
         CanSpan (with_parts stream parts) upto }
-    ensures can { (stream : StreamView) (upto : ℕ) (parts : List (List Change)) →
-        stream.written < upto → upto ≤ stream.horizon + 1 → length parts ≡ stream.nets →
-        All (IsPart stream.written upto) parts → CanSpan (with_parts stream parts) upto }
 {}
 
 /// What a stream writes for signals, span by span, is their dump. After the declarations it can advance
@@ -69,7 +66,6 @@ pub fn spans_make_the_dump()
     ensures whole { (unit : TimeUnit) (horizon : ℕ) (traces : List Trace) →
         declarations unit (variables_of traces) ++ whole_text horizon (shown_signals traces)
         ≡ dump_text unit horizon traces }
-    ensures nets { (unit : TimeUnit) (horizon : ℕ) (circuit : Circuit) (shown : List ℕ) (signal : ℕ → ℕ → Value) →
-        declarations unit (named circuit shown) ++ whole_text horizon (map signal shown)
-        ≡ dump_text unit horizon (net_traces circuit shown signal) }
+    ensures nets { (unit : TimeUnit) (horizon : ℕ) (circuit : Circuit) (nets : List ℕ) (signal : ℕ → ℕ → Value) →
+        streamed_text unit horizon circuit nets signal ≡ dump_text unit horizon (net_traces circuit nets signal) }
 {}

@@ -8,4 +8,4 @@ pub returns-clause-settles : goal.returns-clause-settles
 returns-clause-settles c = settles
 
 pub returns-clause-last : goal.returns-clause-last
-returns-clause-last c = changed_last
+returns-clause-last c kind values since none place within = changed_last kind values since place none within

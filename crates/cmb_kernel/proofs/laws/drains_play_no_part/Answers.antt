@@ -21,4 +21,5 @@ returns-clause-values c circuit ok last state sound actions allowed net process 
     λ at. (nothing_lost circuit ok last net process state actions sound allowed at).changes
 
 pub returns-clause-complete : goal.returns-clause-complete
-returns-clause-complete c circuit ok last actions run net process = all_given_out circuit ok last net process actions run.allowed run.complete
+returns-clause-complete c circuit last actions run net process =
+    all_given_out circuit run.well_formed last net process actions run.allowed run.complete

@@ -50,6 +50,11 @@ walk-requires-in_default-clause-read c =
 
 -- ---- what comes of it
 
+pub returns-in-empty-clause-news : goal.returns-in-empty-clause-news
+returns-in-empty-clause-news c =
+    news_tell_of_it c.args.net.now (seen_pins c.args.net.now.wires c.args.received.now) _ (none (goal.at.returns-in-empty-clause-news c).After-stimuli) c.walk.result c.args.span.from
+    c.args.wave.now _ c.walk.ensures.news
+
 pub returns-in-len1-clause-to : goal.returns-in-len1-clause-to
 returns-in-len1-clause-to c =
     goes_to c.args.net.now (seen_pins c.args.net.now.wires c.args.received.now) _ (one (goal.at.returns-in-len1-clause-to c).After-cursor) c.walk-in-len1.result c.args.span.from

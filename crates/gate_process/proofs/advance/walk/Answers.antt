@@ -3,6 +3,7 @@ use Rattle.std.proofs.lemmas.Bool.{cases_lt}
 use Rattle.logic3.specs.declared.value.Value.TheVariants.{Unknown}
 use Rattle.std.proofs.lemmas.Result.{IfOk-weaker}
 use Rattle.logic3.specs.Wave.{last_value, changes_between}
+use Rattle.logic3.proofs.CallerLemmas.{value_in_the_end-append}
 use Rattle.gate_process.specs.Knowledge.{news_of}
 use Rattle.gate_process.specs.Reading.{shown}
 use Rattle.gate_process.specs.Step.{continued, first_unknown}
@@ -58,14 +59,15 @@ pub loop-tick-preserved-in_ok-push-2 : goal.loop-tick-preserved-in_ok-push-2
 loop-tick-preserved-in_ok-push-2 c =
     let at = (goal.at.loop-tick-preserved-in_ok-push-2 c).After-look-look in
     let more = (goal.at.loop-tick-preserved-in_ok-push-2 c).After-waits in
-    let differs : c.look-look.result.value ≢ last_value c.loop-tick.wave = search rules in
+    let differs : c.look-look.result.value ≢ c.loop-tick.last = search rules in
     record {
       walked = walked_change (continued c.args.wave.now c.args.span.from (shown c.args.net.now c.args.read.now)) c.args.span.from c.args.most c.loop-tick.tick
           c.loop-tick.told c.args.wave.now c.loop-tick.wave c.loop-tick.messages.items c.look-look.result.until c.look-look.result.value _ _
-          c.loop-tick.invariant.walked c.look-look.ensures.later (omega (arith, c.look-look.ensures.within, c.limit_at.ensures.within)) (steady at) (shows at) differs
-          c.in_ok-push.ensures.ok c.in_ok-push-2.ensures.items;
+          c.loop-tick.invariant.walked c.look-look.ensures.later (omega (arith, c.look-look.ensures.within, c.limit_at.ensures.within)) (steady at) (shows at)
+          (λ same. differs (same ∙ sym c.loop-tick.invariant.last_is)) c.in_ok-push.ensures.ok c.in_ok-push-2.ensures.items;
       left = left at;
       count = c.look-look.ensures.length ∙ c.loop-tick.invariant.count;
+      last_is = sym (ap last_value c.in_ok-push.ensures.ok ∙ value_in_the_end-append c.loop-tick.wave.before c.loop-tick.wave.changes _);
       settled = settled more c.if-waits.false;
     }
 
@@ -73,13 +75,15 @@ pub loop-tick-preserved : goal.loop-tick-preserved
 loop-tick-preserved c =
     let at = (goal.at.loop-tick-preserved c).After-look-look in
     let more = (goal.at.loop-tick-preserved c).After-waits in
-    let same : c.look-look.result.value ≡ last_value c.loop-tick.wave = search rules in
+    let same : c.look-look.result.value ≡ c.loop-tick.last = search rules in
     record {
       walked = walked_same (continued c.args.wave.now c.args.span.from (shown c.args.net.now c.args.read.now)) c.args.span.from c.args.most c.loop-tick.tick
           c.loop-tick.told c.args.wave.now c.loop-tick.wave c.loop-tick.messages.items c.look-look.result.until c.look-look.result.value
-          c.loop-tick.invariant.walked c.look-look.ensures.later (omega (arith, c.look-look.ensures.within, c.limit_at.ensures.within)) (steady at) (shows at) same;
+          c.loop-tick.invariant.walked c.look-look.ensures.later (omega (arith, c.look-look.ensures.within, c.limit_at.ensures.within)) (steady at) (shows at)
+          (same ∙ c.loop-tick.invariant.last_is);
       left = left at;
       count = c.look-look.ensures.length ∙ c.loop-tick.invariant.count;
+      last_is = c.loop-tick.invariant.last_is;
       settled = settled more c.if-waits.false;
     }
 

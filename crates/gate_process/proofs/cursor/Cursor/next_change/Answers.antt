@@ -1,18 +1,19 @@
-use Rattle.std.proofs.Common.{sym, ◌∙◌, arith}
-use Rattle.gate_process.proofs.Passed.{first_tick-steady, no_first-steady, first_tick-later}
+use Rattle.std.proofs.Common.{◌≡◌, sym, ap, ◌∙◌, subst, arith}
+use Rattle.logic3.specs.Rising.{TicksRise}
+use Rattle.logic3.specs.Wave.{Wave}
+use Rattle.gate_process.specs.LaterChanges.{first_tick}
+use Rattle.gate_process.proofs.Passed.{steady_before_first, first_after}
 use Rattle.gate_process.proofs.cursor.Cursor.next_change.Goals as goal
 
-pub returns-in-Some-clause-later : goal.returns-in-Some-clause-later
-returns-in-Some-clause-later c = λ tick early after.
-    let late = first_tick-later c.args.self.now.changes c.in-Some.first tick after (sym c.first_change.ensures.tick ∙ c.in-Some.is) in
+pub returns-clause-later : goal.returns-clause-later
+returns-clause-later c = λ tick early after.
+    let next = c.self.invariant.1 ∙ ap (λ (wave : Wave). first_tick wave.changes) c.self.view_is in
+    let late = first_after c.args.self.now.changes tick after (omega arith) in
     let min = c.min.ensures in
-    omega (arith, early, late, min)
+    omega (arith, early, late, min, next)
 
-pub returns-in-Some-clause-steady : goal.returns-in-Some-clause-steady
-returns-in-Some-clause-steady c = λ t early.
-    first_tick-steady c.args.self.now.before c.args.self.now.changes c.in-Some.first t c.first_change.ensures.rise
-    (sym c.first_change.ensures.tick ∙ c.in-Some.is) (omega (arith, early, c.min.ensures))
-
-pub returns-in-None-clause-steady : goal.returns-in-None-clause-steady
-returns-in-None-clause-steady c = λ t early.
-    no_first-steady c.args.self.now.before c.args.self.now.changes t (sym c.first_change.ensures.tick ∙ c.in-None.is)
+pub returns-clause-steady : goal.returns-clause-steady
+returns-clause-steady c = λ t early.
+    let next = c.self.invariant.1 ∙ ap (λ (wave : Wave). first_tick wave.changes) c.self.view_is in
+    steady_before_first c.args.self.now.before c.args.self.now.changes t
+    (subst (λ (wave : Wave). TicksRise wave.changes) c.self.view_is c.self.invariant.0) (omega (arith, early, c.min.ensures, next))

@@ -11,12 +11,13 @@ seen : (result changes : List Change) (frontier wire later : ℕ) → result ≡
 seen result changes frontier wire later is same =
     (λ i. is i ++ unknown_from (Some (frontier + same i))) ∙ sym (delayed_with wire frontier changes)
 
-pub invariant_of-result : goal.invariant_of-result
-invariant_of-result c =
+pub before_all-requires : goal.before_all-requires
+before_all-requires c =
     subst TicksRise (sym (seen c.received.result c.args.changes.now c.args.frontier c.args.wire c.from.result c.received.ensures c.from.ensures))
     (delayed_rise c.args.wire (c.args.changes.now ++ unknown_from (Some c.args.frontier)) c.requires.rise)
 
 pub returns : goal.returns
 returns c =
-    ap (λ (changes : List Change). record { before = c.args.before; changes = changes })
+    c.before_all.ensures
+    ∙ ap (λ (changes : List Change). record { before = c.args.before; changes = changes })
     (seen c.received.result c.args.changes.now c.args.frontier c.args.wire c.from.result c.received.ensures c.from.ensures)

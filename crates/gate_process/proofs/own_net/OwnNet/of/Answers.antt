@@ -1,4 +1,5 @@
-use Rattle.std.proofs.Common.{option_map, ap}
+use Rattle.std.proofs.Common.{option_map, ap, sym, ◌∙◌}
+use Rattle.std.proofs.lemmas.Option.{same_Some}
 use Rattle.design.specs.Circuit.{Net, IsTimed}
 use Rattle.design.proofs.CallerLemmas.{All-slice_get, takes_its_pins}
 use Rattle.gate_process.specs.Truth.{net_at}
@@ -15,6 +16,9 @@ invariant_of-result c =
         arity = takes_its_pins c.args.design.now c.nets-nets.ensures.well_formed c.args.net _ _
             (ap (option_map (λ (net : Net). net.part)) there) (ap (option_map (λ (net : Net). net.pins)) there);
       },
+      same_Some c.part.result (net_at circuit c.args.net).part (sym c.part.ensures ∙ ap (option_map (λ (net : Net). net.part)) there),
+      same_Some c.delay.result (net_at circuit c.args.net).timing.delay
+          (sym c.delay.ensures ∙ ap (option_map (λ (net : Net). net.timing.delay)) there),
     )
 
 pub returns : goal.returns
