@@ -3,7 +3,7 @@
 A table is a text of cases with an empty line between them, and each line of a case begins with a word:
 
     # TEXT             a comment
-    file NAME LINE     a line of a file that the calls find, beside those in `cases/files/`
+    file NAME LINE     a line of a file that the calls find, beside those in `cases/files/` and `examples/`
     in LINE            a line of standard input
     $ ARGUMENTS        a call of nullsim; where a case has several, they have the same answer
     out LINE           a line of standard output; out-is FILE if it is the text of a file in `cases/`
@@ -22,7 +22,7 @@ from collections.abc import Callable, Iterator
 from dataclasses import dataclass, field
 from pathlib import Path
 
-from programs import ROOT, Ended, run
+from programs import EXAMPLES, ROOT, Ended, run
 
 TABLES = ROOT / "cases"
 FILES = TABLES / "files"
@@ -131,5 +131,6 @@ def cases(program: Path, folder: str) -> list[tuple[str, Callable[[], str | None
     """Each case with its check."""
     there = Path(folder, "cases")
     shutil.copytree(FILES, there)
+    shutil.copytree(EXAMPLES, there / "examples")
     return [(f"cases/{table.name}, {' '.join(case.calls[0]) or 'a deck'}", lambda it=(program, there, case): case_fault(*it))
             for table in sorted(TABLES.glob("*.cases")) for case in cases_in(table)]

@@ -60,6 +60,30 @@ def example_fault(program: Path, commands: str, shown: str | None, folder: str) 
     return None
 
 
+# The line of a help that has an example, and the line of the main help that has a command.
+HELP_EXAMPLE = re.compile(r"^Example: (nullsim .*)$", re.MULTILINE)
+HELP_COMMAND = re.compile(r"^  ([a-z]+)  ", re.MULTILINE)
+
+
+def help_of(program: Path, words: list[str]) -> str:
+    return run([program, *words, "--help"]).out.decode()
+
+
+def help_fault(program: Path, words: list[str], folder: str) -> str | None:
+    """What is wrong with the example in a help: there is one, and it ends with status 0."""
+    found = HELP_EXAMPLE.findall(help_of(program, words))
+    if len(found) != 1:
+        return f"the help has {len(found)} examples"
+    return example_fault(program, f"./{found[0]}\n", None, folder)
+
+
+def helps(program: Path, folder: str) -> list[tuple[str, Callable[[], str | None]]]:
+    """The example in the help of nullsim and of each command, with its check."""
+    commands = [name for name in HELP_COMMAND.findall(help_of(program, [])) if name != "help"]
+    return [(f"the example in nullsim {' '.join([*words, '--help'])}", lambda it=(program, words, folder): help_fault(*it))
+            for words in [[], *([name] for name in commands)]]
+
+
 def source_fault(source: Path, shown: str) -> str | None:
     """What is wrong with a part of a source that a page shows: its lines are in the file, in this order."""
     text, place = "\n" + source.read_text(encoding="utf-8"), 0
@@ -137,4 +161,4 @@ def cases(program: Path, folder: str) -> list[tuple[str, Callable[[], str | None
     shutil.copytree(EXAMPLES, there / "examples")
     for page in [ROOT / "README.md", *sorted((ROOT / "docs").glob("*.md")), EXAMPLES / "README.md"]:
         found += cases_of(program, page, str(there))
-    return found + prose.cases() + believe.cases()
+    return found + helps(program, str(there)) + prose.cases() + believe.cases()

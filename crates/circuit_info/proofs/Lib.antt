@@ -13,5 +13,7 @@ mod NamedLoops
 mod OnePass
 mod OneText
 mod PathLengths
+mod PathNets
+mod PathTexts
 mod Tops
 mod Ways

@@ -1,5 +1,5 @@
 -- The longest paths, where gates form no loop.
-use Rattle.std.proofs.Common.{◌≡◌, ℕ, zero, suc, ◌+◌, ◌*◌, ◌<◌, ◌≤◌, max, Bool, true, false, cond, if◌then◌else◌, IsTrue, List, [], ◌∷◌, length, get_or, set, take, map, Option, None, Some, option_map, slice_get, All, Contains, ◌⊎◌, inl, inr, ⊎_elim, refl, sym, ap, ◌∙◌, arith, add-one, length-set}
+use Rattle.std.proofs.Common.{◌≡◌, ℕ, zero, suc, ◌+◌, ◌*◌, ◌<◌, ◌≤◌, max, Bool, true, false, cond, if◌then◌else◌, IsTrue, List, [], ◌∷◌, length, get_or, set, take, map, Option, None, Some, option_map, slice_get, All, Contains, inl, inr, ⊎_elim, refl, sym, ap, ◌∙◌, arith, add-one, length-set}
 use Rattle.std.specs.List.{range_with_len}
 use Rattle.std.specs.Option.{option_map_or}
 use Rattle.std.proofs.lemmas.Bool.{cases_eq, cases_lt}
@@ -9,9 +9,9 @@ use Rattle.std.proofs.lemmas.List.FromFn.{get_or-map-range_with_len, length-map-
 use Rattle.std.proofs.lemmas.Option.{get_or_from_slice_get, slice_get-get_or, slice_get_within}
 use Rattle.netlist.specs.declared.part.Part.{Part}
 use Rattle.netlist.specs.declared.part.Part.TheVariants.{Input, Gate, Flop}
-use Rattle.netlist.specs.Netlist.{NetView, IsNetlist, most_nets, net_at}
+use Rattle.netlist.specs.Netlist.{NetView, most_nets, net_at}
 use Rattle.netlist.specs.Repeats.{times}
-use Rattle.netlist.specs.Flow.{is_gate_in, Feeds, FlowsTo, straight, through, FollowsFlow}
+use Rattle.netlist.specs.Flow.{is_gate_in, FlowsTo, straight, through, FollowsFlow}
 use Rattle.netlist.proofs.CallerLemmas.{contains_from_times, gate_within, no_net, pins_within, the_count}
 use Rattle.timing_text.specs.Ranges.{HasDelay}
 use Rattle.design.specs.Circuit.{Net, IsTimed}
@@ -77,7 +77,7 @@ module _ (design : DesignView) (formed : IsDesign design) where
       go (Some n) at = (All-slice_get IsTimed design.circuit net n formed.timed at).wires.most
 
   -- the net with a number, in the circuit and in the netlist
-  net_is : (net : ℕ) (n : Net) → slice_get design.circuit net ≡ Some n → net_at design.netlist net ≡ untimed n
+  pub net_is : (net : ℕ) (n : Net) → slice_get design.circuit net ≡ Some n → net_at design.netlist net ≡ untimed n
   net_is net n at =
       ap (λ nets. get_or nets net no_net) (sym formed.same_nets)
       ∙ get_or-map untimed design.circuit net n no_net (slice_get_within design.circuit net n at)

@@ -12,7 +12,7 @@ use Rattle.circuit_info.proofs.NamedLoops.{one_named_loop, IsGateLoop-named}
 not_before : (numbers : List ℕ) (place other : ℕ) → IsFirstGreatest numbers place → IsFirstGreatest numbers other → place < other → ⊥
 not_before numbers place other a b before = omega (arith, b.first place before, a.greatest other b.within)
 
-one_first_greatest : (numbers : List ℕ) (place other : ℕ) → IsFirstGreatest numbers place → IsFirstGreatest numbers other → place ≡ other
+pub one_first_greatest : (numbers : List ℕ) (place other : ℕ) → IsFirstGreatest numbers place → IsFirstGreatest numbers other → place ≡ other
 one_first_greatest numbers place other a b = ⊎_elim
     (λ same. same)
     (λ apart. absurd (⊎_elim

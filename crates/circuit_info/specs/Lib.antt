@@ -5,5 +5,6 @@ pub mod Levels
 pub mod Loops
 pub mod Known
 pub mod Text
-pub mod InfoText
 pub mod Paths
+pub mod PathText
+pub mod InfoText

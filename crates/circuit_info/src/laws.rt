@@ -5,7 +5,9 @@ ghost use Rattle.design.specs.Design.{DesignView, IsDesign};
 ghost use Rattle.circuit_info.specs.Levels.{IsGateLoop, IsLevelling};
 ghost use Rattle.circuit_info.specs.Loops.{HasLevel, IsNamedLoop};
 ghost use Rattle.circuit_info.specs.Paths.{longest_to, HasNoLoop, IsPath};
+ghost use Rattle.circuit_info.specs.PathText.{IsLongestPath};
 ghost use Rattle.circuit_info.specs.Text.{IsInfoText};
+ghost use Rattle.circuit_info.specs.InfoText.{IsInfoOf};
 
 /// A netlist has at most one assignment of levels: none if its gates form a loop, and one exactly if each net has a
 /// level.
@@ -25,16 +27,24 @@ pub fn one_named_loop()
     ensures without { (netlist : NetlistView) (nets : List ℕ) → IsNamedLoop netlist nets → ((net : ℕ) → HasLevel netlist net) → ⊥ }
 {}
 
-/// If gates form no loop, no path to a net takes more ticks than the longest one, and some path takes as many.
+/// If gates form no loop, no path to a net takes more ticks than the longest one, and some path takes as many: that
+/// of which the nets are printed, among others.
 pub fn longest_path()
     ensures most { (design : DesignView) (net ticks : ℕ) (path : List ℕ) →
         IsDesign design → HasNoLoop design.netlist → IsPath design net path ticks → ticks ≤ longest_to design net }
     ensures one { (design : DesignView) (net : ℕ) →
         IsDesign design → HasNoLoop design.netlist → (path : List ℕ) × IsPath design net path (longest_to design net) }
+    ensures nets { (design : DesignView) (net : ℕ) (path : List ℕ) →
+        IsDesign design → HasNoLoop design.netlist → IsLongestPath design net path → IsPath design net path (longest_to design net) }
 {}
 
 /// A netlist has at most one info text.
 pub fn one_info_text()
     ensures { (netlist : NetlistView) (unobserved text other : List ℕ) →
         IsInfoText netlist unobserved text → IsInfoText netlist unobserved other → text ≡ other }
+{}
+
+/// A design has at most one description.
+pub fn one_info()
+    ensures { (design : DesignView) (text other : List ℕ) → IsInfoOf design text → IsInfoOf design other → text ≡ other }
 {}

@@ -4,7 +4,7 @@ ghost use Rattle.std.specs.List.{range_with_len};
 ghost use Rattle.netlist.specs.Netlist.{most_nets};
 ghost use Rattle.design.specs.Design.{IsDesign};
 ghost use Rattle.circuit_info.specs.Levels.{level_at, pins_at, IsLevelling};
-ghost use Rattle.circuit_info.specs.Paths.{delay_at, last_seen, wires_at, AreLongest, HasLoop, HasNoLoop};
+ghost use Rattle.circuit_info.specs.Paths.{delay_at, last_seen, longest_to, wires_at, AreLongest, HasLoop, HasNoLoop};
 
 use crate::levels::{Depths, levels_of};
 use design::Design;
@@ -58,6 +58,17 @@ fn delays(alloc: Global, design: &Design) -> Result<Vec<u64>, AllocError>
     Ok(delays)
 }
 
+/// Returns how many ticks the longest path to the pins of a net takes, with the wire of its last pin, given the ticks of
+/// the longest path to each net. For a net without pins that is 0.
+pub fn ticks_to_pins(design: &Design, ticks: &[u64], net: u32) -> u64
+    requires formed { IsDesign design.now }
+    requires longest { AreLongest design.now ticks.now }
+    requires net { net < length design.now.netlist.nets }
+    ensures { result ≡ last_seen (longest_to design.now) (pins_at design.now.netlist net) (wires_at design.now net) }
+{
+    pin_ticks(design, ticks, net)
+}
+
 /// Returns how many ticks the longest path to a gate takes, given those of the nets at its pins.
 fn gate_ticks(design: &Design, ticks: &[u64], gate: u32) -> u64
     requires formed { IsDesign design.now }
@@ -67,8 +78,20 @@ fn gate_ticks(design: &Design, ticks: &[u64], gate: u32) -> u64
     ensures { result ≡ last_seen (λ net. slice_index_or ticks.now net 0)
         (pins_at design.now.netlist gate) (wires_at design.now gate) + delay_at design.now gate }
 {
-    let netlist = design.netlist();
-    last_seen(ticks, netlist.pins_of(gate), design.wires_of(gate)) + design.delay(gate)
+    pin_ticks(design, ticks, gate) + design.delay(gate)
+}
+
+/// Returns the last tick at which a pin of a net sees what its source shows at the tick given for it.
+fn pin_ticks(design: &Design, ticks: &[u64], net: u32) -> u64
+    requires formed { IsDesign design.now }
+    requires net { net < length design.now.netlist.nets }
+    requires size { length ticks.now ≡ length design.now.netlist.nets }
+    requires few { (net : ℕ) → slice_index_or ticks.now net 0 ≤ 2_000_000 * (most_nets + 1) }
+    ensures last { result ≡ last_seen (λ net. slice_index_or ticks.now net 0)
+        (pins_at design.now.netlist net) (wires_at design.now net) }
+    ensures few { result ≤ 2_000_000 * (most_nets + 1) + 1_000_000 }
+{
+    last_seen(ticks, design.netlist().pins_of(net), design.wires_of(net))
 }
 
 /// Returns the last tick at which one of these pins, each with its wire delay, sees what its source shows at the tick
@@ -83,10 +106,25 @@ fn last_seen(ticks: &[u64], pins: &[u32], wires: &[u32]) -> u64
 {
     let mut last = 0;
     for place in 0..pins.len() {
-        let seen = ticks[pins[place] as usize] + u64::from(wires[place]);
+        let seen = seen_at(ticks, pins, wires, place);
         if seen > last {
             last = seen;
         }
     }
     last
+}
+
+/// Returns the tick at which the pin at a place, with its wire delay, sees what its source shows at the tick given for
+/// it.
+pub(crate) fn seen_at(ticks: &[u64], pins: &[u32], wires: &[u32], place: usize) -> u64
+    requires pins { All (λ pin. pin < length ticks.now) pins.now }
+    requires wires { length wires.now ≡ length pins.now }
+    requires short { All (λ wire. wire ≤ 1_000_000) wires.now }
+    requires few { (net : ℕ) → slice_index_or ticks.now net 0 ≤ 2_000_000 * (most_nets + 1) }
+    requires place { place < length pins.now }
+    ensures seen { result ≡ slice_index_or ticks.now (slice_index_or pins.now place 0) 0
+        + slice_index_or wires.now place 0 }
+    ensures few { result ≤ 2_000_000 * (most_nets + 1) + 1_000_000 }
+{
+    ticks[pins[place] as usize] + u64::from(wires[place])
 }

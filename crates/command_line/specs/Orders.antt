@@ -21,6 +21,7 @@ options_on (Plain options view) First = Some options
 options_on (Draw options view) First = Some options
 options_on (Trace options horizon) First = Some options
 options_on (Why options net tick) First = Some options
+options_on (Info options) First = Some options
 options_on (Check options horizon) First = Some options
 options_on (Diff first second names ticks) First = Some first
 options_on (Diff first second names ticks) Second = Some second
@@ -30,7 +31,6 @@ options_on other side = None
 
 -- the file of a netlist that isn't run
 abbrev pub bench_alone : Order → Side → Option (Bor (List ℕ))
-bench_alone (Info bench) First = Some bench
 bench_alone (Cone bench names) First = Some bench
 bench_alone (Stimuli bench drives draws horizon) First = Some bench
 bench_alone other side = None
@@ -59,7 +59,7 @@ last_tick (Check options horizon) = Some horizon
 last_tick (Diff first second names ticks) = Some ticks.horizon
 last_tick (Twin first second net horizon) = Some horizon
 last_tick (Stimuli bench drives draws horizon) = Some horizon
-last_tick (Info bench) = None
+last_tick (Info options) = None
 last_tick (Cone bench names) = None
 
 abbrev pub names_shown : Selection → List (List ℕ)

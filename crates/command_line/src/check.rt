@@ -1,5 +1,5 @@
 //! The subcommand `check`: its options, and its order.
-use crate::help::subcommand_named;
+use crate::help::{ends, subcommand_named};
 use crate::options::{ALONE, LENGTH, SOURCE, number_given, source_given};
 use crate::order::Order;
 use crate::source_options::PickOptions;
@@ -12,6 +12,10 @@ const ABOUT: &str =
 
 const USAGE: &str = "nullsim check --bench <FILE> --horizon <N> [OPTIONS]";
 
+const ENDS: &str = ends!(
+    "nullsim check --bench examples/s27.bench --stimuli examples/s27.stimuli --horizon 35"
+);
+
 /// Returns the subcommand with its options.
 pub(super) fn subcommand<'a>(alloc: Global) -> Result<Command<'a>, AllocError> {
     subcommand_named(
@@ -19,6 +23,7 @@ pub(super) fn subcommand<'a>(alloc: Global) -> Result<Command<'a>, AllocError> {
         "check",
         ABOUT,
         USAGE,
+        ENDS,
         &[SOURCE.as_slice(), LENGTH.as_slice()],
     )
 }

@@ -1,6 +1,6 @@
 //! The subcommand `diff`: its options, and its order.
 use crate::described::{Absent, Described, Takes};
-use crate::help::subcommand_named;
+use crate::help::{ends, subcommand_named};
 use crate::options::{
     FIRST, FIRST_SIDE, LENGTH, SECOND, SECOND_SIDE, names_given, number_given, side_picks,
     source_given,
@@ -15,6 +15,10 @@ const ABOUT: &str =
      with the first tick at which it differs. The exit status is 5 unless all are the same";
 
 const USAGE: &str = "nullsim diff --first <FILE> --second <FILE> --horizon <N> [OPTIONS]";
+
+const ENDS: &str = ends!(
+    "nullsim diff --horizon 12 --net p --first examples/parity.bench --first-stimuli examples/parity.stimuli --second examples/bigger.bench --second-stimuli examples/bigger.stimuli"
+);
 
 const NET: &str = "The nets to compare, by their names in both circuits, such as y,q;\n\
      without this option the outputs of both";
@@ -36,6 +40,7 @@ pub(super) fn subcommand<'a>(alloc: Global) -> Result<Command<'a>, AllocError> {
         "diff",
         ABOUT,
         USAGE,
+        ENDS,
         &[
             LENGTH.as_slice(),
             OPTIONS.as_slice(),

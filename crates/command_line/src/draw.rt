@@ -1,6 +1,6 @@
 //! The subcommand `draw`: its options, and its order.
 use crate::described::{Absent, Described, Takes};
-use crate::help::subcommand_named;
+use crate::help::{ends, subcommand_named};
 use crate::options::{ALONE, LENGTH, SHOWN, SOURCE, number_given, selection_given, source_given};
 use crate::order::Order;
 use crate::source_options::PickOptions;
@@ -13,6 +13,10 @@ const ABOUT: &str =
     "Simulates a circuit and draws a timing diagram on standard output, as text or as SVG";
 
 const USAGE: &str = "nullsim draw --bench <FILE> --horizon <N> [OPTIONS]";
+
+const ENDS: &str = ends!(
+    "nullsim draw --bench examples/hazard.bench --stimuli examples/hazard.stimuli --horizon 8"
+);
 
 const FROM: &str = "The first tick to draw: 0 up to the horizon";
 
@@ -37,6 +41,7 @@ pub(super) fn subcommand<'a>(alloc: Global) -> Result<Command<'a>, AllocError> {
         "draw",
         ABOUT,
         USAGE,
+        ENDS,
         &[
             SOURCE.as_slice(),
             LENGTH.as_slice(),

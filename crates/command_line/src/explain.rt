@@ -1,6 +1,6 @@
 //! The subcommand `explain`: its argument, and what it asks for.
 use crate::described::{Absent, Described, Takes};
-use crate::help::{mistake, subcommand_named};
+use crate::help::{ends, mistake, subcommand_named};
 use crate::words::Asked;
 use clap::error::ErrorKind;
 use clap::{ArgMatches, Command, Error};
@@ -14,6 +14,8 @@ const ABOUT: &str =
 
 const USAGE: &str = "nullsim explain [NAME]";
 
+const ENDS: &str = ends!("nullsim explain NotRising");
+
 const NAME: &str =
     "The name of the fault, such as BadLine, in upper or lower case, or a line that ends with it";
 
@@ -23,7 +25,7 @@ static OPTIONS: [Described; 1] = [Described("name", Takes::Fault, Absent::Nothin
 
 /// Returns the subcommand with its argument.
 pub(super) fn subcommand<'a>(alloc: Global) -> Result<Command<'a>, AllocError> {
-    subcommand_named(alloc, "explain", ABOUT, USAGE, &[OPTIONS.as_slice()])
+    subcommand_named(alloc, "explain", ABOUT, USAGE, ENDS, &[OPTIONS.as_slice()])
 }
 
 /// Returns what it asks for.

@@ -9,19 +9,33 @@ const ABOUT: &str =
     "nullsim simulates a synchronous logic circuit at gate level and writes the values of its nets as\n\
      a value change dump (VCD, IEEE 1364-2005) for waveform viewers.\n\
      \n\
-     Without arguments it reads a deck (a whole run in one text) from standard input.";
+     Without arguments, or with --verbose alone, it reads a deck (a whole run in one text) from standard\n\
+     input.";
 
-const USAGE: &str = "nullsim <COMMAND> [OPTIONS]\n       nullsim < DECK\n       nullsim --version";
+const USAGE: &str =
+    "nullsim <COMMAND> [OPTIONS]\n       nullsim [--verbose] < DECK\n       nullsim --version";
 
-const ENDS: &str =
-    "Exit status: 0 done, 1 an input was refused, 2 wrong arguments, 3 reading or writing failed,\n\
-     4 out of memory, 5 diff found a difference. With 1, 3 and 4, standard error has one line\n\
-     WHERE:LINE: NAME, such as adder.bench:3: Undefined. LINE is 0 if no single line is at fault, as\n\
-     in adder.bench:0: Read for a file that can't be read. nullsim explain NAME explains the fault;\n\
-     with --verbose, the line at fault and the explanation follow on standard error. docs/FORMATS.md\n\
-     and docs/COMMANDS.md list the names.\n\
-     \n\
-     Example: nullsim run --bench adder.bench --stimuli adder.stimuli --horizon 500 > adder.vcd";
+/// Returns what follows the options in a help: this example, and how the program ends.
+macro_rules! ends {
+    ($example:literal) => {
+        concat!(
+            "Example: ",
+            $example,
+            "\n\nExit status: 0 done, 1 an input was refused, 2 wrong arguments, 3 reading or writing failed,\n\
+             4 out of memory, 5 diff found a difference. With 1, 3 and 4, standard error has one line\n\
+             WHERE:LINE: NAME, such as adder.bench:3: Undefined. LINE is 0 if no single line is at fault, as\n\
+             in adder.bench:0: Read for a file that can't be read. nullsim explain NAME explains the fault;\n\
+             with --verbose, the line at fault and the explanation follow on standard error. docs/FORMATS.md\n\
+             and docs/COMMANDS.md list the names.",
+        )
+    };
+}
+
+pub(crate) use ends;
+
+const ENDS: &str = ends!(
+    "nullsim run --bench examples/hazard.bench --stimuli examples/hazard.stimuli --horizon 8 > hazard.vcd"
+);
 
 const VERBOSE: &str = "Explain a fault in full; after a run, add notes on it";
 
@@ -81,17 +95,18 @@ pub(super) fn mistake(alloc: Global, kind: ErrorKind, text: &str) -> Result<Erro
     program(alloc)?.error(kind, text)
 }
 
-/// Returns a subcommand with the options of some tables.
+/// Returns a subcommand with the options of some tables, and with what follows them in its help.
 pub(super) fn subcommand_named<'a>(
     alloc: Global,
     name: &'static str,
     about: &'static str,
     usage: &'static str,
+    ends: &'static str,
     options: &[&'static [Described]],
 ) -> Result<Command<'a>, AllocError> {
     let command = Command::new(alloc, name)
         .about(about)
         .override_usage(usage)
-        .after_help(ENDS);
+        .after_help(ends);
     with_tables(alloc, command, options)
 }

@@ -1,6 +1,9 @@
 //! Tips for wrong arguments that other tools would accept.
 use std::alloc::{AllocError, Global};
 
+/// What begins `clap`'s suggestion of a near word.
+const SUGGESTED: &str = "\n  tip: a similar ";
+
 /// What to write in place of wrong arguments.
 #[derive(Clone, Copy, Debug)]
 enum Tip<'w> {
@@ -59,19 +62,22 @@ static OPTIONS: [(&str, &str); 3] = [
 ];
 
 /// The options of one command alone.
-static ELSEWHERE: [(&str, &str); 6] = [
+static ELSEWHERE: [(&str, &str); 8] = [
     ("counts", "run"),
     ("clock", "stimuli"),
     ("hold", "stimuli"),
     ("pulse", "stimuli"),
     ("at", "why"),
     ("step", "draw"),
+    ("svg", "draw"),
+    ("to", "draw"),
 ];
 
 /// The units that ticks don't have.
 static UNITS: [&str; 6] = ["fs", "ps", "ns", "us", "ms", "s"];
 
-/// Returns the text of a usage error, followed by a tip for the arguments, if any.
+/// Returns the text of a usage error, followed by a tip for the arguments, if any, unless `clap` has suggested a
+/// near word.
 ///
 /// # Errors
 /// An allocation failed.
@@ -81,6 +87,9 @@ pub(super) fn with_tip(
     words: &[String],
 ) -> Result<String, AllocError> {
     let mut text = text;
+    if text.as_str().contains(SUGGESTED) {
+        return Ok(text);
+    }
     if let Some(tip) = tip_for(words) {
         text.push_str("\n  tip: ")?;
         add_tip(&mut text, tip)?;

@@ -2,6 +2,7 @@
 //! arguments give; tests do.
 #![tactic(auto)]
 
+mod chance;
 mod check;
 mod cone;
 mod described;

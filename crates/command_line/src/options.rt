@@ -49,14 +49,15 @@ pub(super) static SECOND: OptionNames = OptionNames {
 pub(super) const BENCH: &str = "The circuit, in ISCAS-89 .bench notation: lines such as INPUT(a),\n\
      OUTPUT(y), y = NAND(a, q), q = DFF(y)";
 
-const DELAYS: &str = "The timing of particular gates and flip-flops: lines NAME TICKS, such\n\
+pub(super) const DELAYS: &str =
+    "The timing of particular gates and flip-flops: lines NAME TICKS, such\n\
      as y 3; or the line timing version 2, followed by lines such as\n\
      delay y 3, wire y 1 2, clock q 4 1 and init q 0";
 
 const STIMULI: &str = "What drives the inputs: lines TICK NAME VALUE, such as 40 a 1, where\n\
      VALUE is 0, 1 or x; an input is x before its first line";
 
-const DELAY: &str = "The delay of all other gates and flip-flops: 1 to 1000000 ticks";
+pub(super) const DELAY: &str = "The delay of all other gates and flip-flops: 1 to 1000000 ticks";
 
 const PERIOD: &str = "The period of all flip-flops without a clock line; they sample their\n\
      data at its multiples: 1 to 10000000 ticks";

@@ -53,9 +53,9 @@ pub enum Order<'a> {
         /// The last tick of the text: at most 10,000,000.
         horizon: u64,
     },
-    /// Write the description of a circuit in numbers and names.
+    /// Write the description of a circuit in numbers and names. No events are picked.
     Info {
-        bench: &'a str,
+        source: SourceOptions<'a>,
     },
     /// Write the nets in the fan-in cones of these names, in the .bench notation.
     Cone {
@@ -98,6 +98,7 @@ impl<'a> Order<'a> {
                 | Order::Draw { source, .. }
                 | Order::Trace { source, .. }
                 | Order::Why { source, .. }
+                | Order::Info { source }
                 | Order::Check { source, .. },
                 Side::First,
             ) => Some(*source),
@@ -164,10 +165,7 @@ impl<'a> Order<'a> {
         ensures { result ≡ bench_alone self.now side }
     {
         match (self, side) {
-            (
-                Order::Info { bench } | Order::Cone { bench, .. } | Order::Stimuli { bench, .. },
-                Side::First,
-            ) => Some(bench),
+            (Order::Cone { bench, .. } | Order::Stimuli { bench, .. }, Side::First) => Some(bench),
             _ => None,
         }
     }

@@ -1,5 +1,5 @@
 //! The subcommand `plain`: its options, and its order.
-use crate::help::subcommand_named;
+use crate::help::{ends, subcommand_named};
 use crate::options::{ALONE, LENGTH, REPORTED, SHOWN, SOURCE, UNITS, source_given, view_given};
 use crate::order::Order;
 use crate::source_options::PickOptions;
@@ -10,6 +10,10 @@ const ABOUT: &str = "Simulates a circuit tick by tick and writes the dump to sta
 
 const USAGE: &str = "nullsim plain --bench <FILE> --horizon <N> [OPTIONS]";
 
+const ENDS: &str = ends!(
+    "nullsim plain --bench examples/hazard.bench --stimuli examples/hazard.stimuli --horizon 8"
+);
+
 /// Returns the subcommand with its options.
 pub(super) fn subcommand<'a>(alloc: Global) -> Result<Command<'a>, AllocError> {
     subcommand_named(
@@ -17,6 +21,7 @@ pub(super) fn subcommand<'a>(alloc: Global) -> Result<Command<'a>, AllocError> {
         "plain",
         ABOUT,
         USAGE,
+        ENDS,
         &[
             SOURCE.as_slice(),
             LENGTH.as_slice(),

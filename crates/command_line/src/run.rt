@@ -1,6 +1,6 @@
 //! The subcommand `run`: its options, and its order.
 use crate::described::{Absent, Described, Takes};
-use crate::help::subcommand_named;
+use crate::help::{ends, subcommand_named};
 use crate::options::{ALONE, LENGTH, REPORTED, SHOWN, SOURCE, UNITS, source_given, view_given};
 use crate::order::Order;
 use crate::picks::{PICKED, picks_given};
@@ -11,6 +11,10 @@ const ABOUT: &str =
     "Simulates a circuit by processes that exchange messages, and writes the dump to standard output";
 
 const USAGE: &str = "nullsim run --bench <FILE> --horizon <N> [OPTIONS]";
+
+const ENDS: &str = ends!(
+    "nullsim run --bench examples/hazard.bench --stimuli examples/hazard.stimuli --horizon 8"
+);
 
 const COUNTS: &str = "Also write the line events E changes C nulls N rounds R to standard\n\
      error";
@@ -25,6 +29,7 @@ pub(super) fn subcommand<'a>(alloc: Global) -> Result<Command<'a>, AllocError> {
         "run",
         ABOUT,
         USAGE,
+        ENDS,
         &[
             SOURCE.as_slice(),
             LENGTH.as_slice(),

@@ -1,7 +1,7 @@
 //! The subcommand `stimuli`: its options, and its order.
 use crate::described::{Absent, Described, Takes};
 use crate::drives::{DRIVES, drives_given};
-use crate::help::subcommand_named;
+use crate::help::{ends, subcommand_named};
 use crate::options::{BENCH, LENGTH, number_given};
 use crate::order::Order;
 use clap::{ArgMatches, Command, Error};
@@ -13,6 +13,10 @@ const ABOUT: &str =
      (pseudo-random) values for all other inputs";
 
 const USAGE: &str = "nullsim stimuli --bench <FILE> --horizon <N> [OPTIONS]";
+
+const ENDS: &str = ends!(
+    "nullsim stimuli --bench examples/gated.bench --horizon 12 --clock clk=3 --pulse en=4..10"
+);
 
 const EVERY: &str = "The number of ticks between drawn values: at least 1";
 
@@ -32,6 +36,7 @@ pub(super) fn subcommand<'a>(alloc: Global) -> Result<Command<'a>, AllocError> {
         "stimuli",
         ABOUT,
         USAGE,
+        ENDS,
         &[
             CIRCUIT.as_slice(),
             LENGTH.as_slice(),

@@ -1,5 +1,5 @@
 //! The subcommand `trace`: its options, and its order.
-use crate::help::subcommand_named;
+use crate::help::{ends, subcommand_named};
 use crate::options::{ALONE, LENGTH, SOURCE, number_given, source_given};
 use crate::order::Order;
 use crate::picks::{PICKED, picks_given};
@@ -12,6 +12,10 @@ const ABOUT: &str =
 
 const USAGE: &str = "nullsim trace --bench <FILE> --horizon <N> [OPTIONS]";
 
+const ENDS: &str = ends!(
+    "nullsim trace --bench examples/hazard.bench --stimuli examples/hazard.stimuli --horizon 2"
+);
+
 /// Returns the subcommand with its options.
 pub(super) fn subcommand<'a>(alloc: Global) -> Result<Command<'a>, AllocError> {
     subcommand_named(
@@ -19,6 +23,7 @@ pub(super) fn subcommand<'a>(alloc: Global) -> Result<Command<'a>, AllocError> {
         "trace",
         ABOUT,
         USAGE,
+        ENDS,
         &[SOURCE.as_slice(), LENGTH.as_slice(), PICKED.as_slice()],
     )
 }

@@ -1,6 +1,6 @@
 //! The subcommand `twin`: its options, and its order.
 use crate::described::{Absent, Described, Takes};
-use crate::help::subcommand_named;
+use crate::help::{ends, subcommand_named};
 use crate::options::{
     FIRST, FIRST_SIDE, LENGTH, SECOND, SECOND_SIDE, number_given, side_picks, source_given,
 };
@@ -15,6 +15,10 @@ const ABOUT: &str =
 const USAGE: &str =
     "nullsim twin --first <FILE> --second <FILE> --net <NAME> --horizon <N> [OPTIONS]";
 
+const ENDS: &str = ends!(
+    "nullsim twin --horizon 12 --net p --first examples/parity.bench --first-stimuli examples/parity.stimuli --second examples/bigger.bench --second-stimuli examples/bigger.stimuli"
+);
+
 const NET: &str = "The net to compare, by its name in both circuits";
 
 static OPTIONS: [Described; 1] = [Described("net", Takes::Net, Absent::Refused, NET)];
@@ -26,6 +30,7 @@ pub(super) fn subcommand<'a>(alloc: Global) -> Result<Command<'a>, AllocError> {
         "twin",
         ABOUT,
         USAGE,
+        ENDS,
         &[
             OPTIONS.as_slice(),
             LENGTH.as_slice(),

@@ -1,6 +1,6 @@
 //! The subcommand `why`: its options, and its order.
 use crate::described::{Absent, Described, Takes};
-use crate::help::subcommand_named;
+use crate::help::{ends, subcommand_named};
 use crate::options::{ALONE, SOURCE, number_given, source_given};
 use crate::order::Order;
 use crate::source_options::PickOptions;
@@ -12,6 +12,10 @@ const ABOUT: &str =
      that decide, down to a cause that has no other";
 
 const USAGE: &str = "nullsim why --bench <FILE> --net <NAME> --at <TICK> [OPTIONS]";
+
+const ENDS: &str = ends!(
+    "nullsim why --bench examples/hazard.bench --stimuli examples/hazard.stimuli --net y --at 7"
+);
 
 const NET: &str = "The net, by name";
 
@@ -29,6 +33,7 @@ pub(super) fn subcommand<'a>(alloc: Global) -> Result<Command<'a>, AllocError> {
         "why",
         ABOUT,
         USAGE,
+        ENDS,
         &[SOURCE.as_slice(), OPTIONS.as_slice()],
     )
 }

@@ -2,13 +2,14 @@
 ghost use Rattle.std.specs.Prelude.{◌≡◌, IfErr};
 ghost use Rattle.command_line.specs.Words.{HelpsIfAsked, asks_for_help};
 
+use crate::chance::without_chance;
 use crate::help::{mistake, program};
 use crate::hints::with_tip;
 use crate::order::Order;
 use crate::{check, cone, diff, draw, explain, info, plain, run, stimuli, trace, twin, why};
 use clap::error::ErrorKind;
 use clap::{ArgMatches, Error};
-use std::alloc::Global;
+use std::alloc::{AllocError, Global};
 
 /// What arguments ask for.
 #[derive(Debug, Drop)]
@@ -67,14 +68,19 @@ fn no_order(alloc: Global, error: &Error, words: &[String]) -> NoOrder
     }
 }
 
-/// Returns the usage error with this text and a tip, if any.
+/// Returns the usage error with this text, without a tip of chance, and with a tip, if any.
 fn usage_error(alloc: Global, text: String, words: &[String]) -> NoOrder
     ensures { HelpsIfAsked words.now result }
 {
-    match with_tip(alloc, text, words) {
+    match usage_text(alloc, text, words) {
         Ok(text) => NoOrder::Usage(text),
         Err(_) => NoOrder::Memory,
     }
+}
+
+fn usage_text(alloc: Global, text: String, words: &[String]) -> Result<String, AllocError> {
+    let text = without_chance(alloc, text)?;
+    with_tip(alloc, text, words)
 }
 
 fn asks_for_help(words: &[String]) -> bool

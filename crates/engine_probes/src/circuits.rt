@@ -1,7 +1,7 @@
 //! The numbers of a circuit, and its unobserved nets.
 use crate::telling::Teller;
 use bench_text::read;
-use circuit_info::{Depths, fan_ins, fan_outs, levels_of, longest_paths};
+use circuit_info::{Depths, fan_ins, fan_outs, info, levels_of, longest_paths, path_text};
 use design::Design;
 use fanin_cone::outside;
 use netlist::{Netlist, gate_order};
@@ -95,5 +95,14 @@ fn paths<W: Write>(alloc: Global, teller: &mut Teller<W>) -> Option<()> {
         Some(ticks) => ticks.as_slice() == wanted.as_slice(),
         None => false,
     };
-    teller.fine("longest_paths", holds)
+    teller.fine("longest_paths", holds)?;
+    described(alloc, teller, &design)
+}
+
+fn described<W: Write>(alloc: Global, teller: &mut Teller<W>, design: &Design) -> Option<()> {
+    let line = b"longest-path-to-output 6 a b c d e f g\n".as_slice();
+    let text = teller.told("path_text", path_text(alloc, design))?;
+    teller.fine("path_text", text.as_slice() == line)?;
+    let text = teller.told("circuit_info::info", info(alloc, design))?;
+    teller.fine("circuit_info::info", text.as_slice().ends_with(line))
 }

@@ -3,3 +3,4 @@ mod Edits
 mod Left
 mod LineFronts
 mod LineTokens
+mod WholeLines

@@ -3,32 +3,17 @@
 use Rattle.std.specs.Prelude.{ℕ, ◌==◌, if◌then◌else◌, List, [], ◌++◌, flat_map, codes, decimal, option_and_then, Option, None, Some}
 use Rattle.explanations.specs.declared.explanation.Explanation.{Explanation}
 use Rattle.explanations.specs.declared.subject.Subject.{Subject}
-use Rattle.explanations.specs.declared.subject.Subject.TheVariants.{Bench, Delays, Stimuli, Schedule, Deck, Settings, Columns, Drives, Ticks, Names, Program}
 use Rattle.explanations.specs.declared.table.Table.{Table}
 use Rattle.explanations.specs.AtFault.{at_fault, word_told}
-use Rattle.explanations.specs.Excerpt.{excerpt, line_at}
+use Rattle.explanations.specs.Corrected.{corrected}
+use Rattle.explanations.specs.Excerpt.{excerpt, line_at, unless_empty}
 use Rattle.explanations.specs.Foreign.{foreign_text}
 use Rattle.explanations.specs.OtherParts.{part_at_fault}
 use Rattle.explanations.specs.Places.{misplaced}
 use Rattle.explanations.specs.Suggestion.{suggestion}
-use Rattle.texts.specs.Text.{is_empty}
-use Rattle.explanations.specs.Explained.{is_called, meaning_line, title_of, wanted_line}
+use Rattle.explanations.specs.Explained.{is_called, meaning_line, subject_number, title_of, wanted_line}
 
 -- ---- what it means
-
--- subjects by number
-abbrev pub subject_number : Subject → ℕ
-subject_number Bench = 0
-subject_number Delays = 1
-subject_number Stimuli = 2
-subject_number Schedule = 3
-subject_number Deck = 4
-subject_number Settings = 5
-subject_number Columns = 6
-subject_number Drives = 7
-subject_number Ticks = 8
-subject_number Names = 9
-subject_number Program = 10
 
 abbrev pub hint_of : Subject → Explanation → List ℕ
 hint_of subject one = meaning_line (title_of subject) one ++ wanted_line one
@@ -63,15 +48,17 @@ pub record FaultView : Type 0 where
   pub reason : Option (List ℕ)
   pub circuit : Option (List ℕ)
 
--- a text, or another one if it is empty
-abbrev pub unless_empty : List ℕ → List ℕ → List ℕ
-unless_empty text other = if is_empty text then other else text
+-- a corrected line, or a near name
+abbrev pub corrected_or_name : FaultView → List ℕ
+corrected_or_name fault =
+    unless_empty (corrected fault.subject fault.name fault.line fault.text fault.circuit)
+    (suggestion fault.subject fault.name fault.line fault.text fault.word fault.circuit)
 
--- what stands for a part that there isn't, or a near name
+-- what to write instead of a part that there isn't, or else one of these
 abbrev pub part_or_name : FaultView → List ℕ
 part_or_name fault =
     unless_empty (part_at_fault fault.subject fault.name (option_and_then (line_at fault.line) fault.text))
-    (suggestion fault.subject fault.name fault.line fault.text fault.word fault.circuit)
+    (corrected_or_name fault)
 
 -- what is known of this fault: the place at which its line stops having a form, and what may have been meant
 abbrev pub sharper : FaultView → List ℕ
@@ -93,7 +80,7 @@ told_of_own_kind tables fault =
 -- the message about a text of another kind, if it looks to be of one
 abbrev pub told_of_kind : List Table → FaultView → List ℕ
 told_of_kind tables fault =
-    unless_empty (foreign_text fault.subject fault.name fault.line fault.text) (told_of_own_kind tables fault)
+    unless_empty (foreign_text fault.subject fault.name fault.line fault.text fault.circuit) (told_of_own_kind tables fault)
 
 -- the whole message
 abbrev pub told_at_hand : List Table → FaultView → List ℕ

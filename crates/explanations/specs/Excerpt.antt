@@ -1,6 +1,6 @@
 -- Lines of a text, as they are shown.
 use Rattle.std.specs.Prelude.{ℕ, ◌-◌, ◌==◌, ◌||◌, ◌&&◌, nat_lt, if◌then◌else◌, List, [], ◌++◌, map, take, length, slice_get, codes, decimal, Option, None, Some}
-use Rattle.texts.specs.Text.{lines_of}
+use Rattle.texts.specs.Text.{is_empty, lines_of}
 
 -- the line of a text by its number, from 1
 abbrev pub line_at : ℕ → List ℕ → Option (List ℕ)
@@ -25,3 +25,7 @@ line_told said number (Some line) = codes "line " ++ decimal number ++ said ++ s
 
 abbrev pub excerpt : ℕ → Option (List ℕ) → List ℕ
 excerpt number line = line_told (codes ": ") number line
+
+-- a text, or another one if it is empty
+abbrev pub unless_empty : List ℕ → List ℕ → List ℕ
+unless_empty text other = if is_empty text then other else text

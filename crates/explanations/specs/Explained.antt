@@ -8,6 +8,20 @@ use Rattle.explanations.specs.declared.subject.Subject.{Subject}
 use Rattle.explanations.specs.declared.table.Table.{Table}
 use Rattle.explanations.specs.declared.subject.Subject.TheVariants.{Bench, Delays, Stimuli, Schedule, Deck, Settings, Columns, Drives, Ticks, Names, Program}
 
+-- subjects by number
+abbrev pub subject_number : Subject → ℕ
+subject_number Bench = 0
+subject_number Delays = 1
+subject_number Stimuli = 2
+subject_number Schedule = 3
+subject_number Deck = 4
+subject_number Settings = 5
+subject_number Columns = 6
+subject_number Drives = 7
+subject_number Ticks = 8
+subject_number Names = 9
+subject_number Program = 10
+
 -- the title of a subject
 abbrev pub title_of : Subject → List ℕ
 title_of Bench = codes ".bench text"

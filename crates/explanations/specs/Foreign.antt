@@ -6,10 +6,11 @@ use Rattle.texts.specs.Text.{code_of, is_white, number_of}
 use Rattle.explanations.specs.declared.foreign.Foreign.{Foreign}
 use Rattle.explanations.specs.declared.foreign.Foreign.TheVariants.{Utf8Mark, Utf16Little, Utf16Big, Gzip, Verilog, Blif, Aiger, Edif, Dump, Comment}
 use Rattle.explanations.specs.declared.subject.Subject.{Subject}
-use Rattle.explanations.specs.declared.subject.Subject.TheVariants.{Bench, Delays, Stimuli, Schedule}
+use Rattle.explanations.specs.declared.subject.Subject.TheVariants.{Bench}
 use Rattle.explanations.specs.AtFault.{is_among, word_at}
 use Rattle.explanations.specs.Excerpt.{line_at, shown_line}
 use Rattle.explanations.specs.Explained.{title_of}
+use Rattle.explanations.specs.OtherTexts.{form_of, other_text_line}
 
 abbrev pub begins_with : List ℕ → List ℕ → Bool
 begins_with text beginning = bytes_eq beginning (take (length beginning) text)
@@ -104,14 +105,6 @@ foreign_kind subject text code = option_or (by_first_bytes text) (by_line subjec
 abbrev pub first_column : List ℕ → ℕ
 first_column code = prefix_len is_white code + 1
 
--- what is written instead
-abbrev pub form_of : Subject → List ℕ
-form_of Bench = codes "write a gate as y = NAND(a, b), an input as INPUT(a)\n"
-form_of Delays = codes "write a delay as NAME TICKS, such as y 3\n"
-form_of Stimuli = codes "write a stimulus as TICK NAME VALUE, such as 10 a 1\n"
-form_of Schedule = codes "write a step as advance NAME or deliver NAME PLACE\n"
-form_of other = codes "begin with %nullsim and the horizon, such as %nullsim 20\n"
-
 -- what its first word begins
 abbrev pub begun_by : Foreign → List ℕ
 begun_by Verilog = codes "a line of Verilog"
@@ -150,16 +143,18 @@ foreign_told Comment subject first code = comment_line (comment_mark first) code
 foreign_told kind subject first code = language_told kind subject first code
 
 -- of a text in whose line a fault was found
-abbrev pub foreign_line : Subject → List ℕ → List ℕ → List ℕ
-foreign_line subject text code =
-    option_map_or (λ kind. foreign_told kind subject (unwrap_or (word_at 0 code) []) code) (foreign_kind subject text code) []
+abbrev pub foreign_line : Subject → List ℕ → Option (List ℕ) → List ℕ → List ℕ
+foreign_line subject text circuit code =
+    option_map_or (λ kind. foreign_told kind subject (unwrap_or (word_at 0 code) []) code)
+    (foreign_kind subject text code) (other_text_line subject circuit code)
 
 -- the faults of a text that may be of another kind
 abbrev pub may_be_foreign : List (List ℕ)
 may_be_foreign = codes "BadByte" ∷ codes "BadLine" ∷ codes "BadDeck" ∷ []
 
 -- of the line with a number, if the fault is one of these, and the text is known and has the line
-unfoldable pub foreign_text : Subject → List ℕ → ℕ → Option (List ℕ) → List ℕ
-foreign_text subject name number None = []
-foreign_text subject name number (Some text) =
-    if is_among may_be_foreign name then option_map_or (λ line. foreign_line subject text (code_of line)) (line_at number text) [] else []
+unfoldable pub foreign_text : Subject → List ℕ → ℕ → Option (List ℕ) → Option (List ℕ) → List ℕ
+foreign_text subject name number None circuit = []
+foreign_text subject name number (Some text) circuit =
+    if is_among may_be_foreign name then option_map_or (λ line. foreign_line subject text circuit (code_of line)) (line_at number text) []
+    else []

@@ -3,6 +3,7 @@ pub mod AtHand
 pub mod Excerpt
 pub mod Foreign
 pub mod OtherParts
+pub mod OtherTexts
 pub mod Explained
 pub mod Forms
 pub mod Fronts
@@ -10,6 +11,15 @@ pub mod Places
 pub mod Seen
 pub mod SeenForms
 pub mod Tokens
+pub mod Missing
 pub mod Near
+pub mod Nets
 pub mod Suggestion
 pub mod UnknownFault
+pub mod BenchCorrections
+pub mod BenchLists
+pub mod BenchStatements
+pub mod Corrected
+pub mod Corrections
+pub mod SeenCorrections
+pub mod TimingCorrections

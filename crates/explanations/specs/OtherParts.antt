@@ -77,7 +77,7 @@ other_part name code =
     else if bytes_eq name (codes "BadArity") then clock_pin code
     else None
 
--- ---- what stands for it
+-- ---- what to write instead
 
 abbrev pub stimulus_text : List ℕ → List ℕ → List ℕ
 stimulus_text net value =
@@ -86,7 +86,7 @@ stimulus_text net value =
 abbrev pub input_text : List ℕ → List ℕ
 input_text net = codes "an input stands for one: INPUT(" ++ shown_line net
 
--- the input that stands for a constant, with its stimulus
+-- the input to write instead of a constant, with its stimulus
 abbrev pub constant_text : List ℕ → List ℕ → List ℕ
 constant_text net value = codes "there are no constants\n" ++ input_text net ++ stimulus_text net value
 

@@ -1,32 +1,18 @@
--- The suggestion after what is known of a fault: the only name near to the one at fault, if there is one.
-use Rattle.std.specs.Prelude.{ℕ, ◌&&◌, not, Bool, if◌then◌else◌, List, [], ◌∷◌, ◌++◌, drop, flat_map, length, map, take, bytes_eq, codes, decimal, option_and_then, option_map, Option, None, Some}
+-- The suggestion after what is known of a fault: what a name that no line defines may mean, or the only name near to the one at fault.
+use Rattle.std.specs.Prelude.{ℕ, ◌&&◌, not, Bool, if◌then◌else◌, List, [], ◌∷◌, ◌++◌, drop, length, map, take, bytes_eq, codes, option_and_then, option_map, Option, None, Some}
 use Rattle.std.specs.List.{find}
-use Rattle.std.specs.Option.{option_map_or, option_to_list}
+use Rattle.std.specs.Option.{option_map_or}
 use Rattle.std.specs.Str.{all_ascii_digits, str_eq_ignore_ascii_case}
 use Rattle.std.specs.Char.{to_ascii_uppercase}
 use Rattle.explanations.specs.declared.subject.Subject.{Subject}
-use Rattle.explanations.specs.AtFault.{defined_by, defines, nth_name, number_or_none, quoted_told, topic_of, undefined_in}
+use Rattle.explanations.specs.AtFault.{nth_name, topic_of, undefined_in}
 use Rattle.explanations.specs.Excerpt.{line_at}
+use Rattle.explanations.specs.Missing.{missing_told}
 use Rattle.explanations.specs.Near.{near_among}
-use Rattle.texts.specs.Text.{code_lines, code_of, is_empty}
+use Rattle.explanations.specs.Nets.{defined_told, nets_in}
+use Rattle.texts.specs.Text.{code_of, is_empty}
 
 -- ---- a net
-
--- the net that a line defines, if any
-abbrev pub net_of_line : ℕ × List ℕ → List (List ℕ)
-net_of_line line = option_to_list (defined_by line.1)
-
--- the nets that the lines of a text define, in their order
-abbrev pub nets_in : List ℕ → List (List ℕ)
-nets_in text = flat_map net_of_line (code_lines text)
-
--- the number of the first line that defines the net, or 0
-abbrev pub line_of_net : List ℕ → List ℕ → ℕ
-line_of_net net text = number_or_none (find (defines net) (code_lines text))
-
--- where the net is defined, with the text that is meant
-abbrev pub defined_told : List ℕ → List ℕ → List ℕ → List ℕ
-defined_told place text net = quoted_told (codes "line " ++ decimal (line_of_net net text) ++ place ++ codes " defines ") net
 
 -- the net that is near to a name
 abbrev pub near_net_told : List ℕ → List ℕ → List ℕ → List ℕ
@@ -66,9 +52,14 @@ gate_told word =
 
 -- ---- by the fault
 
+-- for a name that no line of a text defines: what it may mean, or else the net that is near to it
+abbrev pub for_missing : List ℕ → List ℕ → List ℕ
+for_missing text name =
+    if is_empty (missing_told text name) then near_net_told [] name text else missing_told text name
+
 -- for a line without its comment, in a text
 abbrev pub for_undefined_in : List ℕ → List ℕ → List ℕ
-for_undefined_in text code = option_map_or (λ name. near_net_told [] name text) (undefined_in code text) []
+for_undefined_in text code = option_map_or (for_missing text) (undefined_in code text) []
 
 abbrev pub for_gate_in : List ℕ → List ℕ
 for_gate_in code = option_map_or gate_told (nth_name 1 code) []

@@ -1,10 +1,11 @@
 //! The message about a fault that occurred.
 ghost use Rattle.std.specs.Prelude.{◌≡◌, ◌++◌, flat_map, option_and_then, option_map, string_bytes, IfOk, OnOk};
-ghost use Rattle.explanations.specs.AtHand.{hint_if_called, hint_of, hints_in, number_line, part_or_name, sharper, sharper_or_hints, told_at_hand, told_of_kind, told_of_own_kind};
+ghost use Rattle.explanations.specs.AtHand.{corrected_or_name, hint_if_called, hint_of, hints_in, number_line, part_or_name, sharper, sharper_or_hints, told_at_hand, told_of_kind, told_of_own_kind};
 ghost use Rattle.explanations.specs.Excerpt.{line_at};
 ghost use Rattle.explanations.specs.Seen.{seen_fault};
 
 use crate::at_fault::{push_at_fault, push_word};
+use crate::corrections::corrected;
 use crate::excerpt::{line_at, push_excerpt};
 use crate::explanation::Explanation;
 use crate::foreign::foreign_text;
@@ -39,8 +40,9 @@ pub struct AtHand<'a> {
 /// Returns the message about a fault: the line of its text, if known; the word at fault or the earlier line
 /// with the same topic, if the lines determine it; the word or number at fault that no text contains; the
 /// system's message; and what else is known of this fault, or if nothing is, what it means and what is needed.
-/// Known may be the place at which the line stops having a form, what stands for a part that there isn't, and
-/// the only name near to the one at fault. If the text looks to be of another kind, the message is about that.
+/// Known may be the place at which the line stops having a form, a corrected line, what to write instead of a part
+/// that there isn't, and what is suggested for the name at fault. If the text looks to be of another kind, the
+/// message is about that.
 /// Of a long line the first 100 bytes are shown, and a byte that isn't printable as `?`.
 pub fn fault_text(alloc: Global, tables: &[Table], fault: AtHand<'_>) -> Result<Vec<u8>, AllocError>
     ensures { IfOk result (λ told. told.items ≡ told_at_hand tables.now (seen_fault fault.entry)) }
@@ -65,7 +67,14 @@ fn push_of_kind(
 ) -> Result<(), AllocError>
     ensures { OnOk result (told.new.items ≡ told.old.items ++ told_of_kind tables.now (seen_fault fault.entry)) }
 {
-    let foreign = foreign_text(alloc, fault.subject, fault.name, fault.line, fault.text)?;
+    let foreign = foreign_text(
+        alloc,
+        fault.subject,
+        fault.name,
+        fault.line,
+        fault.text,
+        fault.circuit,
+    )?;
     if foreign.is_empty() {
         push_own_kind(alloc, told, tables, fault)
     } else {
@@ -123,13 +132,36 @@ fn sharper(alloc: Global, fault: AtHand<'_>) -> Result<Vec<u8>, AllocError>
     Ok(text)
 }
 
-/// Adds what stands for a part that there isn't, or the near name.
+/// Adds what to write instead of a part that there isn't, or else the corrected line or the suggestion.
 fn push_part_or_name(alloc: Global, told: &mut Vec<u8>, fault: AtHand<'_>) -> Result<(), AllocError>
     ensures { OnOk result (told.new.items ≡ told.old.items ++ part_or_name (seen_fault fault.entry)) }
 {
     let line = line_of(fault.line, fault.text);
     let part = part_at_fault(alloc, fault.subject, fault.name, line)?;
     if part.is_empty() {
+        push_corrected_or_name(alloc, told, fault)
+    } else {
+        told.extend_from_slice(&part)
+    }
+}
+
+/// Adds the corrected line, or the near name.
+fn push_corrected_or_name(
+    alloc: Global,
+    told: &mut Vec<u8>,
+    fault: AtHand<'_>,
+) -> Result<(), AllocError>
+    ensures { OnOk result (told.new.items ≡ told.old.items ++ corrected_or_name (seen_fault fault.entry)) }
+{
+    let corrected = corrected(
+        alloc,
+        fault.subject,
+        fault.name,
+        fault.line,
+        fault.text,
+        fault.circuit,
+    )?;
+    if corrected.is_empty() {
         push_suggestion(
             alloc,
             told,
@@ -141,7 +173,7 @@ fn push_part_or_name(alloc: Global, told: &mut Vec<u8>, fault: AtHand<'_>) -> Re
             fault.circuit,
         )
     } else {
-        told.extend_from_slice(&part)
+        told.extend_from_slice(&corrected)
     }
 }
 

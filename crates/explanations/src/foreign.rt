@@ -4,11 +4,13 @@ ghost use Rattle.std.specs.List.{prefix_len};
 ghost use Rattle.std.specs.Option.{option_map_or};
 ghost use Rattle.texts.specs.Text.{is_white};
 ghost use Rattle.explanations.specs.AtFault.{is_among, word_at};
-ghost use Rattle.explanations.specs.Foreign.{begun_by, begun_text, column_text, by_first_bytes, by_first_word, by_line, comment_mark, comment_line, comment_told, dump_words, first_column, foreign_kind, foreign_line, foreign_told, form_of, has_five_numbers, has_mark_next, has_word_next, is_aiger, is_blif, is_edif, is_marked, is_number_at, is_verilog, language_told, verilog_words, blif_words, foreign_text, may_be_foreign};
+ghost use Rattle.explanations.specs.Foreign.{begun_by, begun_text, column_text, by_first_bytes, by_first_word, by_line, comment_mark, comment_line, comment_told, dump_words, first_column, foreign_kind, foreign_line, foreign_told, has_five_numbers, has_mark_next, has_word_next, is_aiger, is_blif, is_edif, is_marked, is_number_at, is_verilog, language_told, verilog_words, blif_words, foreign_text, may_be_foreign};
 
 use crate::excerpt::{line_at, push_shown};
+use crate::other_texts::{form_of, push_other_text};
 use crate::subject::Subject;
 use crate::topic::word_at;
+use crate::words::is;
 use std::alloc::{AllocError, Global};
 use texts::{code_of, is_white, number};
 
@@ -214,13 +216,6 @@ fn has_mark_next(code: &[u8]) -> bool
     }
 }
 
-/// Returns whether a word is this one.
-fn is(word: &[u8], text: &str) -> bool
-    ensures { result ≡ bytes_eq word.now text.now }
-{
-    word == text.as_bytes()
-}
-
 fn is_marked(word: &[u8]) -> bool
     ensures { result ≡ is_marked word.now }
 {
@@ -238,7 +233,8 @@ fn may_be_foreign(name: &str) -> bool
 }
 
 /// Returns the message about a text of another kind, if the text at fault, which is known, and its line with
-/// this number look to be of one. Otherwise the message is empty.
+/// this number look to be of one. Otherwise the message is empty. The circuit, if known, says which nets may have
+/// delays.
 #[tactic(auto, unfolding(crate::specs::Foreign::foreign_text))]
 pub(crate) fn foreign_text(
     alloc: Global,
@@ -246,9 +242,10 @@ pub(crate) fn foreign_text(
     name: &str,
     number: u64,
     text: Option<&[u8]>,
+    circuit: Option<&[u8]>,
 ) -> Result<Vec<u8>, AllocError>
     ensures { IfOk result (λ told. told.items
-        ≡ foreign_text subject name.now number (option_map (λ text. text.now) text.entry)) }
+        ≡ foreign_text subject name.now number (option_map (λ text. text.now) text.entry) (option_map (λ circuit. circuit.now) circuit.entry)) }
 {
     let Some(text) = text else {
         return Ok(Vec::new(alloc));
@@ -257,7 +254,7 @@ pub(crate) fn foreign_text(
         return Ok(Vec::new(alloc));
     }
     match line_at(text, number) {
-        Some(line) => foreign_in(alloc, subject, text, code_of(line)),
+        Some(line) => foreign_in(alloc, subject, text, circuit, code_of(line)),
         None => Ok(Vec::new(alloc)),
     }
 }
@@ -266,24 +263,29 @@ fn foreign_in(
     alloc: Global,
     subject: Subject,
     text: &[u8],
+    circuit: Option<&[u8]>,
     code: &[u8],
 ) -> Result<Vec<u8>, AllocError>
-    ensures { IfOk result (λ told. told.items ≡ foreign_line subject text.now code.now) }
+    ensures { IfOk result (λ told. told.items
+        ≡ foreign_line subject text.now (option_map (λ circuit. circuit.now) circuit.entry) code.now) }
 {
     let mut told = Vec::new(alloc);
-    push_foreign_line(alloc, &mut told, subject, text, code)?;
+    push_foreign_line(alloc, &mut told, subject, text, circuit, code)?;
     Ok(told)
 }
 
-/// Adds the message about a text of another kind, if a text and a line of it, without its comment, look to be of one.
+/// Adds the message about a text of another kind, if a text and a line of it, without its comment, look to be of
+/// one that nullsim doesn't read, or if the line has a form of another text that it reads.
 fn push_foreign_line(
     alloc: Global,
     told: &mut Vec<u8>,
     subject: Subject,
     text: &[u8],
+    circuit: Option<&[u8]>,
     code: &[u8],
 ) -> Result<(), AllocError>
-    ensures { OnOk result (told.new.items ≡ told.old.items ++ foreign_line subject text.now code.now) }
+    ensures { OnOk result (told.new.items ≡ told.old.items
+        ++ foreign_line subject text.now (option_map (λ circuit. circuit.now) circuit.entry) code.now) }
 {
     match foreign_kind(subject, text, code) {
         Some(kind) => push_foreign(
@@ -294,7 +296,7 @@ fn push_foreign_line(
             word_at(code, 0).unwrap_or(b""),
             code,
         ),
-        None => Ok(()),
+        None => push_other_text(alloc, told, subject, circuit, code),
     }
 }
 
@@ -415,18 +417,5 @@ fn begun_by(kind: Foreign) -> &'static str
         Foreign::Aiger => "an AIGER file",
         Foreign::Edif => "an EDIF file",
         _ => "a dump, which nullsim writes and doesn't read",
-    }
-}
-
-/// Returns how a line of a text is written.
-fn form_of(subject: Subject) -> &'static str
-    ensures { result.now ≡ form_of subject }
-{
-    match subject {
-        Subject::Bench => "write a gate as y = NAND(a, b), an input as INPUT(a)\n",
-        Subject::Delays => "write a delay as NAME TICKS, such as y 3\n",
-        Subject::Stimuli => "write a stimulus as TICK NAME VALUE, such as 10 a 1\n",
-        Subject::Schedule => "write a step as advance NAME or deliver NAME PLACE\n",
-        _ => "begin with %nullsim and the horizon, such as %nullsim 20\n",
     }
 }

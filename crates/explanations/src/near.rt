@@ -34,14 +34,14 @@ fn keep_by_case(names: &mut Vec<&[u8]>, name: &[u8])
 }
 
 /// Returns whether any of the names differs from a name by the case of letters alone.
-fn has_by_case(names: &[&[u8]], name: &[u8]) -> bool
+pub(crate) fn has_by_case(names: &[&[u8]], name: &[u8]) -> bool
     ensures { result ≡ list_any (differ_by_case name.now) (map (λ one. one.now) names.now) }
 {
     names.iter().any(|other| differ_by_case(name, other))
 }
 
 /// Returns the only one of some names, which may be there more than once.
-fn only_one<'a>(names: &[&'a [u8]]) -> Option<&'a [u8]>
+pub(crate) fn only_one<'a>(names: &[&'a [u8]]) -> Option<&'a [u8]>
     ensures { option_map (λ one. one.now) result ≡ only_one (map (λ one. one.now) names.now) }
 {
     let (first, others) = names.split_first()?;

@@ -1,4 +1,4 @@
-//! Parts of circuits that other tools have, and what stands for them.
+//! Parts of circuits that other tools have, and what to write instead.
 ghost use Rattle.std.specs.Prelude.{◌≡◌, ◌++◌, codes, option_map, take, IfOk, OnOk};
 ghost use Rattle.std.specs.Str.{str_eq_ignore_ascii_case};
 ghost use Rattle.explanations.specs.Excerpt.{shown_line};
@@ -73,7 +73,8 @@ fn constant_of(word: &[u8]) -> Option<OtherPart>
     }
 }
 
-fn constant_or_digit(word: &[u8]) -> Option<OtherPart>
+/// Returns the constant that a word or a digit names.
+pub(crate) fn constant_or_digit(word: &[u8]) -> Option<OtherPart>
     ensures { result ≡ constant_or_digit word.now }
 {
     if word == b"0".as_slice() {
@@ -146,8 +147,8 @@ fn beginning_of(word: &[u8], count: usize) -> &[u8]
     &word[..count.min(word.len())]
 }
 
-/// Returns what stands for the part that a line asks for, if the line is one of a circuit and there isn't such
-/// a part. Otherwise the message is empty.
+/// Returns what to write instead of the part that a line asks for, if the line is one of a circuit and there isn't
+/// such a part. Otherwise the message is empty.
 #[tactic(auto, unfolding(crate::specs::OtherParts::part_at_fault))]
 pub(crate) fn part_at_fault(
     alloc: Global,
@@ -172,7 +173,7 @@ fn part_in(alloc: Global, name: &str, code: &[u8]) -> Result<Vec<u8>, AllocError
     Ok(told)
 }
 
-/// Adds what stands for the part that a line, without its comment, asks for, if there isn't such a part.
+/// Adds what to write instead of the part that a line, without its comment, asks for, if there isn't such a part.
 fn push_part_line(told: &mut Vec<u8>, name: &str, code: &[u8]) -> Result<(), AllocError>
     ensures { OnOk result (told.new.items ≡ told.old.items ++ part_line name.now code.now) }
 {
@@ -182,7 +183,7 @@ fn push_part_line(told: &mut Vec<u8>, name: &str, code: &[u8]) -> Result<(), All
     }
 }
 
-/// Adds what stands for a part that drives a net.
+/// Adds what to write instead of a part that drives a net.
 fn push_part(told: &mut Vec<u8>, part: OtherPart, net: &[u8]) -> Result<(), AllocError>
     ensures { OnOk result (told.new.items ≡ told.old.items ++ part_text part net.now) }
 {
@@ -213,7 +214,7 @@ fn push_part(told: &mut Vec<u8>, part: OtherPart, net: &[u8]) -> Result<(), Allo
     }
 }
 
-/// Adds the input and the stimulus that stand for a constant.
+/// Adds the input and the stimulus to write instead of a constant.
 fn push_constant(told: &mut Vec<u8>, net: &[u8], value: &str) -> Result<(), AllocError>
     ensures { OnOk result (told.new.items ≡ told.old.items ++ constant_text net.now value.now) }
 {
@@ -229,7 +230,7 @@ fn push_input(told: &mut Vec<u8>, net: &[u8]) -> Result<(), AllocError>
 }
 
 /// Adds a text and the name of a net.
-fn push_net(told: &mut Vec<u8>, said: &str, net: &[u8]) -> Result<(), AllocError>
+pub(crate) fn push_net(told: &mut Vec<u8>, said: &str, net: &[u8]) -> Result<(), AllocError>
     ensures { OnOk result (told.new.items ≡ told.old.items ++ said.now ++ shown_line net.now) }
 {
     told.extend_from_slice(said.as_bytes())?;
@@ -243,7 +244,8 @@ fn push_stimulus(told: &mut Vec<u8>, net: &[u8], value: &str) -> Result<(), Allo
     push_value(told, value)
 }
 
-fn push_value(told: &mut Vec<u8>, value: &str) -> Result<(), AllocError>
+/// Adds a space, a value and a line feed.
+pub(crate) fn push_value(told: &mut Vec<u8>, value: &str) -> Result<(), AllocError>
     ensures { OnOk result (told.new.items ≡ told.old.items ++ codes " " ++ value.now ++ codes "\n") }
 {
     told.push(b' ')?;

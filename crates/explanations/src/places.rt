@@ -1,8 +1,8 @@
 //! Where a line stops having a form of its text.
-mod forms;
+pub(crate) mod forms;
 mod line;
-mod slot;
+pub(crate) mod slot;
 mod telling_place;
-mod tokens;
+pub(crate) mod tokens;
 
 pub(crate) use telling_place::misplaced;

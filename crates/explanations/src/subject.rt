@@ -1,7 +1,6 @@
 //! The subjects of faults.
 ghost use Rattle.std.specs.Prelude.{◌≡◌};
-ghost use Rattle.explanations.specs.AtHand.{subject_number};
-ghost use Rattle.explanations.specs.Explained.{example_circuit, title_of};
+ghost use Rattle.explanations.specs.Explained.{example_circuit, subject_number, title_of};
 
 /// What a fault may be about: a text, or what the arguments request.
 #[derive(Clone, Copy, Debug, PartialEq, Eq)]

@@ -1,20 +1,19 @@
-//! The suggestion after what is known of a fault: the only name near to the one at fault.
-ghost use Rattle.std.specs.Prelude.{◌≡◌, ◌++◌, map, option_and_then, option_map, IfOk, OnOk};
-ghost use Rattle.std.specs.Option.{option_to_list};
-ghost use Rattle.explanations.specs.AtFault.{defined_by, is_net};
-ghost use Rattle.explanations.specs.Suggestion.{code_at, defined_told, for_gate, for_net, for_undefined, for_undefined_in, line_of_net, near_net_told, nets_in, suggestion, unknown_net};
+//! The suggestion after what is known of a fault: what a name that no line defines may mean, or the only name
+//! near to the one at fault.
+ghost use Rattle.std.specs.Prelude.{◌≡◌, ◌++◌, option_and_then, option_map, OnOk};
+ghost use Rattle.explanations.specs.Suggestion.{code_at, for_gate, for_missing, for_net, for_undefined, for_undefined_in, near_net_told, suggestion, unknown_net};
 
-use crate::above::number_or_none;
-use crate::at_fault::push_quoted;
-use crate::bench_lines::{defined_by, nth_name};
+use crate::bench_lines::nth_name;
 use crate::excerpt::line_at;
 use crate::gate_words::push_gate;
+use crate::missing::missing_text;
 use crate::near::near_among;
+use crate::nets::{nets_in, push_defined};
 use crate::subject::Subject;
 use crate::topic::topic_of;
 use crate::undefined::undefined_in;
 use std::alloc::{AllocError, Global};
-use texts::{code_lines, code_of};
+use texts::code_of;
 
 /// Adds the suggestion for a fault, if any, given the line at fault and its text, the name at fault that no text
 /// contains, and the text of the circuit.
@@ -48,7 +47,7 @@ pub(crate) fn push_suggestion(
     }
 }
 
-/// Adds the net that is near to the name that the line uses and no line defines.
+/// Adds what is suggested for the name that the line uses and no line defines.
 fn push_for_undefined(
     alloc: Global,
     told: &mut Vec<u8>,
@@ -76,8 +75,25 @@ fn push_for_undefined_in(
     ensures { OnOk result (told.new.items ≡ told.old.items ++ for_undefined_in text.now code.now) }
 {
     match undefined_in(alloc, code, text)? {
-        Some(name) => push_near_net(alloc, told, "", name, text),
+        Some(name) => push_for_missing(alloc, told, text, name),
         None => Ok(()),
+    }
+}
+
+/// Adds what a name that no line defines may mean, or else the net that is near to it.
+fn push_for_missing(
+    alloc: Global,
+    told: &mut Vec<u8>,
+    text: &[u8],
+    name: &[u8],
+) -> Result<(), AllocError>
+    ensures { OnOk result (told.new.items ≡ told.old.items ++ for_missing text.now name.now) }
+{
+    let known = missing_text(alloc, text, name)?;
+    if known.is_empty() {
+        push_near_net(alloc, told, "", name, text)
+    } else {
+        told.extend_from_slice(&known)
     }
 }
 
@@ -168,59 +184,5 @@ fn push_near_net(
     match near_among(name, nets_in(alloc, text)?) {
         Some(net) => push_defined(alloc, told, place, text, net),
         None => Ok(()),
-    }
-}
-
-/// Adds where a net is defined.
-fn push_defined(
-    alloc: Global,
-    told: &mut Vec<u8>,
-    place: &str,
-    text: &[u8],
-    net: &[u8],
-) -> Result<(), AllocError>
-    ensures { OnOk result (told.new.items ≡ told.old.items ++ defined_told place.now text.now net.now) }
-{
-    let number = line_of_net(net, text);
-    let head = format!(in alloc; "line {number}{place} defines ")?;
-    push_quoted(told, head.as_str().as_bytes(), net)
-}
-
-/// Returns the nets that the lines of a text define, in their order.
-fn nets_in(alloc: Global, text: &[u8]) -> Result<Vec<&[u8]>, AllocError>
-    ensures { IfOk result (λ nets. map (λ net. net.now) nets.items ≡ nets_in text.now) }
-{
-    let mut nets = Vec::new(alloc);
-    for (_, code) in code_lines(text) {
-        push_net(&mut nets, defined_by(code))?;
-    }
-    Ok(nets)
-}
-
-/// Adds a net, if there is one.
-fn push_net<'a>(nets: &mut Vec<&'a [u8]>, net: Option<&'a [u8]>) -> Result<(), AllocError>
-    ensures { OnOk result (map (λ net. net.now) nets.new.items
-        ≡ map (λ net. net.now) nets.old.items ++ option_to_list (option_map (λ net. net.now) net.entry)) }
-{
-    if let Some(net) = net {
-        nets.push(net)?;
-    }
-    Ok(())
-}
-
-/// Returns the number of the first line that defines a net, or 0 if none does.
-fn line_of_net(net: &[u8], text: &[u8]) -> u64
-    ensures { result ≡ line_of_net net.now text.now }
-{
-    number_or_none(code_lines(text).find(|line| defines(net, line.1)))
-}
-
-/// Returns whether a line without its comment defines a net.
-fn defines(net: &[u8], code: &[u8]) -> bool
-    ensures { result ≡ is_net (defined_by code.now) net.now }
-{
-    match defined_by(code) {
-        Some(defined) => net == defined,
-        None => false,
     }
 }

@@ -1,6 +1,5 @@
 //! Whole runs: a prefix of the text has been written.
 use crate::faults::{Fault, reported};
-use circuit_info::info;
 use engine_probes::{Follower, Teller};
 use fanin_cone::cone_text;
 use kernel_runs::{
@@ -211,7 +210,6 @@ fn comparisons<W: Write>(alloc: Global, teller: &mut Teller<W>) -> Option<()> {
     )?;
     let text = cone_text(alloc, OSCILLATOR.bench, &[b"y".as_slice()]);
     reported(teller, "fanin_cone::cone_text", text)?;
-    reported(teller, "circuit_info::info", info(alloc, OSCILLATOR.bench))?;
     let answer = diff(alloc, &OSCILLATOR, &OSCILLATOR, &[], COUNTING);
     reported(teller, "kernel_runs::diff", answer)?;
     reported(

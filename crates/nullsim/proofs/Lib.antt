@@ -1,4 +1,5 @@
 mod Answering
 mod Firsts
 mod Noting
+mod Telling
 mod Written

@@ -1,9 +1,11 @@
 pub mod Asked
 pub mod AtFault
 pub mod Command
+pub mod Decks
 pub mod Ends
 pub mod Noted
 pub mod Parts
+pub mod Program
 pub mod Progress
 pub mod Verbose
 pub mod Version

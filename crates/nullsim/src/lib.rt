@@ -1,17 +1,22 @@
 //! The interface of the simulator for callers: runs, decks, and the program without and with arguments.
 #![tactic(auto)]
 
+mod arguments;
 mod carrying;
 mod commander;
+mod deck_fault;
 pub mod laws;
 mod names;
 mod notes;
 mod numbers;
 mod parts;
+mod read_reasons;
 mod reasons;
 mod verbose;
+mod verbose_deck;
 mod version;
 
+pub use arguments::answer_arguments;
 pub use circuit_info::info;
 pub use command_line::{
     Asked, NoOrder, Order, PickOptions, ReadTexts, SourceOptions, asked_by_words,
@@ -33,3 +38,4 @@ pub use program_io::{
 };
 pub use vcd_dump::TimeUnit;
 pub use verbose::answer_verbosely;
+pub use verbose_deck::tell_verbosely;

@@ -73,7 +73,11 @@ fn notes_of(alloc: Global, order: &Order<'_>, texts: &OrderTexts) -> Result<Vec<
 ///
 /// # Errors
 /// `Memory` if an allocation fails.
-fn notes_or_none(alloc: Global, source: &Source<'_>, horizon: u64) -> Result<Vec<u8>, DumpFault>
+pub(crate) fn notes_or_none(
+    alloc: Global,
+    source: &Source<'_>,
+    horizon: u64,
+) -> Result<Vec<u8>, DumpFault>
     ensures { IfOk result (λ notes. notes.items ≡ text_or_none (notes_of_source (seen_source source.now) horizon)) }
 {
     match notes_text(alloc, source, horizon) {

@@ -220,7 +220,7 @@ fn name_if_read<'o>(
 }
 
 /// Returns the system's message on a fault, if any.
-fn reason_of<'a>(fault: ProgramFault<'_>, said: Option<&'a [u8]>) -> Option<&'a [u8]>
+pub(crate) fn reason_of<'a>(fault: ProgramFault<'_>, said: Option<&'a [u8]>) -> Option<&'a [u8]>
     ensures { if_given result ≡ reason_of (if_given said.entry) fault.entry }
 {
     match fault {
@@ -235,7 +235,7 @@ fn reason_of<'a>(fault: ProgramFault<'_>, said: Option<&'a [u8]>) -> Option<&'a 
 }
 
 /// Returns the subject of a fault.
-fn subject(fault: ProgramFault<'_>) -> Subject
+pub(crate) fn subject(fault: ProgramFault<'_>) -> Subject
     ensures { result ≡ subject_of fault.entry }
 {
     match fault {

@@ -1,11 +1,11 @@
-//! The program. Without arguments it reads a deck from standard input and writes its dump; with arguments it
-//! carries out a command over files.
+//! The program. Without arguments, or with `--verbose` alone, it reads a deck from standard input and writes its
+//! dump; with other arguments it carries out a command over files.
 #![tactic(auto)]
 
 mod reasons;
 
 use crate::reasons::{WithReason, said_of};
-use nullsim::{ReadFault, Texts, command, read_text, tell};
+use nullsim::{ReadFault, Texts, answer_arguments, read_text};
 use std::fs::File;
 use std::io::{self, ErrorKind, Write};
 use std::process::ExitCode;
@@ -51,13 +51,19 @@ fn main(rt: HostRuntime) -> ExitCode {
     let alloc = rt.alloc();
     let (mut out, mut err) = (rt.stdout(), rt.stderr());
     let status = match words_given(&rt) {
-        Ok(words) if words.is_empty() => tell(alloc, &mut rt.stdin(), &mut out, &mut err),
         Ok(words) => {
             let mut files = Folder {
                 rt: &rt,
                 said: None,
             };
-            command(alloc, words.as_slice(), &mut files, &mut out, &mut err)
+            answer_arguments(
+                alloc,
+                words.as_slice(),
+                &mut rt.stdin(),
+                &mut files,
+                &mut out,
+                &mut err,
+            )
         }
         Err(fault) if fault.kind() == ErrorKind::OutOfMemory => {
             let _ = err.write_all(b"memory:0: Memory\n");

@@ -7,7 +7,7 @@ use std::test::Fail;
 
 /// What a writer does once its room is used up.
 #[derive(Clone, Copy)]
-enum Behind {
+pub(crate) enum Behind {
     /// It fails with this kind of fault.
     Fails(ErrorKind),
     /// It accepts nothing.
@@ -18,9 +18,9 @@ enum Behind {
 
 /// A writer with this room.
 #[derive(Drop)]
-struct Short {
-    room: usize,
-    behind: Behind,
+pub(crate) struct Short {
+    pub(crate) room: usize,
+    pub(crate) behind: Behind,
 }
 
 impl Write for Short {
@@ -46,9 +46,9 @@ impl Write for Short {
 
 /// The room of a writer and what it does after that, the line on standard error, and what follows it with
 /// `--verbose`.
-type Failure = (usize, Behind, &'static str, &'static str);
+pub(crate) type Failure = (usize, Behind, &'static str, &'static str);
 
-static FAILURES: [Failure; 5] = [
+pub(crate) static FAILURES: [Failure; 5] = [
     // A full disk.
     (
         0,

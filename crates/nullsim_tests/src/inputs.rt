@@ -10,10 +10,10 @@ const MOST_READ: usize = 16_777_217;
 
 /// Returns `z`s, at most a number in each call: a number in total and then a fault of this kind, or for ever.
 #[derive(Drop)]
-struct Source {
-    left: Option<usize>,
-    a_call: usize,
-    kind: ErrorKind,
+pub(crate) struct Source {
+    pub(crate) left: Option<usize>,
+    pub(crate) a_call: usize,
+    pub(crate) kind: ErrorKind,
 }
 
 impl Read for Source {

@@ -3,6 +3,8 @@
 #![tactic(auto)]
 
 #[cfg(test)]
+mod any_arguments;
+#[cfg(test)]
 mod cut_decks;
 #[cfg(test)]
 mod deck_reports;

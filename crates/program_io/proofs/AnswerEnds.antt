@@ -5,6 +5,8 @@ use Rattle.std.specs.Result.{result_map_both}
 use Rattle.std.proofs.KnownBytes.{Appends-kept, Keeps-refl}
 use Rattle.bench_text.specs.declared.fault.BenchFault.{BenchFault}
 use Rattle.bench_text.specs.declared.fault.BenchFault.TheVariants as bench
+use Rattle.design.specs.Design.{DesignView}
+use Rattle.circuit_info.specs.InfoText.{IsInfoOf}
 use Rattle.drawn_stimuli.specs.declared.driven_fault.DrivenFault.{DrivenFault}
 use Rattle.drawn_stimuli.specs.declared.driven_fault.DrivenFault.TheVariants as driven
 use Rattle.fanin_cone.specs.declared.fault.ConeTextFault.{ConeTextFault}
@@ -35,7 +37,7 @@ use Rattle.program_io.specs.declared.program_fault.ProgramFault.{ProgramFault}
 use Rattle.program_io.specs.declared.program_fault.ProgramFault.TheVariants.{Flush, Output, Read}
 use Rattle.program_io.specs.declared.program_fault.ProgramFault.TheVariants as program
 use Rattle.program_io.specs.Ends.{WriteEndsBy}
-use Rattle.program_io.specs.Answers.{Answer, AnswerEndsBy, GoesOut, IsDiffAnswer, IsNoRead, IsTwinAnswer, answered, compared, counted, just, with_counts}
+use Rattle.program_io.specs.Answers.{Answer, AnswerEndsBy, GoesOut, IsDiffAnswer, IsInfoAnswer, IsNoRead, IsTwinAnswer, answered, compared, counted, just, with_counts}
 use Rattle.program_io.specs.ProgramFaults.{fault_of_bench, fault_of_cone, fault_of_diagram, fault_of_diff, fault_of_driven, fault_of_run, fault_of_twin}
 
 module _ (P : Result Answer ProgramFault → Type 0) where
@@ -61,6 +63,13 @@ module _ (P : Result Answer ProgramFault → Type 0) where
       go at (Dump broken) refusal = absurd refusal
       go at Memory refusal = inl (Keeps-refl held)
       go at fault refusal = (stands (on_run at fault) refusal, Keeps-refl held)
+
+  -- so is one of the only source
+  pub AnswerEndsBy-source : {A : Type 0} (held : Option (List ℕ)) (made : Result A SimFault) (fault : SimFault) →
+      ((other : SimFault) → made ≡ Err other → P (Err (fault_of_run First other))) → IsRefusal made fault → AnswerEndsBy P held held (fault_of_run First fault)
+  AnswerEndsBy-source held made (Dump broken) stands refusal = absurd refusal
+  AnswerEndsBy-source held made Memory stands refusal = inl (Keeps-refl held)
+  AnswerEndsBy-source held made fault stands refusal = (stands fault refusal, Keeps-refl held)
 
   -- so is one of the only netlist
   pub AnswerEndsBy-bench : (held : Option (List ℕ)) (fault : BenchFault) → (fault ≢ bench.Memory → P (Err (fault_of_bench fault))) →
@@ -217,6 +226,14 @@ IsTwinAnswer-done (Err fault) name horizon comparison is = absurd is
 pub IsTwinAnswer-refused : (twins : Result Twins TwinFault) (name : List ℕ) (horizon : ℕ) (fault : TwinFault) → twins ≡ Err fault →
     IsTwinAnswer twins name horizon (Err (fault_of_twin fault))
 IsTwinAnswer-refused twins name horizon fault refused = rw refused refl
+
+-- so it is with the description of a source
+pub IsInfoAnswer-done : (made : Result (ℕ × DesignView) SimFault) (ready : ℕ × DesignView) (text : List ℕ) → made ≡ Ok ready → IsInfoOf ready.1 text →
+    IsInfoAnswer made (Ok (just text))
+IsInfoAnswer-done made ready text made_so is = rw made_so (text, is, refl)
+
+pub IsInfoAnswer-refused : (made : Result (ℕ × DesignView) SimFault) (fault : SimFault) → made ≡ Err fault → IsInfoAnswer made (Err (fault_of_run First fault))
+IsInfoAnswer-refused made fault refused = rw refused refl
 
 -- so it is with a comparison net by net
 pub IsDiffAnswer-done : (made : Result Pair DiffFault) (text : List ℕ) (same : Bool) → IsOkAnd made (λ pair. IsDiff pair text same) →

@@ -104,7 +104,7 @@ cut_source source = record source {
   picks = cut_picks source.picks;
 }
 
-design_of_source-cut : (source : SourceView) (ticks : ℕ) → design_of_source (cut_source source) ticks ≡ design_of_source source ticks
+pub design_of_source-cut : (source : SourceView) (ticks : ℕ) → design_of_source (cut_source source) ticks ≡ design_of_source source ticks
 unfolding design_of_source
 design_of_source-cut source ticks =
     let build : List ℕ → List ℕ → NetlistView → Result DesignView BuildFault =

@@ -13,6 +13,7 @@ use Rattle.netlist.specs.Names.{seen_names}
 use Rattle.drawn_stimuli.specs.declared.drive.Draws.{Draws}
 use Rattle.drawn_stimuli.specs.declared.drive.Driven.{Driven}
 use Rattle.drawn_stimuli.specs.Inputs.{seen_drive}
+use Rattle.design.specs.Design.{DesignView}
 use Rattle.fanin_cone.specs.Cone.{IsConeOf}
 use Rattle.fanin_cone.specs.Extract.{IsExtract, first_unknown}
 use Rattle.command_line.specs.declared.order.Order.{Order}
@@ -22,19 +23,19 @@ use Rattle.kernel_runs.specs.declared.diff_fault.DiffFault.{DiffFault}
 use Rattle.kernel_runs.specs.declared.twin_run.TwinAnswer.{TwinAnswer}
 use Rattle.kernel_runs.specs.declared.twin_run.TwinFault.{TwinFault}
 use Rattle.kernel_runs.specs.AnswerText.{twin_text}
-use Rattle.program_io.specs.ProgramFaults.{fault_of_bench, fault_of_cone}
-use Rattle.program_io.specs.Answers.{Answer, IsDiffAnswer, IsTwinAnswer, compared, just, stimuli_answer}
+use Rattle.program_io.specs.ProgramFaults.{fault_of_cone, fault_of_run}
+use Rattle.program_io.specs.Answers.{Answer, IsDiffAnswer, IsInfoAnswer, IsTwinAnswer, compared, just, stimuli_answer}
 use Rattle.program_io.specs.OrderAnswer.{ForSource, IsAnswer}
 use Rattle.fanin_cone.specs.declared.fault.ConeTextFault.{ConeTextFault}
 use Rattle.fanin_cone.specs.ConeText.{IsConeAnswer, IsConeOfNetlist, IsExtractText, text_fault_of_bench}
 use Rattle.kernel_runs.specs.Diffs.{Pair, pair_of}
-use Rattle.circuit_info.specs.InfoText.{IsInfoAnswer}
 use Rattle.kernel_runs.proofs.CallerLemmas.{one_diff}
-use Rattle.circuit_info.proofs.CallerLemmas.{one_info_answer, same_from_members}
+use Rattle.circuit_info.proofs.CallerLemmas.{one_info, same_from_members}
 use Rattle.program_io.specs.declared.program_fault.ProgramFault.{ProgramFault}
 use Rattle.command_line.specs.Sources.{picks_of_options, schedule_file}
 use Rattle.program_io.specs.Options.{IsSourceOf, KnownTexts, all_known, text_named}
-use Rattle.prepared_runs.specs.Source.{SourceView}
+use Rattle.prepared_runs.specs.declared.fault.SimFault.{SimFault}
+use Rattle.prepared_runs.specs.Source.{SourceView, design_of_source}
 use Rattle.kernel_runs.specs.Twins.{IsComparison, Twins, twins_of}
 
 -- ---- cones
@@ -114,6 +115,13 @@ one_diff_answer (Ok pair) a b (text, (same, is, answer)) (other_text, (other_sam
     answer ∙ ap (λ bytes. Ok (compared bytes same)) one.0 ∙ ap (λ all. Ok (compared other_text all)) one.1 ∙ sym other_answer
 one_diff_answer (Err fault) a b is other_is = is ∙ sym other_is
 
+-- ---- descriptions
+
+one_info_answer : (made : Result (ℕ × DesignView) SimFault) (a b : Result Answer ProgramFault) → IsInfoAnswer made a → IsInfoAnswer made b → a ≡ b
+one_info_answer (Ok ready) a b (text, is, answer) (other, other_is, other_answer) =
+    answer ∙ ap (λ text. Ok (just text)) (one_info ready.1 text other is other_is) ∙ sym other_answer
+one_info_answer (Err fault) a b is other_is = is ∙ sym other_is
+
 -- ---- sources
 
 module _ (texts : List ℕ → List ℕ) where
@@ -162,12 +170,6 @@ module _ (texts : List ℕ → List ℕ) where
       subst (λ (t : List ℕ). IsConeAnswer t (seen_names names.items) other_found) same_text other_is in
       answer ∙ ap (result_map_both just fault_of_cone) (one_cone_answer found other_found text (seen_names names.items) is of_text) ∙ sym other_answer
 
-  one_for_info : (bench : Bor (List ℕ)) (a b : Result Answer ProgramFault) → IsAnswer known (Info bench) a → IsAnswer known (Info bench) b → a ≡ b
-  one_for_info bench a b (text, read, (found, is, answer)) (other_text, other_read, (other_found, other_is, other_answer)) =
-      let same_text : other_text ≡ text = other_read ∙ sym read in
-      let of_text : IsInfoAnswer text other_found = subst (λ (t : List ℕ). IsInfoAnswer t other_found) same_text other_is in
-      answer ∙ ap (result_map_both just fault_of_bench) (one_info_answer text found other_found is of_text) ∙ sym other_answer
-
   one_for_stimuli : (bench : Bor (List ℕ)) (drives : Vec Driven Global) (draws : Draws) (horizon : ℕ) (a b : Result Answer ProgramFault) →
       IsAnswer known (Stimuli bench drives draws horizon) a → IsAnswer known (Stimuli bench drives draws horizon) b → a ≡ b
   one_for_stimuli bench drives draws horizon a b (text, read, is) (other_text, other_read, other_is) =
@@ -181,7 +183,7 @@ module _ (texts : List ℕ → List ℕ) where
   one_answer (Twin first second net horizon) a b =
       one_for_source first _ _ a b (λ one.
       one_for_source second _ _ a b (λ other. one_twin_answer (twins_of one other net.now horizon) net.now horizon a b))
-  one_answer (Info bench) a b = one_for_info bench a b
+  one_answer (Info options) a b = one_for_source options _ _ a b (λ source. one_info_answer (design_of_source source 0) a b)
   one_answer (Diff first second names ticks) a b =
       one_for_source first _ _ a b (λ one.
       one_for_source second _ _ a b (λ other. one_diff_answer (pair_of one other (seen_names names.items) ticks) a b))

@@ -13,8 +13,7 @@ use Rattle.kernel_runs.specs.Checked.{checked}
 use Rattle.fanin_cone.specs.declared.fault.ConeTextFault.{ConeTextFault}
 use Rattle.fanin_cone.specs.ConeText.{IsConeAnswer}
 use Rattle.kernel_runs.specs.Diffs.{pair_of}
-use Rattle.circuit_info.specs.InfoText.{IsInfoAnswer}
-use Rattle.prepared_runs.specs.Source.{SourceView}
+use Rattle.prepared_runs.specs.Source.{SourceView, design_of_source}
 use Rattle.kernel_runs.specs.Twins.{twins_of}
 use Rattle.command_line.specs.declared.order.Order.{Order}
 use Rattle.command_line.specs.declared.order.Order.TheVariants as orders
@@ -26,10 +25,10 @@ use Rattle.program_io.specs.declared.program_fault.ProgramFault.{ProgramFault}
 use Rattle.command_line.specs.Sources.{ReadTexts, files_of_options, picks_of_options, schedule_file, source_from}
 use Rattle.kernel_runs.specs.AnswerText.{check_text}
 use Rattle.program_io.specs.Options.{IsRead, IsSourceOf, KnownTexts, ReadsFiles, ReadsOrder, text_named}
-use Rattle.program_io.specs.Answers.{Answer, IsAnswerOfCone, IsAnswerOfDiff, IsAnswerOfInfo, IsAnswerOfTwin, IsDiffAnswer, IsTwinAnswer, answered, check_answer, diagram_answer, just, plain_answer, run_answer, stimuli_answer, trace_answer, why_answer, with_counts}
+use Rattle.program_io.specs.Answers.{Answer, IsAnswerOfCone, IsAnswerOfDiff, IsAnswerOfInfo, IsAnswerOfTwin, IsDiffAnswer, IsInfoAnswer, IsTwinAnswer, answered, check_answer, diagram_answer, just, plain_answer, run_answer, stimuli_answer, trace_answer, why_answer, with_counts}
 use Rattle.program_io.specs.ProgramFaults.{fault_of_diagram, fault_of_driven}
 use Rattle.program_io.specs.OrderAnswer.{ForSource, IsAnswer, IsAnswerTo}
-use Rattle.program_io.proofs.Cut.{cut, cut_picks, cut_source, diagram_of_source-cut, dump_of_source-cut, netlist_of-cut, pair_of-cut, run_of_source-cut, simulated-cut, stimuli_of_drives-cut, trace_of_source-cut, twins_of-cut, why_of_source-cut}
+use Rattle.program_io.proofs.Cut.{cut, cut_picks, cut_source, design_of_source-cut, diagram_of_source-cut, dump_of_source-cut, netlist_of-cut, pair_of-cut, run_of_source-cut, simulated-cut, stimuli_of_drives-cut, trace_of_source-cut, twins_of-cut, why_of_source-cut}
 
 pub unwrap_or-known : (known : Option (List ℕ)) (other : List ℕ) → IfSome known (λ all. unwrap_or known other ≡ all)
 unwrap_or-known None other = tt
@@ -121,6 +120,11 @@ module _ (known : KnownTexts) (options : SourceOptions) (texts : ReadTexts) (rea
       (λ source is_cut. same ∙ ap (λ s. check_answer s horizon) is_cut
       ∙ ap (answered (λ run. just (check_text (checked run)))) (run_of_source-cut source horizon))
 
+  IsAnswer-info : (answer : Result Answer ProgramFault) → IsAnswerOfInfo seen answer → IsAnswer known (orders.Info options) answer
+  IsAnswer-info answer holds =
+      ForSource-read _
+      (λ source is_cut. subst (λ made. IsInfoAnswer made answer) (ap (λ s. design_of_source s 0) is_cut ∙ design_of_source-cut source 0) holds)
+
 -- so are the two sources of a comparison
 module _ (known : KnownTexts) (first second : SourceOptions) (one other : ReadTexts) (read : ReadsFiles known (files_of_options first) one)
     (other_read : ReadsFiles known (files_of_options second) other) where
@@ -147,14 +151,6 @@ module _ (known : KnownTexts) (first second : SourceOptions) (one other : ReadTe
       ∙ ap (λ s. pair_of (cut_source source) s (seen_names names.items) ticks) other_is_cut
       ∙ pair_of-cut source other_source (seen_names names.items) ticks)
       holds))
-
--- what the netlist that was read is is the answer to the order
-IsAnswer-info : (known : KnownTexts) (bench : Bor (List ℕ)) (read : List ℕ) → IsRead (known bench.now) read →
-    (answer : Result Answer ProgramFault) → IsAnswerOfInfo read answer → IsAnswer known (orders.Info bench) answer
-IsAnswer-info known bench read is_read answer (found, is, same) =
-    let text = unwrap_or (known bench.now) read in
-    let of_cut : IsInfoAnswer (cut text) found = subst (λ (t : List ℕ). IsInfoAnswer t found) is_read is in
-    (text, unwrap_or-known (known bench.now) read, (found, rw (← netlist_of-cut text) of_cut, same))
 
 -- the answer to the cut text is that to the whole
 IsConeAnswer-cut : (text : List ℕ) (names : List (List ℕ)) (answer : Result (List ℕ) ConeTextFault) → IsConeAnswer (cut text) names answer →
@@ -195,7 +191,7 @@ IsAnswer-read known (orders.Twin first second net horizon) texts (one, other) an
     IsAnswer-twin known first second texts.first texts.second one other net horizon answer is
 IsAnswer-read known (orders.Diff first second names ticks) texts (one, other) answer is =
     IsAnswer-diff known first second texts.first texts.second one other names ticks answer is
-IsAnswer-read known (orders.Info bench) texts (one, other) answer is = IsAnswer-info known bench texts.first.bench.items one.bench answer is
+IsAnswer-read known (orders.Info options) texts (one, other) answer is = IsAnswer-info known options texts.first one answer is
 IsAnswer-read known (orders.Cone bench names) texts (one, other) answer is = IsAnswer-cone known bench names texts.first.bench.items one.bench answer is
 IsAnswer-read known (orders.Stimuli bench drives draws horizon) texts (one, other) answer is =
     IsAnswer-stimuli known bench drives draws horizon texts.first.bench.items one.bench answer is

@@ -2,7 +2,6 @@
 use Rattle.std.specs.Prelude.{◌≡◌, ℕ, Bool, List, true, false, Option, Result, Ok, Err, IsOkAnd}
 use Rattle.std.specs.Result.{result_map_both}
 use Rattle.std.specs.Io.KnownBytes.{Appends}
-use Rattle.bench_text.specs.declared.fault.BenchFault.{BenchFault}
 use Rattle.cmb_kernel.specs.declared.counts.Counts.{Counts}
 use Rattle.plain_runs.specs.declared.diagram_run.DiagramView.{DiagramView}
 use Rattle.prepared_runs.specs.declared.fault.SimFault.{SimFault}
@@ -22,11 +21,12 @@ use Rattle.kernel_runs.specs.declared.diff_fault.DiffFault.{DiffFault}
 use Rattle.wave_diff.specs.declared.diff_ticks.DiffTicks.{DiffTicks}
 use Rattle.kernel_runs.specs.Diffs.{IsDiff, Pair, pair_of}
 use Rattle.plain_runs.specs.Explained.{why_of_source}
-use Rattle.circuit_info.specs.InfoText.{IsInfoAnswer}
+use Rattle.circuit_info.specs.InfoText.{IsInfoOf}
+use Rattle.design.specs.Design.{DesignView}
 use Rattle.event_trace.specs.Traced.{trace_of_source}
 use Rattle.prepared_runs.specs.Prepared.{run_of_source}
 use Rattle.kernel_runs.specs.Simulated.{simulated}
-use Rattle.prepared_runs.specs.Source.{SourceView, dump_of_source}
+use Rattle.prepared_runs.specs.Source.{SourceView, design_of_source, dump_of_source}
 use Rattle.kernel_runs.specs.Twins.{IsComparison, Twins, twins_of}
 use Rattle.program_io.specs.declared.outcome.Outcome.{Outcome}
 use Rattle.program_io.specs.declared.outcome.Outcome.TheVariants.{Done, Counted, Differing}
@@ -34,7 +34,7 @@ use Rattle.program_io.specs.declared.program_fault.ProgramFault.{ProgramFault}
 use Rattle.program_io.specs.declared.program_fault.ProgramFault.TheVariants.{Read}
 use Rattle.kernel_runs.specs.AnswerText.{check_text, twin_text}
 use Rattle.program_io.specs.Ends.{ForAnswer, ProgramEndsBy}
-use Rattle.program_io.specs.ProgramFaults.{fault_of_bench, fault_of_cone, fault_of_diagram, fault_of_diff, fault_of_driven, fault_of_run, fault_of_twin}
+use Rattle.program_io.specs.ProgramFaults.{fault_of_cone, fault_of_diagram, fault_of_diff, fault_of_driven, fault_of_run, fault_of_twin}
 
 -- what is written, and its outcome
 pub record Answer : Type 0 where
@@ -96,9 +96,14 @@ check_answer source horizon = answered (λ run. just (check_text (checked run)))
 abbrev pub IsAnswerOfCone : List ℕ → List (List ℕ) → Result Answer ProgramFault → Type 0
 IsAnswerOfCone bench names answer = (found : Result (List ℕ) ConeTextFault) × IsConeAnswer bench names found × (answer ≡ result_map_both just fault_of_cone found)
 
--- the description of a circuit
-abbrev pub IsAnswerOfInfo : List ℕ → Result Answer ProgramFault → Type 0
-IsAnswerOfInfo bench answer = (found : Result (List ℕ) BenchFault) × IsInfoAnswer bench found × (answer ≡ result_map_both just fault_of_bench found)
+-- the description of a design, or the fault in its place
+abbrev pub IsInfoAnswer : Result (ℕ × DesignView) SimFault → Result Answer ProgramFault → Type 0
+IsInfoAnswer (Ok ready) answer = (text : List ℕ) × IsInfoOf ready.1 text × (answer ≡ Ok (just text))
+IsInfoAnswer (Err fault) answer = answer ≡ Err (fault_of_run First fault)
+
+-- that of the design of a source
+abbrev pub IsAnswerOfInfo : SourceView → Result Answer ProgramFault → Type 0
+IsAnswerOfInfo source = IsInfoAnswer (design_of_source source 0)
 
 -- the lines of a comparison, or the fault of one side
 abbrev pub IsTwinAnswer : Result Twins TwinFault → List ℕ → ℕ → Result Answer ProgramFault → Type 0

@@ -25,7 +25,7 @@ IsAnswer known (Trace options horizon) answer = ForSource known options (λ sour
 IsAnswer known (Why options net tick) answer = ForSource known options (λ source. answer ≡ why_answer source net.now tick)
 IsAnswer known (Stimuli bench drives draws horizon) answer =
     (text : List ℕ) × IfSome (known bench.now) (λ all. text ≡ all) × (answer ≡ stimuli_answer text (map seen_drive drives.items) draws horizon)
-IsAnswer known (Info bench) answer = (text : List ℕ) × IfSome (known bench.now) (λ all. text ≡ all) × IsAnswerOfInfo text answer
+IsAnswer known (Info options) answer = ForSource known options (λ source. IsAnswerOfInfo source answer)
 IsAnswer known (Cone bench names) answer =
     (text : List ℕ) × IfSome (known bench.now) (λ all. text ≡ all) × IsAnswerOfCone text (seen_names names.items) answer
 IsAnswer known (Diff first second names ticks) answer =
@@ -43,7 +43,7 @@ IsAnswerTo (Trace options horizon) texts answer = answer ≡ trace_answer (sourc
 IsAnswerTo (Why options net tick) texts answer = answer ≡ why_answer (source_from options texts.first) net.now tick
 IsAnswerTo (Stimuli bench drives draws horizon) texts answer =
     answer ≡ stimuli_answer texts.first.bench.items (map seen_drive drives.items) draws horizon
-IsAnswerTo (Info bench) texts answer = IsAnswerOfInfo texts.first.bench.items answer
+IsAnswerTo (Info options) texts answer = IsAnswerOfInfo (source_from options texts.first) answer
 IsAnswerTo (Cone bench names) texts answer = IsAnswerOfCone texts.first.bench.items (seen_names names.items) answer
 IsAnswerTo (Diff first second names ticks) texts answer =
     IsAnswerOfDiff (source_from first texts.first) (source_from second texts.second) (seen_names names.items) ticks answer

@@ -20,7 +20,7 @@ use kernel_runs::{
     twin_text,
 };
 use plain_runs::{DiagramView, diagram, plain_with_progress, why};
-use prepared_runs::{DumpView, Progress, SimFault, Source};
+use prepared_runs::{DumpView, Progress, SimFault, Source, prepare};
 use std::alloc::Global;
 use std::io::Write;
 
@@ -163,21 +163,22 @@ pub(crate) fn write_cone<W: Write>(
     Ok(Outcome::Done)
 }
 
-/// Writes the description of a circuit in numbers and names, and flushes once.
+/// Writes the description of a source's circuit in numbers and names, and flushes once.
 ///
 /// # Errors
-/// If the netlist is refused, nothing is written. After a failed write, a prefix of the text has been written;
+/// If the source is refused, nothing is written. After a failed write, a prefix of the text has been written;
 /// after a failed flush, all of it.
 pub(crate) fn write_info<W: Write>(
     alloc: Global,
-    bench: &[u8],
+    source: &Source<'_>,
     out: &mut W,
 ) -> Result<Outcome, ProgramFault<'static>>
-    ensures ok { IfOk result (GoesOut (IsAnswerOfInfo bench.now) (W.contents out.old) (W.contents out.new)) }
-    ensures err { IfErr result (AnswerEndsBy (IsAnswerOfInfo bench.now) (W.contents out.old) (W.contents out.new)) }
+    ensures ok { IfOk result (GoesOut (IsAnswerOfInfo (seen_source source.now)) (W.contents out.old) (W.contents out.new)) }
+    ensures err { IfErr result (AnswerEndsBy (IsAnswerOfInfo (seen_source source.now)) (W.contents out.old) (W.contents out.new)) }
     ensures no_read { IfErr result IsNoRead }
 {
-    let text = info(alloc, bench)?;
+    let (_, design) = prepare(alloc, source, 0)?;
+    let text = info(alloc, &design)?;
     write_text(out, text.as_slice())?;
     Ok(Outcome::Done)
 }

@@ -42,11 +42,11 @@ pub fn deck<W: Write>(alloc: Global, text: &[u8], out: &mut W) -> Result<Report,
 ///
 /// # Errors
 /// As for [`deck`]; and after a failed flush, the whole dump has been written.
-pub(crate) fn write_deck<W: Write>(
+pub fn write_deck<'d, W: Write>(
     alloc: Global,
-    text: &[u8],
+    text: &'d [u8],
     out: &mut W,
-) -> Result<Outcome, ProgramFault<'static>>
+) -> Result<Outcome, ProgramFault<'d>>
     ensures ok { IfOk result (GoesOut (λ answer. answer ≡ deck_answer text.now)
         (W.contents out.old) (W.contents out.new)) }
     ensures err { IfErr result (AnswerEndsBy (λ answer. answer ≡ deck_answer text.now)
@@ -69,18 +69,25 @@ fn run_of(sections: Sections<'_>) -> (Source<'_>, View)
     ensures source { seen_source result.0 ≡ source_of_deck (seen_sections sections.entry) }
     ensures view { result.1 ≡ view_of_deck (seen_sections sections.entry) }
 {
-    let source = Source {
+    let view = View {
+        horizon: sections.horizon,
+        show: Show::All,
+        unit: TimeUnit::Ns,
+    };
+    (source_of_deck(&sections), view)
+}
+
+/// Returns the source that the sections of a deck describe: the default delay is 1 tick, the period 10 ticks,
+/// and the events are those of the schedule.
+pub fn source_of_deck<'a>(sections: &Sections<'a>) -> Source<'a>
+    ensures { seen_source result ≡ source_of_deck (seen_sections sections.now) }
+{
+    Source {
         bench: sections.texts.bench,
         delays: sections.texts.delays,
         stimuli: sections.texts.stimuli,
         default_delay: 1,
         period: 10,
         picks: Picks::Text(sections.texts.schedule),
-    };
-    let view = View {
-        horizon: sections.horizon,
-        show: Show::All,
-        unit: TimeUnit::Ns,
-    };
-    (source, view)
+    }
 }

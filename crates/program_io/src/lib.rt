@@ -18,7 +18,7 @@ mod program_fault;
 pub mod status;
 mod teller;
 
-pub use deck_run::deck;
+pub use deck_run::{deck, source_of_deck, write_deck};
 pub use exit::Exit;
 pub use fault_line::report;
 pub use input::{ReadFault, read_text};
@@ -28,4 +28,4 @@ pub use order_texts::{OrderTexts, read_texts};
 pub use outcome::{Outcome, report_outcome};
 pub use output::write_text;
 pub use program_fault::ProgramFault;
-pub use teller::{answer_deck, tell};
+pub use teller::{answer_deck, tell, unread_deck};

@@ -69,7 +69,7 @@ pub fn write_answer<W: Write, P: Progress>(
             *horizon,
             out,
         ),
-        Order::Info { .. } => write_info(alloc, one.bench.as_slice(), out),
+        Order::Info { source } => write_info(alloc, &source.source(one), out),
         Order::Cone { names, .. } => write_cone(alloc, one.bench.as_slice(), names.as_slice(), out),
         Order::Diff {
             first,

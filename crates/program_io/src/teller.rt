@@ -43,7 +43,7 @@ fn exit_of_input<R: Read, W: Write, E: Write>(
 }
 
 /// Returns the fault of a deck that couldn't be read.
-fn unread_deck(fault: ReadFault) -> ProgramFault<'static>
+pub fn unread_deck(fault: ReadFault) -> ProgramFault<'static>
     ensures { IsUnreadDeck fault result }
 {
     ProgramFault::of_read(fault, "stdin")

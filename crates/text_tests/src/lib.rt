@@ -2,6 +2,8 @@
 #![tactic(auto)]
 
 #[cfg(test)]
+mod bench_mistakes;
+#[cfg(test)]
 mod flow;
 #[cfg(test)]
 mod lines;
@@ -9,6 +11,8 @@ mod lines;
 mod mistakes;
 #[cfg(test)]
 mod near_names;
+#[cfg(test)]
+mod other_texts;
 #[cfg(test)]
 mod reading;
 #[cfg(test)]

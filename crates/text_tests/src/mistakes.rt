@@ -1,14 +1,17 @@
-//! Lines without a form, and what is said of the place at which each stops having one.
+//! Lines without a form, of all texts but .bench texts, and what is said of the place at which each stops having one.
 use explanations::{AtHand, Subject, fault_text, tables};
 use std::alloc::{AllocError, Global};
 use std::process::Abort;
 use std::test::Fail;
 
 /// A line without a form, and what is said of it.
-struct Mistake {
-    line: &'static str,
-    said: &'static str,
+pub(crate) struct Mistake {
+    pub(crate) line: &'static str,
+    pub(crate) said: &'static str,
 }
+
+// The circuit that the other texts are for.
+static CIRCUIT: &[u8] = b"INPUT(a)\nINPUT(b)\ny = NAND(a, b)\nq = DFF(y)\n";
 
 // What is printed of the last line of a text, with this number.
 fn told(alloc: Global, subject: Subject, number: u64, text: &[u8]) -> Result<Vec<u8>, AllocError> {
@@ -24,13 +27,13 @@ fn told(alloc: Global, subject: Subject, number: u64, text: &[u8]) -> Result<Vec
         word: None,
         number: None,
         reason: None,
-        circuit: None,
+        circuit: Some(CIRCUIT),
     };
     fault_text(alloc, &tables(), fault)
 }
 
 // What is printed of a line after other lines: the line, and what is said of it.
-fn is_said(
+pub(crate) fn is_said(
     rt: &impl Abort,
     alloc: Global,
     subject: Subject,
@@ -46,135 +49,11 @@ fn is_said(
     Ok(())
 }
 
-// Lines of .bench texts.
-static BENCH: [Mistake; 28] = [
-    Mistake {
-        line: "INPUT a",
-        said: "column 7, after 'INPUT': found 'a', expected '(' or '='",
-    },
-    Mistake {
-        line: "INPUT",
-        said: "at the end of the line, after 'INPUT': expected '(' or '='",
-    },
-    Mistake {
-        line: "output(y",
-        said: "at the end of the line, after 'output(y': expected ')'",
-    },
-    Mistake {
-        line: "y = NAND(a b)",
-        said: "column 12, after 'NAND(a': found 'b', expected ',' or ')'",
-    },
-    Mistake {
-        line: "y = NAND(a,",
-        said: "at the end of the line, after 'a,': expected a name",
-    },
-    Mistake {
-        line: "y = NAND(a, b",
-        said: "at the end of the line, after 'a, b': expected ',' or ')'",
-    },
-    Mistake {
-        line: "y = NAND(a, \\",
-        said: "at the end of the line, after 'a, \\': expected ',' or ')'",
-    },
-    Mistake {
-        line: "y = NAND(a,b,)",
-        said: "column 14, after 'b,': found ')', expected a name",
-    },
-    Mistake {
-        line: "y = NAND(,a)",
-        said: "column 10, after 'NAND(': found ',', expected ')' or a name",
-    },
-    Mistake {
-        line: "y = NAND(a,b);",
-        said: "column 14, after 'b)': found ';', expected the end of the line",
-    },
-    Mistake {
-        line: "y = AND();",
-        said: "column 10, after 'AND()': found ';', expected the end of the line",
-    },
-    Mistake {
-        line: "INPUT(a) INPUT(b)",
-        said: "column 10, after 'a)': found 'INPUT', expected the end of the line",
-    },
-    Mistake {
-        line: "// note",
-        said: "column 1: '//' doesn't begin a comment; # does",
-    },
-    Mistake {
-        line: "y = AND(NOT(a), b)",
-        said: "column 12, after 'AND(NOT': found '(', expected ',' or ')'",
-    },
-    Mistake {
-        line: "y = a & b",
-        said: "column 7, after 'y = a': found '&', expected '('",
-    },
-    Mistake {
-        line: "y = a&b",
-        said: "at the end of the line, after 'y = a&b': expected '('",
-    },
-    Mistake {
-        line: "y = a",
-        said: "at the end of the line, after 'y = a': expected '('",
-    },
-    Mistake {
-        line: "y = (a)",
-        said: "column 5, after 'y =': found '(', expected a gate word",
-    },
-    Mistake {
-        line: "y",
-        said: "at the end of the line, after 'y': expected '='",
-    },
-    Mistake {
-        line: "AND(y,a,b)",
-        said: "column 4, after 'AND': found '(', expected '='",
-    },
-    Mistake {
-        line: "INPUT(a, b)",
-        said: "column 8, after 'INPUT(a': found ',', expected ')'",
-    },
-    Mistake {
-        line: "INPUT(my net)",
-        said: "column 10, after 'INPUT(my': found 'net', expected ')'",
-    },
-    Mistake {
-        line: "my net = NOT(a)",
-        said: "column 4, after 'my': found 'net', expected '='",
-    },
-    Mistake {
-        line: "$n1 = NOT(a)",
-        said: "column 1: found '$n1', expected 'INPUT', 'OUTPUT' or a name",
-    },
-    Mistake {
-        line: "y = AND(a, $n1)",
-        said: "column 12, after 'a,': found '$n1', expected a name",
-    },
-    Mistake {
-        line: "= NOT(a)",
-        said: "column 1: found '=', expected 'INPUT', 'OUTPUT' or a name",
-    },
-    Mistake {
-        line: "INPUT(a#)",
-        said: "column 8, after 'INPUT(a': found a comment, which begins at #; expected ')'",
-    },
-    Mistake {
-        line: "  y = NAND(a  b) # both",
-        said: "column 15, after 'NAND(a': found 'b', expected ',' or ')'",
-    },
-];
-
-#[test]
-fn bench_lines(rt: HostRuntime) -> Result<(), Fail> {
-    for mistake in &BENCH {
-        is_said(&rt, rt.alloc(), Subject::Bench, "", 1, mistake)?;
-    }
-    Ok(())
-}
-
 // First lines of delay texts.
 static FIRST: [Mistake; 8] = [
     Mistake {
         line: "y 3ns",
-        said: "column 3, after 'y': found '3ns', expected TICKS, a whole number of 1 to 1000000",
+        said: "column 3, after 'y': found '3ns', expected TICKS, a whole number of 1 to 1000000\nticks have no unit: write y 3",
     },
     Mistake {
         line: "y #3",
@@ -182,19 +61,19 @@ static FIRST: [Mistake; 8] = [
     },
     Mistake {
         line: "y=3",
-        said: "at the end of the line, after 'y=3': expected TICKS, a whole number of 1 to 1000000",
+        said: "at the end of the line, after 'y=3': expected TICKS, a whole number of 1 to 1000000\nwrite y 3",
     },
     Mistake {
         line: "y = 3",
-        said: "column 3, after 'y': found '=', expected TICKS, a whole number of 1 to 1000000",
+        said: "column 3, after 'y': found '=', expected TICKS, a whole number of 1 to 1000000\nwrite y 3",
     },
     Mistake {
         line: "delay y 3",
-        said: "column 7, after 'delay': found 'y', expected TICKS, a whole number of 1 to 1000000",
+        said: "column 7, after 'delay': found 'y', expected TICKS, a whole number of 1 to 1000000\nadd the first line timing version 2",
     },
     Mistake {
         line: "timing version 3",
-        said: "column 16, after 'timing version': found '3', expected '2'",
+        said: "column 16, after 'timing version': found '3', expected '2'\na text of version 1 has no such line; one of version 2 begins with timing version 2",
     },
     Mistake {
         line: "timing version 2 x",
@@ -202,7 +81,7 @@ static FIRST: [Mistake; 8] = [
     },
     Mistake {
         line: "timing Version 2",
-        said: "column 8, after 'timing': found 'Version', expected 'version' or TICKS, a whole number of 1 to 1000000",
+        said: "column 8, after 'timing': found 'Version', expected 'version' or TICKS, a whole number of 1 to 1000000\nwrite timing version 2",
     },
 ];
 
@@ -250,11 +129,11 @@ static SECOND: [Mistake; 10] = [
     },
     Mistake {
         line: "DELAY y 3",
-        said: "column 1: found 'DELAY', expected 'delay', 'clock', 'init' or 'wire'",
+        said: "column 1: found 'DELAY', expected 'delay', 'clock', 'init' or 'wire'\nwrite delay y 3",
     },
     Mistake {
         line: "y 3",
-        said: "column 1: found 'y', expected 'delay', 'clock', 'init' or 'wire'",
+        said: "column 1: found 'y', expected 'delay', 'clock', 'init' or 'wire'\nwrite delay y 3",
     },
     Mistake {
         line: "timing version 2",
@@ -301,7 +180,7 @@ fn delay_lines_of_version_2(rt: HostRuntime) -> Result<(), Fail> {
 static STIMULI: [Mistake; 11] = [
     Mistake {
         line: "10ns a 1",
-        said: "column 1: found '10ns', expected TICK, a whole number of 0 to 10000000",
+        said: "column 1: found '10ns', expected TICK, a whole number of 0 to 10000000\nticks have no unit: write 10 a 1",
     },
     Mistake {
         line: "2.5 a 1",
@@ -313,15 +192,15 @@ static STIMULI: [Mistake; 11] = [
     },
     Mistake {
         line: "a 10 1",
-        said: "column 1: found 'a', expected TICK, a whole number of 0 to 10000000",
+        said: "column 1: found 'a', expected TICK, a whole number of 0 to 10000000\nwrite 10 a 1",
     },
     Mistake {
         line: "a=1",
-        said: "column 1: found 'a=1', expected TICK, a whole number of 0 to 10000000",
+        said: "column 1: found 'a=1', expected TICK, a whole number of 0 to 10000000\nfor a value from tick 0 on, write 0 a 1",
     },
     Mistake {
         line: "a 1",
-        said: "column 1: found 'a', expected TICK, a whole number of 0 to 10000000",
+        said: "column 1: found 'a', expected TICK, a whole number of 0 to 10000000\nfor a value from tick 0 on, write 0 a 1",
     },
     Mistake {
         line: "5",
@@ -333,11 +212,11 @@ static STIMULI: [Mistake; 11] = [
     },
     Mistake {
         line: "5 a 1 b 0",
-        said: "column 7, after '5 a 1': found 'b', expected the end of the line",
+        said: "column 7, after '5 a 1': found 'b', expected the end of the line\none change a line: 5 a 1 and 5 b 0",
     },
     Mistake {
         line: "0 a = 1",
-        said: "column 7, after '0 a =': found '1', expected the end of the line",
+        said: "column 7, after '0 a =': found '1', expected the end of the line\nwrite 0 a 1",
     },
     Mistake {
         line: "0123456789012345678901234567890123456789. a 1",
@@ -365,7 +244,7 @@ static SCHEDULE: [Mistake; 7] = [
     },
     Mistake {
         line: "Advance a",
-        said: "column 1: found 'Advance', expected 'advance' or 'deliver'",
+        said: "column 1: found 'Advance', expected 'advance' or 'deliver'\nwrite advance a",
     },
     Mistake {
         line: "advance",
@@ -421,7 +300,7 @@ static DECK: [Mistake; 7] = [
     },
     Mistake {
         line: "INPUT(a)",
-        said: "column 1: found 'INPUT(a)', expected '%nullsim'",
+        said: "this has the form of a line of a .bench text, which --bench takes; a deck is needed\nbegin with %nullsim and the horizon, such as %nullsim 20",
     },
 ];
 
@@ -439,7 +318,7 @@ static ODD: [(Subject, u64, &[u8], &str); 4] = [
         Subject::Bench,
         2,
         b"INPUT(a)\n\ty = NAND(a\tb)\r",
-        "line 2:  y = NAND(a b) \ncolumn 13, after 'NAND(a': found 'b', expected ',' or ')'\n",
+        "line 2:  y = NAND(a b) \ncolumn 13, after 'NAND(a': found 'b', expected ',' or ')'\nwrite y = NAND(a, b)\n",
     ),
     (
         Subject::Delays,

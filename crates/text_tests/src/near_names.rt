@@ -1,6 +1,8 @@
 //! Names that are near to each other, and what is suggested for a name that nothing has.
 use explanations::{AtHand, Subject, fault_text, is_one_edit, tables, unknown_fault_text};
 use std::alloc::{AllocError, Global};
+use std::process::Abort;
+use std::test::Fail;
 
 #[test]
 fn edits(rt: HostRuntime) {
@@ -69,6 +71,153 @@ fn nets_that_are_near(rt: HostRuntime) -> Result<(), AllocError> {
         ),
     ] {
         assert!(rt; said(rt.alloc(), Subject::Bench, "Undefined", line, b"")?.as_slice() == after);
+    }
+    Ok(())
+}
+
+/// A name that the first line uses and no line defines, the lines after it, and what is suggested.
+struct Missing {
+    name: &'static str,
+    lines: &'static str,
+    suggested: &'static str,
+}
+
+static CONSTANTS: [Missing; 6] = [
+    Missing {
+        name: "tie1",
+        lines: "",
+        suggested: "there are no constants: add the line INPUT(tie1), and the stimulus 0 tie1 1\n",
+    },
+    Missing {
+        name: "VSS",
+        lines: "",
+        suggested: "there are no constants: add the line INPUT(VSS), and the stimulus 0 VSS 0\n",
+    },
+    Missing {
+        name: "0",
+        lines: "INPUT(a0)",
+        suggested: "there are no constants: add the line INPUT(0), and the stimulus 0 0 0\n",
+    },
+    Missing {
+        name: "1",
+        lines: "INPUT(0)",
+        suggested: "",
+    },
+    Missing {
+        name: "2",
+        lines: "INPUT(a)",
+        suggested: "",
+    },
+    Missing {
+        name: "gnd",
+        lines: "INPUT(1)",
+        suggested: "there are no constants: add the line INPUT(gnd), and the stimulus 0 gnd 0\n",
+    },
+];
+
+static BITS: [Missing; 6] = [
+    Missing {
+        name: "d[007]",
+        lines: "INPUT(d[15:4])",
+        suggested: "line 2 defines 'd[15:4]'\na name with a range is one net; write a line for each bit, such as one for 'd[007]'\n",
+    },
+    Missing {
+        name: "d[4]",
+        lines: "INPUT(d[3:0])\nINPUT(d[4:7])",
+        suggested: "line 3 defines 'd[4:7]'\na name with a range is one net; write a line for each bit, such as one for 'd[4]'\n",
+    },
+    Missing {
+        name: "d[4]",
+        lines: "INPUT(d[5:0])\nINPUT(d[4:7])",
+        suggested: "",
+    },
+    Missing {
+        name: "d[1]",
+        lines: "INPUT(e[1:0])",
+        suggested: "",
+    },
+    Missing {
+        name: "d[1]",
+        lines: "INPUT(d[1:0]x)",
+        suggested: "",
+    },
+    Missing {
+        name: "d1",
+        lines: "INPUT(d[1:0])",
+        suggested: "",
+    },
+];
+
+static MARKS: [Missing; 6] = [
+    Missing {
+        name: "y",
+        lines: "y<= NOT(a)",
+        suggested: "line 2 defines 'y<'\na ':', ';' or '<' after a name is part of it\n",
+    },
+    Missing {
+        name: "y",
+        lines: "INPUT(y;)",
+        suggested: "line 2 defines 'y;'\na ':', ';' or '<' after a name is part of it\n",
+    },
+    Missing {
+        name: "y",
+        lines: "INPUT(y;)\nINPUT(y:)",
+        suggested: "",
+    },
+    Missing {
+        name: "!ab",
+        lines: "INPUT(ab)",
+        suggested: "line 2 defines 'ab'\nfor its inverse add the line !ab = NOT(ab)\n",
+    },
+    Missing {
+        name: "!a",
+        lines: "INPUT(b)",
+        suggested: "",
+    },
+    Missing {
+        name: "~a'",
+        lines: "INPUT(~a)",
+        suggested: "line 2 defines '~a'\nfor its inverse add the line ~a' = NOT(~a)\n",
+    },
+];
+
+fn is_suggested(rt: &impl Abort, alloc: Global, missing: &Missing) -> Result<(), Fail> {
+    let (name, lines, suggested) = (missing.name, missing.lines, missing.suggested);
+    let text = format!(in alloc; "OUTPUT({name})\n{lines}")?;
+    let wanted = format!(in alloc;
+        "line 1: OUTPUT({name})\nno line defines '{name}'\n{suggested}"
+    )?;
+    let told = said(
+        alloc,
+        Subject::Bench,
+        "Undefined",
+        text.as_str().as_bytes(),
+        b"",
+    )?;
+    assert!(rt; told.as_slice() == wanted.as_str().as_bytes());
+    Ok(())
+}
+
+#[test]
+fn constants(rt: HostRuntime) -> Result<(), Fail> {
+    for missing in &CONSTANTS {
+        is_suggested(&rt, rt.alloc(), missing)?;
+    }
+    Ok(())
+}
+
+#[test]
+fn bits_of_buses(rt: HostRuntime) -> Result<(), Fail> {
+    for missing in &BITS {
+        is_suggested(&rt, rt.alloc(), missing)?;
+    }
+    Ok(())
+}
+
+#[test]
+fn names_with_marks(rt: HostRuntime) -> Result<(), Fail> {
+    for missing in &MARKS {
+        is_suggested(&rt, rt.alloc(), missing)?;
     }
     Ok(())
 }

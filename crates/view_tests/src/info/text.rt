@@ -1,6 +1,7 @@
 //! Descriptions of whole circuits, worked out independently.
 use bench_text::read;
-use circuit_info::info_text;
+use circuit_info::{info, info_text};
+use design::Design;
 use fanin_cone::outside;
 use netlist::Netlist;
 use std::alloc::{AllocError, Global};
@@ -64,5 +65,22 @@ fn texts(rt: HostRuntime) -> Result<(), Fail> {
     for &(bench, text) in &TEXTS {
         is_told(&rt, rt.alloc(), bench, text)?;
     }
+    Ok(())
+}
+
+// Of a design: the longest paths come last.
+#[test]
+fn of_a_design(rt: HostRuntime) -> Result<(), Fail> {
+    let netlist = read(
+        rt.alloc(),
+        b"INPUT(a)\nOUTPUT(y)\nb = BUFF(a)\ny = NOT(a)\nq = DFF(b)",
+    )?;
+    let design = Design::build(rt.alloc(), netlist, b"b 3", b"", 2, 10)?;
+    let text = info(rt.alloc(), &design)?;
+    let wanted = b"nets 4\npins 3\ninputs 1\noutputs 1\nflip-flops 1\n\
+        gates 2\nAND 0\nNAND 0\nOR 0\nNOR 0\nXOR 0\nXNOR 0\nNOT 1\nBUF 1\n\
+        fan-in 1 b\nfan-out 2 a\nlevels 1\nunobserved b\nunobserved q\n\
+        longest-path-to-flip-flop 3 a b q\nlongest-path-to-output 2 a y\n";
+    assert!(&rt; text.as_slice() == wanted.as_slice());
     Ok(())
 }

@@ -8,15 +8,13 @@ loop-place-preserved c =
     let place = c.loop-place.place in
     let more = last_more (λ net. get_or c.args.ticks.now net 0) c.args.pins.now c.args.wires.now place c.loop-place-test.true
     (omega (arith, c.loop-place-test.true, c.requires.wires)) in
-    let few = c.requires.few (get_or c.args.pins.now place 0) in
-    let short = c.requires.short place 0 (omega (arith, c.loop-place-test.true, c.requires.wires)) in
     elim c.if-seen-last.branch [
       | then-seen-last w ↦ record {
-        last = omega (arith, more, c.loop-place.invariant.last, w.last-is, w.if-seen-last.true, c.from.ensures);
-        few = omega (arith, few, short, w.last-is, c.from.ensures);
+        last = omega (arith, more, c.loop-place.invariant.last, w.last-is, w.if-seen-last.true, c.seen_at-seen.ensures.seen);
+        few = omega (arith, w.last-is, c.seen_at-seen.ensures.few);
       }
       | else-seen-last w ↦ record {
-        last = omega (arith, more, c.loop-place.invariant.last, w.last-is, w.if-seen-last.false, c.from.ensures);
+        last = omega (arith, more, c.loop-place.invariant.last, w.last-is, w.if-seen-last.false, c.seen_at-seen.ensures.seen);
         few = omega (arith, c.loop-place.invariant.few, w.last-is);
       }
     ]

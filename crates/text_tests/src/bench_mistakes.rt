@@ -1,0 +1,252 @@
+//! Lines of .bench texts without a form, and what is said of the place at which each stops having one.
+use crate::mistakes::{Mistake, is_said};
+use explanations::Subject;
+use std::test::Fail;
+
+// Lines of .bench texts.
+static BENCH: [Mistake; 28] = [
+    Mistake {
+        line: "INPUT a",
+        said: "column 7, after 'INPUT': found 'a', expected '(' or '='\nwrite INPUT(a)",
+    },
+    Mistake {
+        line: "INPUT",
+        said: "at the end of the line, after 'INPUT': expected '(' or '='",
+    },
+    Mistake {
+        line: "output(y",
+        said: "at the end of the line, after 'output(y': expected ')'\nwrite output(y)",
+    },
+    Mistake {
+        line: "y = NAND(a b)",
+        said: "column 12, after 'NAND(a': found 'b', expected ',' or ')'\nwrite y = NAND(a, b)",
+    },
+    Mistake {
+        line: "y = NAND(a,",
+        said: "at the end of the line, after 'a,': expected a name",
+    },
+    Mistake {
+        line: "y = NAND(a, b",
+        said: "at the end of the line, after 'a, b': expected ',' or ')'\nwrite y = NAND(a, b)",
+    },
+    Mistake {
+        line: "y = NAND(a, \\",
+        said: "at the end of the line, after 'a, \\': expected ',' or ')'",
+    },
+    Mistake {
+        line: "y = NAND(a,b,)",
+        said: "column 14, after 'b,': found ')', expected a name\nwrite y = NAND(a, b)",
+    },
+    Mistake {
+        line: "y = NAND(,a)",
+        said: "column 10, after 'NAND(': found ',', expected ')' or a name\nwrite y = NAND(a)",
+    },
+    Mistake {
+        line: "y = NAND(a,b);",
+        said: "column 14, after 'b)': found ';', expected the end of the line\na line ends without a ';'",
+    },
+    Mistake {
+        line: "y = AND();",
+        said: "column 10, after 'AND()': found ';', expected the end of the line",
+    },
+    Mistake {
+        line: "INPUT(a) INPUT(b)",
+        said: "column 10, after 'a)': found 'INPUT', expected the end of the line\none statement a line: INPUT(a) and INPUT(b)",
+    },
+    Mistake {
+        line: "// note",
+        said: "column 1: '//' doesn't begin a comment; # does",
+    },
+    Mistake {
+        line: "y = AND(NOT(a), b)",
+        said: "column 12, after 'AND(NOT': found '(', expected ',' or ')'\none gate a line, n being a new name: n = NOT(a) and y = AND(n, b)",
+    },
+    Mistake {
+        line: "y = a & b",
+        said: "column 7, after 'y = a': found '&', expected '('",
+    },
+    Mistake {
+        line: "y = a&b",
+        said: "at the end of the line, after 'y = a&b': expected '('",
+    },
+    Mistake {
+        line: "y = a",
+        said: "at the end of the line, after 'y = a': expected '('",
+    },
+    Mistake {
+        line: "y = (a)",
+        said: "column 5, after 'y =': found '(', expected a gate word",
+    },
+    Mistake {
+        line: "y",
+        said: "at the end of the line, after 'y': expected '='",
+    },
+    Mistake {
+        line: "AND(y,a,b)",
+        said: "column 4, after 'AND': found '(', expected '='\nthe output of a gate comes first: y = AND(a, b)",
+    },
+    Mistake {
+        line: "INPUT(a, b)",
+        said: "column 8, after 'INPUT(a': found ',', expected ')'\none name a line: INPUT(a) and INPUT(b)",
+    },
+    Mistake {
+        line: "INPUT(my net)",
+        said: "column 10, after 'INPUT(my': found 'net', expected ')'",
+    },
+    Mistake {
+        line: "my net = NOT(a)",
+        said: "column 4, after 'my': found 'net', expected '='",
+    },
+    Mistake {
+        line: "$n1 = NOT(a)",
+        said: "column 1: found '$n1', expected 'INPUT', 'OUTPUT' or a name\nno name begins with '$'; rename it in each line: n1 = NOT(a)",
+    },
+    Mistake {
+        line: "y = AND(a, $n1)",
+        said: "column 12, after 'a,': found '$n1', expected a name\nno name begins with '$'; rename it in each line: y = AND(a, n1)",
+    },
+    Mistake {
+        line: "= NOT(a)",
+        said: "column 1: found '=', expected 'INPUT', 'OUTPUT' or a name",
+    },
+    Mistake {
+        line: "INPUT(a#)",
+        said: "column 8, after 'INPUT(a': found a comment, which begins at #; expected ')'\nwrite INPUT(a)",
+    },
+    Mistake {
+        line: "  y = NAND(a  b) # both",
+        said: "column 15, after 'NAND(a': found 'b', expected ',' or ')'\nwrite y = NAND(a, b)",
+    },
+];
+
+// Lines after those that define the nets a and b.
+static AFTER_NETS: [Mistake; 25] = [
+    Mistake {
+        line: "y = a",
+        said: "at the end of the line, after 'y = a': expected '('\na BUF has the value of its pin: y = BUF(a)",
+    },
+    Mistake {
+        line: "y = a & b",
+        said: "column 7, after 'y = a': found '&', expected '('\na gate is written NAME = GATE(NAME, NAME): y = AND(a, b)",
+    },
+    Mistake {
+        line: "y = a || b",
+        said: "column 7, after 'y = a': found '||', expected '('\na gate is written NAME = GATE(NAME, NAME): y = OR(a, b)",
+    },
+    Mistake {
+        line: "y = a ^ b",
+        said: "column 7, after 'y = a': found '^', expected '('\na gate is written NAME = GATE(NAME, NAME): y = XOR(a, b)",
+    },
+    Mistake {
+        line: "y = ~ b",
+        said: "column 7, after 'y = ~': found 'b', expected '('\na gate is written NAME = GATE(NAME, NAME): y = NOT(b)",
+    },
+    Mistake {
+        line: "y = a nand b",
+        said: "column 7, after 'y = a': found 'nand', expected '('\na gate is written NAME = GATE(NAME, NAME): y = nand(a, b)",
+    },
+    // No line defines c.
+    Mistake {
+        line: "y = a & c",
+        said: "column 7, after 'y = a': found '&', expected '('",
+    },
+    Mistake {
+        line: "y = NOT a",
+        said: "column 9, after 'y = NOT': found 'a', expected '('\nwrite y = NOT(a)",
+    },
+    Mistake {
+        line: "y = OR a, b",
+        said: "column 8, after 'y = OR': found 'a', expected '('\nwrite y = OR(a, b)",
+    },
+    Mistake {
+        line: "y = OR a b",
+        said: "column 8, after 'y = OR': found 'a', expected '('\nwrite y = OR(a, b)",
+    },
+    // An inverter has one pin.
+    Mistake {
+        line: "y = NOT(a b)",
+        said: "column 11, after 'NOT(a': found 'b', expected ',' or ')'",
+    },
+    // No gate has this word.
+    Mistake {
+        line: "y = NADN(a b)",
+        said: "column 12, after 'NADN(a': found 'b', expected ',' or ')'",
+    },
+    Mistake {
+        line: "not(y, a)",
+        said: "column 4, after 'not': found '(', expected '='\nthe output of a gate comes first: y = not(a)",
+    },
+    Mistake {
+        line: "WIRE(y, a)",
+        said: "column 5, after 'WIRE': found '(', expected '='",
+    },
+    Mistake {
+        line: "y AND(a, b)",
+        said: "column 3, after 'y': found 'AND', expected '='\nwrite y = AND(a, b)",
+    },
+    Mistake {
+        line: "y = NOT(a))",
+        said: "column 11, after 'a)': found ')', expected the end of the line\nwrite y = NOT(a)",
+    },
+    Mistake {
+        line: "y = NOT(a); z = NOT(b);",
+        said: "column 11, after 'a)': found ';', expected the end of the line\none statement a line: y = NOT(a) and z = NOT(b)",
+    },
+    Mistake {
+        line: "y = NOT(a) too",
+        said: "column 12, after 'a)': found 'too', expected the end of the line",
+    },
+    Mistake {
+        line: "output(c, d, e)",
+        said: "column 9, after 'output(c': found ',', expected ')'\none name a line: output(c) and output(d) and output(e)",
+    },
+    Mistake {
+        line: "y = AND(a, NOT(b))",
+        said: "column 15, after 'a, NOT': found '(', expected ',' or ')'\none gate a line, n being a new name: n = NOT(b) and y = AND(a, n)",
+    },
+    Mistake {
+        line: "y = NOT(AND(a, b))",
+        said: "column 12, after 'NOT(AND': found '(', expected ',' or ')'\none gate a line, n being a new name: n = AND(a, b) and y = NOT(n)",
+    },
+    // The name without its mark is another net's.
+    Mistake {
+        line: "$a = NOT(b)",
+        said: "column 1: found '$a', expected 'INPUT', 'OUTPUT' or a name",
+    },
+    Mistake {
+        line: "y = NAND(a, b \\",
+        said: "column 15, after 'a, b': found '\\', expected ',' or ')'\nwrite y = NAND(a, b)",
+    },
+    // Longer than what is shown.
+    Mistake {
+        line: "y23456789012345678901234567890123456789012345678901234567890 = NAND(a234567890123456789012345678 b)",
+        said: "column 98, after 'NAND(a234567890123456789012345678': found 'b', expected ',' or ')'",
+    },
+    Mistake {
+        line: "y = AND(NOT(a234567890123456789012345), b2345678901234567890, c)",
+        said: "column 12, after 'AND(NOT': found '(', expected ',' or ')'",
+    },
+];
+
+#[test]
+fn bench_lines_after_nets(rt: HostRuntime) -> Result<(), Fail> {
+    for mistake in &AFTER_NETS {
+        is_said(
+            &rt,
+            rt.alloc(),
+            Subject::Bench,
+            "INPUT(a)\nINPUT(b)\n",
+            3,
+            mistake,
+        )?;
+    }
+    Ok(())
+}
+
+#[test]
+fn bench_lines(rt: HostRuntime) -> Result<(), Fail> {
+    for mistake in &BENCH {
+        is_said(&rt, rt.alloc(), Subject::Bench, "", 1, mistake)?;
+    }
+    Ok(())
+}
