@@ -4,8 +4,9 @@
 The memory probes (crates/memory_probes) and each command of nullsim are run once for each of their requests for memory,
 which is then refused. After that nullsim is run over faulty streams and files, over texts that are cut off or changed at
 random, and over texts and circuits of the greatest size. Then come the answers in `cases/`, the examples of `explain`,
-products of a multiplier, the commands, pictures, prose and definitions of the pages, and the script that builds and starts
-the program. The last line is 'N passed, M failed', over all of these.
+products of a multiplier, designs that were made of Verilog, the commands, pictures, prose and definitions of the pages,
+the man page, the completions, the script that builds and starts the program, and what it installs. The last line is
+'N passed, M failed', over all of these.
 
     check.py [--random COUNT] [--seed FIRST]    the number of circuits and decks changed at random, and the first seed
 """
@@ -17,7 +18,10 @@ import time
 from typing import Callable
 
 import cases
+import completed
 import explained
+import installed
+import manual
 import pages
 import products
 import refused
@@ -25,6 +29,7 @@ import script
 import sizes
 import streams
 import texts
+import verilog
 from programs import CRATES, SECONDS, built, copy_for_all
 
 
@@ -67,7 +72,8 @@ def checks(refuser: refused.Refuser, folder: str, seeds: range) -> list:
     found += streams.cases(copy_for_all(program, folder), folder, deck())
     found += [*texts.cases(program, folder, seeds), *sizes.cases(program, folder)]
     found += [*cases.cases(program, folder), *explained.cases(program, folder), *products.cases(program, folder)]
-    return [*found, *pages.cases(program, folder), *script.cases(folder)]
+    found += [*verilog.cases(program), *pages.cases(program, folder), *manual.cases(program, folder)]
+    return [*found, *completed.cases(program), *script.cases(folder), *installed.cases(folder)]
 
 
 def fault_of(check: Callable[[], str | None]) -> str | None:

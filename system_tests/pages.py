@@ -19,7 +19,8 @@ STORED = {
     "examples/s27.trace": "trace --bench s27.bench --stimuli s27.stimuli --horizon 35",
 }
 
-# Commands in a page, and the text right after them, if any.
+# Commands in a page, and the text right after them, if any. They are run if they call nullsim, or read what its runs wrote.
+RUNS = ("./nullsim", "my.runs/")
 EXAMPLE = re.compile(r"^```sh\n(.*?)^```$(?:\n\n^```text\n(.*?)^```$)?", re.MULTILINE | re.DOTALL)
 
 # A part of a source in a page: its first line names the file, and a line of two dots is what is left out.
@@ -40,7 +41,8 @@ def stored_fault(program: Path, stored: Path, words: str) -> str | None:
 def examples_of(page: str) -> list[tuple[str, str | None]]:
     """The commands of nullsim in a page, each block with the text after it. The set-up is left out."""
     found = [(example[1], example[2]) for example in EXAMPLE.finditer(page)]
-    return [(commands, shown) for commands, shown in found if "./nullsim" in commands and ".ci/run" not in commands]
+    return [(commands, shown) for commands, shown in found
+            if any(part in commands for part in RUNS) and ".ci/run" not in commands]
 
 
 def example_fault(program: Path, commands: str, shown: str | None, folder: str) -> str | None:
@@ -140,9 +142,21 @@ def names_fault(program: Path) -> str | None:
     return None
 
 
+# The page whose commands need GNU parallel, which isn't on every machine. (Another program has the same name.)
+PARALLEL_PAGE = "docs/MANY_RUNS.md"
+
+
+def has_parallel() -> bool:
+    return shutil.which("parallel") is not None and run(["parallel", "--version"]).out.startswith(b"GNU parallel")
+
+
 def cases_of(program: Path, page: Path, folder: str) -> list[tuple[str, Callable[[], str | None]]]:
-    """Each example of a page and each part of a source in it, with its check."""
+    """Each example of a page and each part of a source in it, with its check. If a page needs a program that isn't there,
+    it has no checks, and a line says so."""
     found, text = [], prose.text_of(page)
+    if prose.name_of(page) == PARALLEL_PAGE and not has_parallel():
+        print(f"faults: the commands of {PARALLEL_PAGE} are left out, since GNU parallel isn't installed", flush=True)
+        return []
     for commands, shown in examples_of(text):
         name = f"{prose.name_of(page)}, {commands.splitlines()[0]}"
         found.append((name, lambda it=(program, commands, shown, folder): example_fault(*it)))

@@ -1,8 +1,8 @@
 """A multiplier under drawn stimuli: its products are those of arithmetic."""
 from pathlib import Path
-from typing import Iterator
 
 from programs import run
+from verilog import at_ends
 
 BITS = 8
 EVERY, VECTORS = 200, 100
@@ -38,23 +38,6 @@ def multiplier() -> str:
     return "\n".join(lines) + "\n"
 
 
-def shown_at_ends(dump: str) -> Iterator[dict[str, str]]:
-    """What each net shows at the last tick before each new vector, and at the horizon."""
-    names: dict[str, str] = {}
-    shown: dict[str, str] = {}
-    end = EVERY - 1
-    for line in dump.splitlines():
-        if line.startswith("$var"):
-            words = line.split()
-            names[words[3]] = words[4]
-        elif line[0] == "#":
-            while int(line[1:]) > end or int(line[1:]) == HORIZON == end:
-                yield dict(shown)
-                end += EVERY
-        elif line[0] in "01x":
-            shown[names[line[1:]]] = line[0]
-
-
 def number(shown: dict[str, str], letter: str, bits: int) -> int:
     return int("".join(shown[f"{letter}{bit}"] for bit in reversed(range(bits))), 2)
 
@@ -69,7 +52,7 @@ def products(program: Path, folder: str, seed: int) -> str | None:
     if drawn.status or dump.status:
         return f"the commands print {drawn.err!r} and {dump.err!r}"
     vectors = set()
-    for shown in shown_at_ends(dump.out.decode("ascii")):
+    for shown in at_ends(dump.out.decode("ascii"), EVERY):
         first, second, product = number(shown, "a", BITS), number(shown, "b", BITS), number(shown, "p", 2 * BITS)
         vectors.add((first, second))
         if first * second != product:

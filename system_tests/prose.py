@@ -50,7 +50,7 @@ HEADING = re.compile(r"^#+ +(.*)$", re.MULTILINE)
 SENTENCE_END = re.compile(r"(?<![.])[.!?][\"')*]*\s+")
 
 # A file of the repository, as pages cite it in inline code. A part in capitals alone is a placeholder.
-CITED = re.compile(r"`((?:\.ci|benchmarks|cases|crates|docs|examples|mutants|system_tests|tools)/[\w./-]*|[A-Z]+\.md)`")
+CITED = re.compile(r"`((?:\.ci|benchmarks|cases|completions|crates|docs|examples|man|mutants|system_tests|tools)/[\w./-]*|[A-Z]+\.md)`")
 PLACEHOLDER = re.compile(r"(?:^|/)[A-Z]+(?:\.(?!md)\w+)?(?:/|$)")
 
 

@@ -61,7 +61,8 @@ class Copy:
             written(self.kit / "bin" / name, text)
         for name in ("nullsim", "crates.txt"):
             shutil.copy(ROOT / name, self.top)
-        shutil.copytree(ROOT / "tools", self.top / "tools")
+        for name in ("tools", "man", "completions"):
+            shutil.copytree(ROOT / name, self.top / name)
         self.used: dict[str, list[str]] = {}
         for line in (ROOT / "crates.txt").read_text(encoding="utf-8").splitlines():
             name, _, libraries = line.partition(":")

@@ -22,6 +22,7 @@ DIFF = ("diff --net p --horizon 12 --first parity.bench --first-stimuli parity.s
 TWIN = ("twin --net p --horizon 12 --first parity.bench --first-stimuli parity.stimuli "
         "--second bigger.bench --second-stimuli bigger.stimuli --second-schedule bigger.schedule").split()
 HELP = ["--help"]
+EXPLAIN = "explain BadLine -v".split()
 # A dump of many times the bytes that a pipe holds.
 LONG = "run --bench oscillator.bench --stimuli oscillator.stimuli --horizon 1000000".split()
 
@@ -184,7 +185,7 @@ def cases(program: Path, folder: str, deck: bytes) -> list[tuple[str, Callable[[
         ("why a closed pipe takes nothing", lambda: told_why_to_closed_pipe(program)),
         ("counts to a full device", lambda: with_full_error(program, COUNTED, 0)),
     ]
-    for words in (RUN, COUNTED, PLAIN, DRAW, TRACE, WHY, STIMULI, CHECK, INFO, CONE, DIFF, TWIN, HELP, LONG):
+    for words in (RUN, COUNTED, PLAIN, DRAW, TRACE, WHY, STIMULI, CHECK, INFO, CONE, DIFF, TWIN, HELP, EXPLAIN, LONG):
         line = " ".join(words[:3])
         found += [
             (f"{line} .. to a full device", lambda words=words: to_full_device(program, words)),

@@ -146,13 +146,13 @@ def alone() -> Iterator[None]:
         yield
 
 
-def main() -> int:
+def main(name: str) -> int:
     if shutil.which("rt") is None:
         tell("command rt not found: to build the program, the Rattle toolchain must be on the PATH")
         return 2
     try:
         with alone():
-            build(sys.argv[1] if len(sys.argv) > 1 else PROGRAM)
+            build(name)
     except Failed as failed:
         tell(str(failed))
         return 2
@@ -163,4 +163,4 @@ def main() -> int:
 
 
 if __name__ == "__main__":
-    sys.exit(main())
+    sys.exit(main(sys.argv[1] if len(sys.argv) > 1 else PROGRAM))

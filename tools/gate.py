@@ -26,6 +26,8 @@ PROVED = re.compile(r"rt: (\w+) (?:proved$|is kept)")
 CLOSING = re.compile(r"(\d+) passed, (\d+) failed$")
 # The free memory with which another check begins beside `rt ci`, in bytes.
 ROOM = 4_000_000_000
+# The longest time for an update of the package lists, and for the installation of a package.
+INSTALL_SECONDS = 120
 
 
 class Part:
@@ -107,6 +109,21 @@ class Beside:
             yield printed(*task.result())
 
 
+def install_parallel() -> None:
+    """Installs GNU parallel, which the commands of docs/MANY_RUNS.md call, if it is missing and a registry is reached.
+    Otherwise these commands are left out."""
+    if shutil.which("parallel") or not shutil.which("apt-get") or os.geteuid() != 0:
+        return
+    quick = ["-qq", "-o", "Acquire::Retries=0", "-o", "Acquire::http::Timeout=10"]
+    for words in (["update"], ["install", "--yes", "--no-install-recommends", "parallel"]):
+        try:
+            subprocess.run(["apt-get", *quick, *words], stdin=subprocess.DEVNULL, stdout=subprocess.DEVNULL,
+                           stderr=subprocess.DEVNULL, env={**os.environ, "DEBIAN_FRONTEND": "noninteractive"},
+                           timeout=INSTALL_SECONDS, check=False)
+        except (OSError, subprocess.TimeoutExpired):
+            return
+
+
 def taken(part: str, begun: float) -> None:
     print(f"gate: {part} after {time.monotonic() - begun:.0f} seconds", file=sys.stderr, flush=True)
 
@@ -124,6 +141,7 @@ def gate(begun: float) -> Iterator[tuple[int, int]]:
         if failed:
             lanes.shutdown(cancel_futures=True)
             return
+        install_parallel()
         faults = Part([sys.executable, "system_tests/check.py"])
         for _ in faults.lines():
             pass

@@ -4,6 +4,7 @@ mod Counting
 mod Heights
 mod Infos
 mod Knowing
+mod LatePaths
 mod Levelling
 mod Links
 mod Longest

@@ -7,4 +7,5 @@ pub mod Known
 pub mod Text
 pub mod Paths
 pub mod PathText
+pub mod Periods
 pub mod InfoText

@@ -1,11 +1,12 @@
 //! Facts about levels, loops and the text alone.
-ghost use Rattle.std.specs.Prelude.{◌≡◌, ℕ, ◌≤◌, List};
+ghost use Rattle.std.specs.Prelude.{◌≡◌, ℕ, ◌≤◌, false, IsTrue, List};
 ghost use Rattle.netlist.specs.Netlist.{NetlistView};
 ghost use Rattle.design.specs.Design.{DesignView, IsDesign};
 ghost use Rattle.circuit_info.specs.Levels.{IsGateLoop, IsLevelling};
 ghost use Rattle.circuit_info.specs.Loops.{HasLevel, IsNamedLoop};
-ghost use Rattle.circuit_info.specs.Paths.{longest_to, HasNoLoop, IsPath};
+ghost use Rattle.circuit_info.specs.Paths.{longest_to, HasLoop, HasNoLoop, IsPath};
 ghost use Rattle.circuit_info.specs.PathText.{IsLongestPath};
+ghost use Rattle.circuit_info.specs.Periods.{is_late, is_loop_free, IsLatePath};
 ghost use Rattle.circuit_info.specs.Text.{IsInfoText};
 ghost use Rattle.circuit_info.specs.InfoText.{IsInfoOf};
 
@@ -36,6 +37,17 @@ pub fn longest_path()
         IsDesign design → HasNoLoop design.netlist → (path : List ℕ) × IsPath design net path (longest_to design net) }
     ensures nets { (design : DesignView) (net : ℕ) (path : List ℕ) →
         IsDesign design → HasNoLoop design.netlist → IsLongestPath design net path → IsPath design net path (longest_to design net) }
+{}
+
+/// If gates form no loop, a flip-flop is late exactly if a path to its pin takes more ticks than its period. The test
+/// for loops passes a netlist without one, and fails for each with one.
+pub fn late_flops_have_late_paths()
+    ensures some { (design : DesignView) (flop : ℕ) → IsDesign design → HasNoLoop design.netlist →
+        IsTrue (is_late design flop) → (path : List ℕ) × IsLatePath design flop path }
+    ensures each { (design : DesignView) (flop : ℕ) (path : List ℕ) → IsDesign design → HasNoLoop design.netlist →
+        IsLatePath design flop path → IsTrue (is_late design flop) }
+    ensures free { (netlist : NetlistView) → HasNoLoop netlist → IsTrue (is_loop_free netlist) }
+    ensures loops { (netlist : NetlistView) → HasLoop netlist → is_loop_free netlist ≡ false }
 {}
 
 /// A netlist has at most one info text.

@@ -11,6 +11,7 @@ mod loops;
 mod path_lines;
 mod path_nets;
 mod paths;
+mod periods;
 mod text;
 
 pub use counts::{fan_ins, fan_outs, first_greatest, gate_count, part_count};
@@ -18,4 +19,5 @@ pub use design_info::info;
 pub use levels::{Depths, greatest, levels_of};
 pub use path_lines::path_text;
 pub use paths::{longest_paths, ticks_to_pins};
+pub use periods::late_flops;
 pub use text::info_text;

@@ -228,21 +228,21 @@ module _ (logs : List LogView) (sources counts : List ℕ) (all : AreLogs logs s
 
   -- ---- its net sends
 
-  module _ (message : Message) (new : LogView) (new_is : new ≡ written message log) where
-    pub logs_written : AreLogs (slice_set logs net new) sources counts
-    logs_written =
+  module _ (messages : List Message) (new : LogView) (new_is : new ≡ written messages log) where
+    pub logs_written : 0 < length messages → AreLogs (slice_set logs net new) sources counts
+    logs_written some =
         subst (λ l. AreLogs (slice_set logs net l) sources counts) (sym new_is)
-        (logs_set (written message log) counts refl (log_written message log (counts_of net sources counts) is) (λ other differs. refl))
+        (logs_set (written messages log) counts refl (log_written messages log (counts_of net sources counts) is some) (λ other differs. refl))
 
-    pub lists_written : unread_lists (slice_set logs net new) sources counts ≡ sent net (message ∷ []) sources (unread_lists logs sources counts)
+    pub lists_written : unread_lists (slice_set logs net new) sources counts ≡ sent net messages sources (unread_lists logs sources counts)
     lists_written =
         ap (λ l. unread_lists (slice_set logs net l) sources counts) new_is
-        ∙ unread_sent logs (slice_set logs net (written message log)) net (message ∷ []) sources counts
+        ∙ unread_sent logs (slice_set logs net (written messages log)) net messages sources counts
         (λ k d h.
-        unread_here logs net log (written message log) _ at
-        ∙ unread_written message log (counts_of net sources counts) is _ (λ none. omega (arith, none, is.readers, h)) (is.within k d h)
-        ∙ ap (λ list. list ++ message ∷ []) (sym (unread_is logs net log _ at)))
-        (λ source count. unread_elsewhere logs net log (written message log) source count at)
+        unread_here logs net log (written messages log) _ at
+        ∙ unread_written messages log (counts_of net sources counts) is _ (λ none. omega (arith, none, is.readers, h)) (is.within k d h)
+        ∙ ap (λ list. list ++ messages) (sym (unread_is logs net log _ at)))
+        (λ source count. unread_elsewhere logs net log (written messages log) source count at)
 
   -- ---- a pin takes
 

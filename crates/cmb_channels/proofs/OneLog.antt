@@ -16,21 +16,21 @@ log_empty counts none = record {
   behind = sym (not_counted (is_behind (empty_log (length counts))) counts (λ k d h. le-ltb _ 0 (omega arith)));
 }
 
--- ---- a message more
+-- ---- messages more
 
-module _ (message : Message) (log : LogView) (counts : List ℕ) (is : IsLog log counts) where
+module _ (messages : List Message) (log : LogView) (counts : List ℕ) (is : IsLog log counts) where
   abbrev longer : LogView
-  longer = record log { behind = log.readers; messages = log.messages ++ message ∷ [] }
+  longer = record log { behind = log.readers; messages = log.messages ++ messages }
 
-  long : length longer.messages ≡ length log.messages + 1
-  long = length-append log.messages (message ∷ [])
+  long : length longer.messages ≡ length log.messages + length messages
+  long = length-append log.messages messages
 
-  -- no pin has taken the message
-  all_behind : longer.behind ≡ count_by (is_behind longer) counts
-  all_behind = is.readers ∙ sym (all_counted (is_behind longer) counts (λ k d h. lt-ltb _ _ (omega (arith, is.within k d h, long))))
+  -- no pin has taken them
+  all_behind : 0 < length messages → longer.behind ≡ count_by (is_behind longer) counts
+  all_behind some = is.readers ∙ sym (all_counted (is_behind longer) counts (λ k d h. lt-ltb _ _ (omega (arith, is.within k d h, long, some))))
 
-  pub log_written : IsLog (written message log) counts
-  log_written = go (log.readers == 0)
+  pub log_written : 0 < length messages → IsLog (written messages log) counts
+  log_written some = go (log.readers == 0)
     where
       go : (none : Bool) → IsLog (cond none log longer) counts
       go true = is
@@ -38,16 +38,27 @@ module _ (message : Message) (log : LogView) (counts : List ℕ) (is : IsLog log
         cut = is.cut;
         readers = is.readers;
         within = λ k d h. omega (arith, is.within k d h, long);
-        behind = all_behind;
+        behind = all_behind some;
       }
 
   pub unread_written : (count : ℕ) → (log.readers ≡ 0 → ⊥) → past log.cut count ≤ length log.messages →
-      unread (written message log) count ≡ unread log count ++ message ∷ []
+      unread (written messages log) count ≡ unread log count ++ messages
   unread_written count some within = go (log.readers == 0) refl
     where
-      go : (none : Bool) → (log.readers == 0) ≡ none → unread (cond none log longer) count ≡ unread log count ++ message ∷ []
+      go : (none : Bool) → (log.readers == 0) ≡ none → unread (cond none log longer) count ≡ unread log count ++ messages
       go true e = absurd (some (eqb-true log.readers 0 e))
-      go false e = drop-append-le (past log.cut count) log.messages (message ∷ []) within
+      go false e = drop-append-le (past log.cut count) log.messages messages within
+
+-- a log that pins read keeps them
+pub written_read : (messages : List Message) (log : LogView) → 0 < log.readers →
+    written messages log ≡ record log { behind = log.readers; messages = log.messages ++ messages }
+written_read messages log read = go (log.readers == 0) refl
+  where
+    go : (none : Bool) → (log.readers == 0) ≡ none →
+        cond none log (record log { behind = log.readers; messages = log.messages ++ messages })
+        ≡ record log { behind = log.readers; messages = log.messages ++ messages }
+    go true e = absurd (let is = eqb-true log.readers 0 e in omega (arith, is, read))
+    go false e = refl
 
 -- ---- messages removed
 

@@ -53,11 +53,11 @@ pub record LogView : Type 0 where
 abbrev pub empty_log : ℕ → LogView
 empty_log readers = record { readers = readers; behind = 0; cut = 0; messages = [] }
 
--- the log with one more message, which no pin has taken; if no pin reads the log, it keeps nothing
-abbrev pub written : Message → LogView → LogView
-written message log =
+-- the log with these messages more, which no pin has taken; if no pin reads the log, it keeps nothing
+abbrev pub written : List Message → LogView → LogView
+written messages log =
     if log.readers == 0 then log
-    else record log { behind = log.readers; messages = log.messages ++ message ∷ [] }
+    else record log { behind = log.readers; messages = log.messages ++ messages }
 
 -- the log without its first messages
 abbrev pub shortened : ℕ → LogView → LogView

@@ -47,6 +47,23 @@ pub trait Fabric: Drop {
         ensures sources { sources self.new ≡ sources self.old }
         ensures nets { nets self.new ≡ nets self.old };
 
+    /// Sends some messages in order, as [`send`](Self::send) sends each of them. An empty list takes no memory.
+    ///
+    /// After an `AllocError` the first of them may be sent.
+    fn send_all(&mut self, net: u32, messages: &[Message]) -> Result<(), AllocError>
+        requires { net < nets self.old }
+        ensures ok { OnOk result (lists self.new ≡ sent net messages.now (sources self.old) (lists self.old)) }
+        ensures pins { length (lists self.new) ≡ length (lists self.old) }
+        ensures sources { sources self.new ≡ sources self.old }
+        ensures nets { nets self.new ≡ nets self.old }
+        ensures memory { OnErr result (0 < length messages.now) }
+    {
+        for message in messages {
+            self.send(net, *message)?;
+        }
+        Ok(())
+    }
+
     /// Takes the oldest message that waits at the pin. If none waits, returns `None` and changes nothing.
     /// Messages at other pins are unaffected, including those from the same net. Allocates nothing.
     fn take(&mut self, pin: u32) -> Option<Message>

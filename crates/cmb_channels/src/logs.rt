@@ -20,9 +20,10 @@ use std::marker::Model;
 /// messages that it has taken. What waits at a pin is one slice of a log.
 ///
 /// A message needs sixteen bytes, for all pins together. Sending, taking and counting take amortized
-/// constant time, for any number of pins that the net feeds and of messages that are taken at once.
+/// constant time for each message that is sent, for any number of pins that the net feeds and of messages
+/// that are taken at once.
 ///
-/// Once every pin of a net has taken all, the net's next message empties its log. If a log is full before
+/// Once every pin of a net has taken all, the net's next message empties its log. If a log has no room before
 /// that, and half of it or more has been taken by every pin, this part is removed; otherwise the log
 /// grows. The part is looked for only if the log has 16 messages or more, and as many as the net feeds
 /// pins. A log gives no memory back. It has room for at most 16 messages, for two for each pin, or for
@@ -98,28 +99,29 @@ impl Logs {
         most
     }
 
-    /// Returns how many messages of a net to keep at least, before one more is added to its log: none if all
+    /// Returns how many messages of a net to keep at least, before `more` are added to its log: none if all
     /// are taken, what some pin hasn't taken if the log would have to grow, and otherwise all.
-    fn to_keep(&self, net: u32) -> usize
+    fn to_keep(&self, net: u32, more: usize) -> usize
         requires { net < self.now.nets }
         ensures { most_waiting net self.now.sources self.now.lists ≤ result }
     {
         let log = &self.logs[net as usize];
         if log.is_read() {
             0
-        } else if log.is_full() {
+        } else if log.is_full(more) {
             self.kept(net) as usize
         } else {
             log.len()
         }
     }
 
-    /// Makes room in the log of a net by removing messages that all pins have taken. Changes no list.
-    fn make_room(&mut self, net: u32)
+    /// Makes room for `more` messages in the log of a net by removing messages that all pins have taken.
+    /// Changes no list.
+    fn make_room(&mut self, net: u32, more: usize)
         requires { net < self.old.nets }
         ensures { self.new ≡ self.old }
     {
-        let kept = self.to_keep(net);
+        let kept = self.to_keep(net, more);
         self.logs[net as usize].cut_to(kept);
     }
 }
@@ -157,8 +159,25 @@ impl Fabric for Logs {
         // A send from a net that feeds no pin allocates nothing.
         ensures memory { OnErr result (0 < length (pins_fed net self.old.sources)) }
     {
-        self.make_room(net);
-        self.logs[net as usize].write(message)?;
+        self.send_all(net, &[message])
+    }
+
+    fn send_all(&mut self, net: u32, messages: &[Message]) -> Result<(), AllocError>
+        requires { net < self.old.nets }
+        ensures ok { OnOk result (self.new.lists ≡ sent net messages.now self.old.sources self.old.lists) }
+        // No message is sent if there is no memory for all of them.
+        ensures err { OnErr result (self.new.lists ≡ self.old.lists) }
+        ensures pins { length self.new.lists ≡ length self.old.lists }
+        ensures sources { self.new.sources ≡ self.old.sources }
+        ensures nets { self.new.nets ≡ self.old.nets }
+        ensures memory { OnErr result (0 < length messages.now) }
+        ensures fed { OnErr result (0 < length (pins_fed net self.old.sources)) }
+    {
+        if messages.is_empty() {
+            return Ok(());
+        }
+        self.make_room(net, messages.len());
+        self.logs[net as usize].write(messages)?;
         Ok(())
     }
 

@@ -2,6 +2,7 @@ mod Ahead
 mod Alike
 mod Applied
 mod AtOnce
+mod AtRest
 pub mod CallerLemmas
 mod Completion
 mod Consequences

@@ -25,12 +25,16 @@ const TO: &str = "The last tick to draw: at most the horizon, which is the defau
 const STEP: &str = "The number of ticks in a column: at least 1; there can be at most 1000\n\
      columns";
 
+const AT_END: &str = "Show in each column the value at its last tick, whatever is before it: with\n\
+     a clock's period as the step, a table of cycles";
+
 const SVG: &str = "Draw the diagram as an SVG picture, which browsers show";
 
-static OPTIONS: [Described; 4] = [
+static OPTIONS: [Described; 5] = [
     Described("from", Takes::Number, Absent::Default("0"), FROM),
     Described("to", Takes::Number, Absent::Nothing, TO),
     Described("step", Takes::Number, Absent::Default("1"), STEP),
+    Described("at-end", Takes::Nothing, Absent::Nothing, AT_END),
     Described("svg", Takes::Nothing, Absent::Nothing, SVG),
 ];
 
@@ -70,6 +74,7 @@ fn view_given<'a>(alloc: Global, options: &ArgMatches<'a>) -> Result<DiagramView
         from: number_given(options, "from"),
         to: options.get_one("to").unwrap_or(horizon),
         step: number_given(options, "step"),
+        at_end: options.get_flag("at-end"),
         form: form_given(options),
     })
 }

@@ -45,7 +45,7 @@ fn drawn<W: Write>(
     if design.nets() < 2 || waves.len() != 2 {
         return None;
     }
-    let columns = Columns::new(2, 3, 1, Horizon::new(5).ok()?).ok()?;
+    let columns = Columns::new(2, 3, 1, false, Horizon::new(5).ok()?).ok()?;
     let mut out = Follower::of(text);
     let Err(fault) = draw(alloc, &mut out, design, &[0, 1], waves, columns, form) else {
         return teller.fine("timing_diagram::draw", out.is_whole());

@@ -1,6 +1,2 @@
 mod Chains
-mod Edits
 mod Left
-mod LineFronts
-mod LineTokens
-mod WholeLines

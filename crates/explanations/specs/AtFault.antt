@@ -1,52 +1,18 @@
 -- The message about the word at fault, as far as the lines of its text determine it.
-use Rattle.std.specs.Prelude.{ℕ, ◌==◌, ◌||◌, ◌&&◌, not, nat_lt, Bool, false, if◌then◌else◌, List, [], ◌∷◌, ◌++◌, drop, filter, length, slice_get, codes, bytes_eq, Option, None, Some, unwrap_or}
-use Rattle.std.specs.List.{find, last_or, list_any, prefix_len, slice_split}
+use Rattle.std.specs.Prelude.{ℕ, ◌==◌, ◌&&◌, not, nat_lt, Bool, if◌then◌else◌, List, [], ◌∷◌, ◌++◌, drop, filter, slice_get, codes, bytes_eq, Option, None, Some, unwrap_or}
+use Rattle.std.specs.List.{find, last_or, list_any, prefix_len}
 use Rattle.std.specs.Option.{option_map_or}
-use Rattle.std.specs.Str.{str_eq_ignore_ascii_case}
-use Rattle.explanations.specs.declared.subject.Subject.{Subject}
-use Rattle.explanations.specs.declared.subject.Subject.TheVariants.{Bench, Delays, Stimuli, Schedule}
-use Rattle.explanations.specs.Excerpt.{line_at, line_told, shown_line}
-use Rattle.texts.specs.Text.{code_lines, code_of, is_empty, is_plain, is_white, words_of}
+use Rattle.mistakes.specs.declared.subject.Subject.{Subject}
+use Rattle.mistakes.specs.BenchLines.{defined_by, defines, is_among, long_net, nth_name, used_by}
+use Rattle.mistakes.specs.declared.subject.Subject.TheVariants.{Bench, Delays, Stimuli, Schedule}
+use Rattle.mistakes.specs.Lines.{line_at}
+use Rattle.explanations.specs.Excerpt.{line_told, shown_line}
+use Rattle.texts.specs.Text.{code_lines, code_of, is_empty, is_plain, words_of}
 
 -- ---- the words of a line without its comment
 
 abbrev pub word_at : ℕ → List ℕ → Option (List ℕ)
 word_at place code = slice_get (words_of code) place
-
--- white space, or a mark of a .bench line
-abbrev pub is_gap : ℕ → Bool
-is_gap byte = is_white byte || list_any (λ mark. mark == byte) (codes "(),=")
-
--- what is between them in a .bench line: names, and words such as NAND
-abbrev pub names_in : List ℕ → List (List ℕ)
-names_in code = filter (λ name. not (is_empty name)) (slice_split is_gap code)
-
-abbrev pub nth_name : ℕ → List ℕ → Option (List ℕ)
-nth_name place code = slice_get (names_in code) place
-
--- ---- the nets that a .bench line defines and uses
-
--- `NAME = GATE(NAME, NAME)`, and neither `INPUT(NAME)` nor `OUTPUT(NAME)`
-abbrev pub is_assignment : List ℕ → Bool
-is_assignment code = list_any (λ byte. byte == 61) code
-
--- the word INPUT, in any case of its letters
-abbrev pub is_input_word : List ℕ → Bool
-is_input_word word = str_eq_ignore_ascii_case word (codes "INPUT")
-
-abbrev pub begins_with_input : List ℕ → Bool
-begins_with_input code = option_map_or is_input_word (nth_name 0 code) false
-
--- the net that the line defines
-abbrev pub defined_by : List ℕ → Option (List ℕ)
-defined_by code =
-    if is_assignment code then nth_name 0 code
-    else if begins_with_input code then nth_name 1 code
-    else None
-
--- the nets that the line uses: the pins of a gate, or an output
-abbrev pub used_by : List ℕ → List (List ℕ)
-used_by code = drop (if is_assignment code then 2 else 1) (names_in code)
 
 -- ---- the topic of a line
 
@@ -108,12 +74,6 @@ earlier_line subject number topic text =
 
 -- ---- the name that no line defines
 
-abbrev pub is_net : Option (List ℕ) → List ℕ → Bool
-is_net net name = option_map_or (bytes_eq name) net false
-
-abbrev pub defines : List ℕ → ℕ × List ℕ → Bool
-defines name line = is_net (defined_by line.1) name
-
 abbrev pub is_undefined : List ℕ → List ℕ → Bool
 is_undefined text name = not (list_any (defines name) (code_lines text))
 
@@ -123,9 +83,6 @@ undefined_in code text = find (is_undefined text) (used_by code)
 
 -- ---- the word at fault, by its place in the line
 
-abbrev pub is_among : List (List ℕ) → List ℕ → Bool
-is_among names name = list_any (bytes_eq name) names
-
 -- the faults about a net that doesn't exist, or isn't of the kind that is needed
 abbrev pub of_nets : List (List ℕ)
 of_nets = codes "UnknownNet" ∷ codes "IsInput" ∷ codes "NotAFlop" ∷ codes "NotAnInput" ∷ []
@@ -133,16 +90,6 @@ of_nets = codes "UnknownNet" ∷ codes "IsInput" ∷ codes "NotAFlop" ∷ codes 
 -- the faults about the third word
 abbrev pub of_thirds : List (List ℕ)
 of_thirds = codes "BadPin" ∷ codes "BadPeriod" ∷ codes "BadValue" ∷ []
-
--- longer than a name may be
-abbrev pub is_long : List ℕ → Bool
-is_long name = nat_lt 255 (length name)
-
--- the first net with such a name: the one that an assignment defines, or else one that the line uses
-abbrev pub long_net : List ℕ → Option (List ℕ)
-long_net code =
-    if is_assignment code && is_long (unwrap_or (nth_name 0 code) []) then nth_name 0 code
-    else find is_long (used_by code)
 
 abbrev pub is_unplain : List ℕ → Bool
 is_unplain word = not (is_plain word)

@@ -2,16 +2,18 @@
 -- and what else is known of this fault, or if nothing is, what it means and what is needed.
 use Rattle.std.specs.Prelude.{ℕ, ◌==◌, if◌then◌else◌, List, [], ◌++◌, flat_map, codes, decimal, option_and_then, Option, None, Some}
 use Rattle.explanations.specs.declared.explanation.Explanation.{Explanation}
-use Rattle.explanations.specs.declared.subject.Subject.{Subject}
+use Rattle.mistakes.specs.declared.subject.Subject.{Subject}
 use Rattle.explanations.specs.declared.table.Table.{Table}
 use Rattle.explanations.specs.AtFault.{at_fault, word_told}
-use Rattle.explanations.specs.Corrected.{corrected}
-use Rattle.explanations.specs.Excerpt.{excerpt, line_at, unless_empty}
+use Rattle.mistakes.specs.Corrected.{corrected}
+use Rattle.mistakes.specs.Lines.{line_at, unless_empty}
+use Rattle.explanations.specs.Excerpt.{excerpt}
 use Rattle.explanations.specs.Foreign.{foreign_text}
 use Rattle.explanations.specs.OtherParts.{part_at_fault}
-use Rattle.explanations.specs.Places.{misplaced}
+use Rattle.mistakes.specs.Places.{misplaced}
 use Rattle.explanations.specs.Suggestion.{suggestion}
-use Rattle.explanations.specs.Explained.{is_called, meaning_line, subject_number, title_of, wanted_line}
+use Rattle.mistakes.specs.Subjects.{subject_number, title_of}
+use Rattle.explanations.specs.Explained.{is_called, meaning_line, wanted_line}
 
 -- ---- what it means
 

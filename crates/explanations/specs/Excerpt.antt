@@ -1,10 +1,5 @@
 -- Lines of a text, as they are shown.
-use Rattle.std.specs.Prelude.{ℕ, ◌-◌, ◌==◌, ◌||◌, ◌&&◌, nat_lt, if◌then◌else◌, List, [], ◌++◌, map, take, length, slice_get, codes, decimal, Option, None, Some}
-use Rattle.texts.specs.Text.{is_empty, lines_of}
-
--- the line of a text by its number, from 1
-abbrev pub line_at : ℕ → List ℕ → Option (List ℕ)
-line_at number text = if number == 0 then None else slice_get (lines_of text) (number - 1)
+use Rattle.std.specs.Prelude.{ℕ, ◌-◌, ◌==◌, ◌||◌, ◌&&◌, nat_lt, if◌then◌else◌, List, [], ◌++◌, map, take, length, codes, decimal, Option, None, Some}
 
 -- white space as a space, and what isn't printable as ?
 abbrev pub shown_byte : ℕ → ℕ
@@ -25,7 +20,3 @@ line_told said number (Some line) = codes "line " ++ decimal number ++ said ++ s
 
 abbrev pub excerpt : ℕ → Option (List ℕ) → List ℕ
 excerpt number line = line_told (codes ": ") number line
-
--- a text, or another one if it is empty
-abbrev pub unless_empty : List ℕ → List ℕ → List ℕ
-unless_empty text other = if is_empty text then other else text

@@ -1,15 +1,18 @@
 -- A refused text that looks like one of another kind, which nullsim doesn't read.
-use Rattle.std.specs.Prelude.{ℕ, ◌+◌, ◌==◌, ◌||◌, ◌&&◌, not, Bool, true, false, if◌then◌else◌, List, [], ◌∷◌, ◌++◌, length, take, codes, decimal, bytes_eq, Option, None, Some, unwrap_or}
-use Rattle.std.specs.List.{find, list_all, list_any, prefix_len}
+use Rattle.std.specs.Prelude.{ℕ, ◌+◌, ◌||◌, ◌&&◌, not, Bool, false, if◌then◌else◌, List, [], ◌∷◌, ◌++◌, length, take, codes, decimal, bytes_eq, Option, None, Some, unwrap_or}
+use Rattle.std.specs.List.{find, list_all, prefix_len}
 use Rattle.std.specs.Option.{is_some, option_and_then, option_map_or, option_or}
 use Rattle.texts.specs.Text.{code_of, is_white, number_of}
 use Rattle.explanations.specs.declared.foreign.Foreign.{Foreign}
 use Rattle.explanations.specs.declared.foreign.Foreign.TheVariants.{Utf8Mark, Utf16Little, Utf16Big, Gzip, Verilog, Blif, Aiger, Edif, Dump, Comment}
-use Rattle.explanations.specs.declared.subject.Subject.{Subject}
-use Rattle.explanations.specs.declared.subject.Subject.TheVariants.{Bench}
-use Rattle.explanations.specs.AtFault.{is_among, word_at}
-use Rattle.explanations.specs.Excerpt.{line_at, shown_line}
-use Rattle.explanations.specs.Explained.{title_of}
+use Rattle.mistakes.specs.declared.subject.Subject.{Subject}
+use Rattle.mistakes.specs.declared.subject.Subject.TheVariants.{Bench}
+use Rattle.mistakes.specs.Tokens.{is_mark_word}
+use Rattle.mistakes.specs.BenchLines.{is_among}
+use Rattle.explanations.specs.AtFault.{word_at}
+use Rattle.mistakes.specs.Lines.{line_at}
+use Rattle.explanations.specs.Excerpt.{shown_line}
+use Rattle.mistakes.specs.Subjects.{title_of}
 use Rattle.explanations.specs.OtherTexts.{form_of, other_text_line}
 
 abbrev pub begins_with : List ℕ → List ℕ → Bool
@@ -27,16 +30,12 @@ by_first_bytes text =
 
 -- ---- by the first words of the line at fault
 
--- it begins with a mark of a .bench line
-abbrev pub is_marked : List ℕ → Bool
-is_marked word = list_any (begins_with word) (codes "(" ∷ codes ")" ∷ codes "," ∷ codes "=" ∷ [])
-
 -- a second word that begins with none, or with one
 abbrev pub has_word_next : List ℕ → Bool
-has_word_next code = option_map_or (λ word. not (is_marked word)) (word_at 1 code) false
+has_word_next code = option_map_or (λ word. not (is_mark_word word)) (word_at 1 code) false
 
 abbrev pub has_mark_next : List ℕ → Bool
-has_mark_next code = option_map_or is_marked (word_at 1 code) false
+has_mark_next code = option_map_or is_mark_word (word_at 1 code) false
 
 -- the other words that begin a line of Verilog
 abbrev pub verilog_words : List (List ℕ)

@@ -5,9 +5,10 @@ use Rattle.std.specs.List.{list_any, position_or_len}
 use Rattle.std.specs.Option.{option_map_or}
 use Rattle.explanations.specs.declared.other_parts.OtherPart.{OtherPart}
 use Rattle.explanations.specs.declared.other_parts.OtherPart.TheVariants.{Zero}
-use Rattle.explanations.specs.AtFault.{is_among, quoted_told}
+use Rattle.mistakes.specs.BenchLines.{is_among}
+use Rattle.explanations.specs.AtFault.{quoted_told}
 use Rattle.explanations.specs.Excerpt.{shown_line}
-use Rattle.explanations.specs.Near.{differ_by_case, only_one}
+use Rattle.mistakes.specs.Near.{differ_by_case, only_one}
 use Rattle.explanations.specs.Nets.{defined_told, nets_in}
 use Rattle.explanations.specs.OtherParts.{constant_or_digit}
 use Rattle.texts.specs.Text.{is_empty, number_of}

@@ -2,7 +2,8 @@
 use Rattle.std.specs.Prelude.{ℕ, List, ◌++◌, flat_map, codes, decimal}
 use Rattle.std.specs.List.{find}
 use Rattle.std.specs.Option.{option_to_list}
-use Rattle.explanations.specs.AtFault.{defined_by, defines, number_or_none, quoted_told}
+use Rattle.mistakes.specs.BenchLines.{defined_by, defines}
+use Rattle.explanations.specs.AtFault.{number_or_none, quoted_told}
 use Rattle.texts.specs.Text.{code_lines}
 
 -- the net that a line defines, if any

@@ -1,14 +1,14 @@
 -- Parts of circuits that other tools have, and nullsim hasn't.
-use Rattle.std.specs.Prelude.{ℕ, ◌==◌, ◌||◌, ◌&&◌, nat_lt, not, Bool, true, false, if◌then◌else◌, List, [], ◌∷◌, ◌++◌, length, take, codes, bytes_eq, Option, None, Some, unwrap_or}
+use Rattle.std.specs.Prelude.{ℕ, ◌||◌, ◌&&◌, nat_lt, Bool, if◌then◌else◌, List, [], ◌∷◌, ◌++◌, length, take, codes, bytes_eq, Option, None, Some, unwrap_or}
 use Rattle.std.specs.List.{list_any}
 use Rattle.std.specs.Option.{is_none, option_map_or}
 use Rattle.std.specs.Str.{str_eq_ignore_ascii_case}
 use Rattle.explanations.specs.declared.other_parts.OtherPart.{OtherPart}
 use Rattle.explanations.specs.declared.other_parts.OtherPart.TheVariants.{Multiplexer, Latch, WithReset, ClockPin, Table, Zero, One}
 use Rattle.texts.specs.Text.{code_of}
-use Rattle.explanations.specs.declared.subject.Subject.{Subject}
-use Rattle.explanations.specs.declared.subject.Subject.TheVariants.{Bench}
-use Rattle.explanations.specs.AtFault.{is_assignment, nth_name, undefined_in}
+use Rattle.mistakes.specs.declared.subject.Subject.{Subject}
+use Rattle.mistakes.specs.declared.subject.Subject.TheVariants.{Bench}
+use Rattle.mistakes.specs.BenchLines.{is_assignment, nth_name}
 use Rattle.explanations.specs.Excerpt.{shown_line}
 use Rattle.explanations.specs.Foreign.{begins_with}
 

@@ -3,11 +3,12 @@ use Rattle.std.specs.Prelude.{ℕ, ◌==◌, ◌||◌, ◌&&◌, not, Bool, fals
 use Rattle.std.specs.List.{list_any}
 use Rattle.std.specs.Option.{option_map_or}
 use Rattle.std.specs.Str.{str_eq_ignore_ascii_case}
-use Rattle.explanations.specs.declared.subject.Subject.{Subject}
-use Rattle.explanations.specs.declared.subject.Subject.TheVariants.{Bench, Delays, Stimuli, Schedule, Deck}
-use Rattle.explanations.specs.AtFault.{is_among, is_assignment, is_net, nth_name, word_at}
-use Rattle.explanations.specs.Explained.{subject_number, title_of}
-use Rattle.explanations.specs.Places.{misplaced}
+use Rattle.mistakes.specs.declared.subject.Subject.{Subject}
+use Rattle.mistakes.specs.declared.subject.Subject.TheVariants.{Bench, Delays, Stimuli, Schedule, Deck}
+use Rattle.mistakes.specs.BenchLines.{is_among, is_assignment, is_net, nth_name}
+use Rattle.explanations.specs.AtFault.{word_at}
+use Rattle.mistakes.specs.Subjects.{subject_number, title_of}
+use Rattle.mistakes.specs.Places.{misplaced}
 use Rattle.texts.specs.Text.{code_lines, is_empty}
 
 -- ---- the forms

@@ -4,11 +4,12 @@ use Rattle.std.specs.List.{find}
 use Rattle.std.specs.Option.{option_map_or}
 use Rattle.std.specs.Str.{all_ascii_digits, str_eq_ignore_ascii_case}
 use Rattle.std.specs.Char.{to_ascii_uppercase}
-use Rattle.explanations.specs.declared.subject.Subject.{Subject}
-use Rattle.explanations.specs.AtFault.{nth_name, topic_of, undefined_in}
-use Rattle.explanations.specs.Excerpt.{line_at}
+use Rattle.mistakes.specs.declared.subject.Subject.{Subject}
+use Rattle.mistakes.specs.BenchLines.{nth_name}
+use Rattle.explanations.specs.AtFault.{topic_of, undefined_in}
+use Rattle.mistakes.specs.Lines.{line_at}
 use Rattle.explanations.specs.Missing.{missing_told}
-use Rattle.explanations.specs.Near.{near_among}
+use Rattle.mistakes.specs.Near.{near_among}
 use Rattle.explanations.specs.Nets.{defined_told, nets_in}
 use Rattle.texts.specs.Text.{code_of, is_empty}
 

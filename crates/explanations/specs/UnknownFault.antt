@@ -2,7 +2,7 @@
 use Rattle.std.specs.Prelude.{ℕ, List, ◌++◌, flat_map, map, codes, Option, None, Some}
 use Rattle.explanations.specs.declared.explanation.Explanation.{Explanation}
 use Rattle.explanations.specs.declared.table.Table.{Table}
-use Rattle.explanations.specs.Near.{near_among}
+use Rattle.mistakes.specs.Near.{near_among}
 
 -- the names of the faults of a table, and of all tables
 abbrev pub names_in : List Explanation → List (List ℕ)

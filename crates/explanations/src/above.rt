@@ -3,8 +3,8 @@ ghost use Rattle.std.specs.Prelude.{◌≡◌, option_map};
 ghost use Rattle.explanations.specs.AtFault.{is_above, line_above, number_or_none};
 ghost use Rattle.explanations.specs.Seen.{seen_topic};
 
-use crate::subject::Subject;
 use crate::topic::{Topic, is_same, topic_of};
+use mistakes::Subject;
 use texts::code_lines;
 
 /// Returns the number of the last line before the one with this number that has the same topic, or 0

@@ -1,15 +1,15 @@
 //! The message about the word at fault.
 ghost use Rattle.std.specs.Prelude.{◌≡◌, ◌++◌, option_map, None, OnOk};
 ghost use Rattle.std.specs.List.{find, last_or};
-ghost use Rattle.explanations.specs.AtFault.{at_fault, at_fault_in, bench_word, earlier_line, is_among, is_unplain, of_nets, of_repeats, of_thirds, quoted_told, too, topic_of, undefined_told, word_at_fault, word_told};
+ghost use Rattle.mistakes.specs.BenchLines.{is_among};
+ghost use Rattle.explanations.specs.AtFault.{at_fault, at_fault_in, bench_word, earlier_line, is_unplain, of_nets, of_repeats, of_thirds, quoted_told, too, topic_of, undefined_told, word_at_fault, word_told};
 ghost use Rattle.texts.specs.Text.{words_of};
 
 use crate::above::line_above;
-use crate::bench_lines::{long_net, nth_name};
-use crate::excerpt::{line_at, push_line, push_shown};
-use crate::subject::Subject;
+use crate::excerpt::{push_line, push_shown};
 use crate::topic::{topic_of, word_at};
 use crate::undefined::undefined_in;
+use mistakes::{Subject, line_at, long_net, nth_name};
 use std::alloc::{AllocError, Global};
 use texts::{code_of, is_plain, words_of};
 

@@ -1,20 +1,18 @@
 //! The message about a fault that occurred.
 ghost use Rattle.std.specs.Prelude.{◌≡◌, ◌++◌, flat_map, option_and_then, option_map, string_bytes, IfOk, OnOk};
 ghost use Rattle.explanations.specs.AtHand.{corrected_or_name, hint_if_called, hint_of, hints_in, number_line, part_or_name, sharper, sharper_or_hints, told_at_hand, told_of_kind, told_of_own_kind};
-ghost use Rattle.explanations.specs.Excerpt.{line_at};
+ghost use Rattle.mistakes.specs.Lines.{line_at};
 ghost use Rattle.explanations.specs.Seen.{seen_fault};
 
 use crate::at_fault::{push_at_fault, push_word};
-use crate::corrections::corrected;
-use crate::excerpt::{line_at, push_excerpt};
+use crate::excerpt::push_excerpt;
 use crate::explanation::Explanation;
 use crate::foreign::foreign_text;
 use crate::other_parts::part_at_fault;
-use crate::places::misplaced;
-use crate::subject::Subject;
 use crate::suggestion::push_suggestion;
 use crate::table::Table;
 use crate::telling::{push_meaning, push_wanted};
+use mistakes::{Subject, corrected, line_at, misplaced};
 use std::alloc::{AllocError, Global};
 
 /// A fault that occurred.

@@ -3,14 +3,15 @@ ghost use Rattle.std.specs.Prelude.{◌≡◌, ◌≤◌, ◌++◌, false, lengt
 ghost use Rattle.std.specs.List.{prefix_len};
 ghost use Rattle.std.specs.Option.{option_map_or};
 ghost use Rattle.texts.specs.Text.{is_white};
-ghost use Rattle.explanations.specs.AtFault.{is_among, word_at};
-ghost use Rattle.explanations.specs.Foreign.{begun_by, begun_text, column_text, by_first_bytes, by_first_word, by_line, comment_mark, comment_line, comment_told, dump_words, first_column, foreign_kind, foreign_line, foreign_told, has_five_numbers, has_mark_next, has_word_next, is_aiger, is_blif, is_edif, is_marked, is_number_at, is_verilog, language_told, verilog_words, blif_words, foreign_text, may_be_foreign};
+ghost use Rattle.mistakes.specs.BenchLines.{is_among};
+ghost use Rattle.explanations.specs.AtFault.{word_at};
+ghost use Rattle.explanations.specs.Foreign.{begun_by, begun_text, column_text, by_first_bytes, by_first_word, by_line, comment_mark, comment_line, comment_told, dump_words, first_column, foreign_kind, foreign_line, foreign_told, has_five_numbers, has_mark_next, has_word_next, is_aiger, is_blif, is_edif, is_number_at, is_verilog, language_told, verilog_words, blif_words, foreign_text, may_be_foreign};
 
-use crate::excerpt::{line_at, push_shown};
+use crate::excerpt::push_shown;
 use crate::other_texts::{form_of, push_other_text};
-use crate::subject::Subject;
 use crate::topic::word_at;
 use crate::words::is;
+use mistakes::{Subject, begins_with_mark, line_at};
 use std::alloc::{AllocError, Global};
 use texts::{code_of, is_white, number};
 
@@ -201,7 +202,7 @@ fn has_word_next(code: &[u8]) -> bool
     ensures { result ≡ has_word_next code.now }
 {
     match word_at(code, 1) {
-        Some(word) => !is_marked(word),
+        Some(word) => !begins_with_mark(word),
         None => false,
     }
 }
@@ -211,18 +212,9 @@ fn has_mark_next(code: &[u8]) -> bool
     ensures { result ≡ has_mark_next code.now }
 {
     match word_at(code, 1) {
-        Some(word) => is_marked(word),
+        Some(word) => begins_with_mark(word),
         None => false,
     }
-}
-
-fn is_marked(word: &[u8]) -> bool
-    ensures { result ≡ is_marked word.now }
-{
-    word.starts_with(b"(")
-        || word.starts_with(b")")
-        || word.starts_with(b",")
-        || word.starts_with(b"=")
 }
 
 /// Returns whether a text with this fault may be of another kind.

@@ -2,10 +2,10 @@
 ghost use Rattle.std.specs.Prelude.{◌≡◌, ◌++◌, map, option_map, IfOk, OnOk};
 ghost use Rattle.std.specs.Char.{to_ascii_uppercase};
 ghost use Rattle.std.specs.List.{find};
-ghost use Rattle.explanations.specs.Near.{near_among};
+ghost use Rattle.mistakes.specs.Near.{near_among};
 ghost use Rattle.explanations.specs.Suggestion.{between, gate_told, gate_words, gate_written_out, is_numbered, other_gate_told};
 
-use crate::near::near_among;
+use mistakes::near_among;
 use std::alloc::{AllocError, Global};
 
 /// The words for a gate or a flip-flop.

@@ -2,15 +2,15 @@
 ghost use Rattle.std.specs.Prelude.{◌≡◌, ◌++◌, ◌∷◌, [], codes, filter, map, option_map, IfOk, OnOk};
 ghost use Rattle.std.specs.List.{list_any};
 ghost use Rattle.std.specs.Option.{option_map_or};
-ghost use Rattle.explanations.specs.AtFault.{is_among};
+ghost use Rattle.mistakes.specs.BenchLines.{is_among};
 ghost use Rattle.explanations.specs.Missing.{alike_hint, alike_told, bracketed, constant_value, cut_at, for_inverse, has_bit, has_kin, inside_of, inverse_told, its_input, its_stimulus, is_alike, is_between, is_bit_of, is_followed, is_in_range, is_inverse_of, is_number, is_preceded, marks_after, missing_constant, missing_told, no_constant_told, no_constants, not_text, only_alike, up_to_bracket};
 
 use crate::at_fault::push_quoted;
 use crate::excerpt::push_shown;
-use crate::near::{has_by_case, only_one};
 use crate::nets::{nets_in, push_defined};
 use crate::other_parts::{OtherPart, constant_or_digit, push_net, push_value};
 use crate::words::is;
+use mistakes::{has_by_case, only_one};
 use std::alloc::{AllocError, Global};
 use texts::{first_place, number};
 

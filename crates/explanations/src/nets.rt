@@ -1,12 +1,12 @@
 //! The nets that the lines of a .bench text define.
 ghost use Rattle.std.specs.Prelude.{◌≡◌, ◌++◌, map, option_map, IfOk, OnOk};
 ghost use Rattle.std.specs.Option.{option_to_list};
-ghost use Rattle.explanations.specs.AtFault.{defined_by, is_net};
+ghost use Rattle.mistakes.specs.BenchLines.{defined_by, is_net};
 ghost use Rattle.explanations.specs.Nets.{defined_told, line_of_net, nets_in};
 
 use crate::above::number_or_none;
 use crate::at_fault::push_quoted;
-use crate::bench_lines::defined_by;
+use mistakes::defined_by;
 use std::alloc::{AllocError, Global};
 use texts::code_lines;
 

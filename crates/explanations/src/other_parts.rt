@@ -1,12 +1,11 @@
 //! Parts of circuits that other tools have, and what to write instead.
-ghost use Rattle.std.specs.Prelude.{◌≡◌, ◌++◌, codes, option_map, take, IfOk, OnOk};
+ghost use Rattle.std.specs.Prelude.{◌≡◌, ◌++◌, codes, option_map, IfOk, OnOk};
 ghost use Rattle.std.specs.Str.{str_eq_ignore_ascii_case};
 ghost use Rattle.explanations.specs.Excerpt.{shown_line};
 ghost use Rattle.explanations.specs.OtherParts.{begins_called, clock_pin, constant_of, constant_or_digit, constant_text, input_text, is_table, is_with_reset, lone_word, other_part, part_at_fault, part_line, part_of_line, part_of_word, part_text, stimulus_text};
 
-use crate::bench_lines::{is_assignment, nth_name};
 use crate::excerpt::push_shown;
-use crate::subject::Subject;
+use mistakes::{Subject, is_assignment, nth_name, up_to};
 use std::alloc::{AllocError, Global};
 use texts::code_of;
 
@@ -137,14 +136,7 @@ fn is_called(word: &[u8], name: &str) -> bool
 fn begins_called(word: &[u8], name: &str) -> bool
     ensures { result ≡ begins_called word.now name.now }
 {
-    beginning_of(word, name.len()).eq_ignore_ascii_case(name.as_bytes())
-}
-
-/// Returns the first bytes of a word, or all if there are fewer.
-fn beginning_of(word: &[u8], count: usize) -> &[u8]
-    ensures { result.now ≡ take count word.now }
-{
-    &word[..count.min(word.len())]
+    up_to(word, name.len()).eq_ignore_ascii_case(name.as_bytes())
 }
 
 /// Returns what to write instead of the part that a line asks for, if the line is one of a circuit and there isn't

@@ -2,14 +2,12 @@
 ghost use Rattle.std.specs.Prelude.{◌≡◌, ◌++◌, ◌&&◌, option_map, IfOk, OnOk};
 ghost use Rattle.std.specs.List.{list_any};
 ghost use Rattle.texts.specs.Text.{code_lines};
-ghost use Rattle.explanations.specs.AtFault.{is_among, is_assignment, is_net, nth_name};
+ghost use Rattle.mistakes.specs.BenchLines.{is_among, is_assignment, is_net, nth_name};
 ghost use Rattle.explanations.specs.OtherTexts.{drives, form_of, has_form_in, has_form_text, is_driven, is_port, is_stimulus, is_sure_delay, kind_of, kind_text, may_have_delays, needed_text, other_text, other_text_line, other_text_told, other_than, taken_by, values};
 
-use crate::bench_lines::{is_assignment, nth_name};
-use crate::places::misplaced;
-use crate::subject::Subject;
 use crate::topic::word_at;
 use crate::words::is;
+use mistakes::{Subject, is_assignment, misplaced, nth_name};
 use std::alloc::{AllocError, Global};
 use texts::code_lines;
 

@@ -3,15 +3,12 @@
 ghost use Rattle.std.specs.Prelude.{◌≡◌, ◌++◌, option_and_then, option_map, OnOk};
 ghost use Rattle.explanations.specs.Suggestion.{code_at, for_gate, for_missing, for_net, for_undefined, for_undefined_in, near_net_told, suggestion, unknown_net};
 
-use crate::bench_lines::nth_name;
-use crate::excerpt::line_at;
 use crate::gate_words::push_gate;
 use crate::missing::missing_text;
-use crate::near::near_among;
 use crate::nets::{nets_in, push_defined};
-use crate::subject::Subject;
 use crate::topic::topic_of;
 use crate::undefined::undefined_in;
+use mistakes::{Subject, line_at, near_among, nth_name};
 use std::alloc::{AllocError, Global};
 use texts::code_of;
 

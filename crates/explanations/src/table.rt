@@ -10,7 +10,7 @@ use crate::options::{COLUMNS, DRIVES, NAMES, SETTINGS, TICKS};
 use crate::program::PROGRAM;
 use crate::schedule::SCHEDULE;
 use crate::stimuli::STIMULI;
-use crate::subject::Subject;
+use mistakes::Subject;
 
 /// The explanations of the faults of a subject, in the order of its rules.
 #[derive(Clone, Copy, Debug)]

@@ -4,8 +4,8 @@ ghost use Rattle.std.specs.List.{list_any};
 ghost use Rattle.explanations.specs.Explained.{all_names, both_texts, example_line, example_text, explained, explanation_of, has_called, meaning_line, name_behind, names_line, told_if_called, told_of, wanted_line};
 
 use crate::explanation::{Example, Explanation};
-use crate::subject::Subject;
 use crate::table::Table;
+use mistakes::Subject;
 use std::alloc::{AllocError, Global};
 use std::fmt::Write;
 

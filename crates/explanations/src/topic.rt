@@ -5,8 +5,7 @@ ghost use Rattle.explanations.specs.AtFault.{delay_topic, is_same, of_net, pin_o
 ghost use Rattle.explanations.specs.Seen.{seen_topic};
 ghost use Rattle.texts.specs.Text.{words_of};
 
-use crate::bench_lines::defined_by;
-use crate::subject::Subject;
+use mistakes::{Subject, defined_by};
 use texts::words_of;
 
 /// The topic of a line: its net; in a delay text of version 2 also its first word, and for wires the

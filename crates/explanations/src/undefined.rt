@@ -1,8 +1,9 @@
 //! The name that no line of a .bench text defines.
 ghost use Rattle.std.specs.Prelude.{◌≡◌, filter, map, not, option_map, IfOk};
-ghost use Rattle.explanations.specs.AtFault.{is_net, undefined_in};
+ghost use Rattle.mistakes.specs.BenchLines.{is_net};
+ghost use Rattle.explanations.specs.AtFault.{undefined_in};
 
-use crate::bench_lines::{defined_by, used_by};
+use mistakes::{defined_by, used_by};
 use std::alloc::{AllocError, Global};
 use texts::code_lines;
 

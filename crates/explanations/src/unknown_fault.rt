@@ -1,11 +1,11 @@
 //! A name that no fault has.
 ghost use Rattle.std.specs.Prelude.{◌≡◌, ◌++◌, ◌∷◌, [], flat_map, map, option_map, IfOk, OnOk};
-ghost use Rattle.explanations.specs.Near.{near_among};
+ghost use Rattle.mistakes.specs.Near.{near_among};
 ghost use Rattle.explanations.specs.UnknownFault.{fault_names, hint_told, names_in, unknown_fault};
 
 use crate::explanation::Explanation;
-use crate::near::near_among;
 use crate::table::Table;
+use mistakes::near_among;
 use std::alloc::{AllocError, Global};
 
 /// Returns the message about a name that no fault of the tables has, with the only fault name near to it, if

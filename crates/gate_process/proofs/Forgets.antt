@@ -76,6 +76,12 @@ forgets known tick count ok inside cut start =
         value_after-dropped known.wave.before known.wave.changes tick count at inside cut (omega arith)
         ∙ value_after-ahead last last rest tick at rise (omega arith)) tick refl
 
+-- where there are none, nothing is forgotten
+pub forgets_none : (known : Knowledge) (tick : ℕ) → IsKnowledge known → length known.wave.changes ≡ 0 → (tick ≡ 0 → known.wave.before ≡ Unknown) →
+    known ≡ forgetting tick known
+forgets_none known tick ok none start =
+    forgets known tick 0 ok (omega arith) ((λ k d low high. absurd (omega arith)), (λ k d low high. absurd (omega (arith, none, high)))) start
+
 pub forgotten_is_known : (tick : ℕ) (known : Knowledge) → IsKnowledge (forgetting tick known)
 forgotten_is_known tick known = record {
   wave = IsWave-wave_of (value_at known.wave) tick known.frontier;

@@ -6,7 +6,7 @@ use Rattle.logic3.specs.Wave.{changes_between, joined}
 use Rattle.gate_process.specs.Knowledge.{news_of}
 use Rattle.gate_process.specs.Step.{ProcessState, ProcessView, next_frontier, reckoned, advanced, news, drained}
 use Rattle.gate_process.specs.Truth.{IsProcess}
-use Rattle.gate_process.specs.Quiet.{IsQuiet, AreQuiet}
+use Rattle.gate_process.specs.Quiet.{IsQuiet, KnowsTo, AreQuiet, AreHeard, AreAtRest}
 use Rattle.gate_process.proofs.Advanced.{advanced_of}
 use Rattle.gate_process.proofs.Events.{advanced_is_process}
 use Rattle.gate_process.proofs.Stays.{advanced_stays}
@@ -92,3 +92,58 @@ module _ (processes : List ProcessView) (quiet : List Bool) (are : AreQuiet proc
       go at found (inl (here, is)) (inr (other, raised)) runs = absurd (other here)
       go at found (inr (other, is)) (inl (here, raised)) runs = absurd (other here)
       go at found (inr (other, is)) (inr (apart, raised)) runs = are.stays at found is raised runs
+
+-- ---- what their pins know
+
+module _ (processes : List ProcessView) (quiet : List Bool) (heard : List ℕ) (are : AreHeard processes quiet heard) (net : ℕ) (process : ProcessView) where
+  -- a process changed, and its flag and its tick stayed
+  pub process_knows : ((tick : ℕ) → slice_get quiet net ≡ Some true → slice_get heard net ≡ Some tick → process.failed ≡ false → KnowsTo tick process.state) →
+      AreHeard (slice_set processes net process) quiet heard
+  process_knows still = record {
+    ticks = are.ticks ∙ sym (length-set processes net process);
+    knows = λ at found tick is flag to runs. go at found tick (get_of_set processes net process at found is) flag to runs;
+  }
+    where
+      go : (at : ℕ) (found : ProcessView) (tick : ℕ) → ((at ≡ net) × (process ≡ found)) ⊎ ((at ≢ net) × (slice_get processes at ≡ Some found)) →
+          slice_get quiet at ≡ Some true → slice_get heard at ≡ Some tick → found.failed ≡ false → KnowsTo tick found.state
+      go at found tick (inl (here, is)) flag to runs =
+          subst (λ (p : ProcessView). KnowsTo tick p.state) is
+          (still tick (subst (λ n. slice_get quiet n ≡ Some true) here flag) (subst (λ n. slice_get heard n ≡ Some tick) here to)
+          (ap (λ (p : ProcessView). p.failed) is ∙ runs))
+      go at found tick (inr (other, is)) flag to runs = are.knows at found tick is flag to runs
+
+  -- a process changed, and its flag was lowered
+  pub none_known : AreHeard (slice_set processes net process) (slice_set quiet net false) heard
+  none_known = record {
+    ticks = are.ticks ∙ sym (length-set processes net process);
+    knows = λ at found tick is raised to runs.
+        go at found tick (get_of_set processes net process at found is) (get_of_set quiet net false at true raised) to runs;
+  }
+    where
+      go : (at : ℕ) (found : ProcessView) (tick : ℕ) → ((at ≡ net) × (process ≡ found)) ⊎ ((at ≢ net) × (slice_get processes at ≡ Some found)) →
+          ((at ≡ net) × (false ≡ true)) ⊎ ((at ≢ net) × (slice_get quiet at ≡ Some true)) → slice_get heard at ≡ Some tick →
+          found.failed ≡ false → KnowsTo tick found.state
+      go at found tick is (inl (here, raised)) to runs = cc
+      go at found tick (inl (here, is)) (inr (other, raised)) to runs = absurd (other here)
+      go at found tick (inr (other, is)) (inr (apart, raised)) to runs = are.knows at found tick is raised to runs
+
+  -- a process changed, and its flag and its tick were set
+  pub known_set : (flag : Bool) (to : ℕ) → (process.failed ≡ false → KnowsTo to process.state) →
+      AreHeard (slice_set processes net process) (slice_set quiet net flag) (slice_set heard net to)
+  known_set flag to now = record {
+    ticks = length-set heard net to ∙ are.ticks ∙ sym (length-set processes net process);
+    knows = λ at found tick is raised at_tick runs.
+        go at found tick (get_of_set processes net process at found is) (get_of_set quiet net flag at true raised)
+        (get_of_set heard net to at tick at_tick) runs;
+  }
+    where
+      go : (at : ℕ) (found : ProcessView) (tick : ℕ) → ((at ≡ net) × (process ≡ found)) ⊎ ((at ≢ net) × (slice_get processes at ≡ Some found)) →
+          ((at ≡ net) × (flag ≡ true)) ⊎ ((at ≢ net) × (slice_get quiet at ≡ Some true)) →
+          ((at ≡ net) × (to ≡ tick)) ⊎ ((at ≢ net) × (slice_get heard at ≡ Some tick)) → found.failed ≡ false → KnowsTo tick found.state
+      go at found tick (inl (here, is)) raised (inl (same, at_tick)) runs =
+          subst (λ n. KnowsTo n found.state) at_tick
+          (subst (λ (p : ProcessView). KnowsTo to p.state) is (now (ap (λ (p : ProcessView). p.failed) is ∙ runs)))
+      go at found tick (inl (here, is)) raised (inr (other, at_tick)) runs = absurd (other here)
+      go at found tick (inr (other, is)) raised (inl (here, at_tick)) runs = absurd (other here)
+      go at found tick (inr (other, is)) (inl (here, raised)) (inr (apart, at_tick)) runs = absurd (other here)
+      go at found tick (inr (other, is)) (inr (there, raised)) (inr (apart, at_tick)) runs = are.knows at found tick is raised at_tick runs

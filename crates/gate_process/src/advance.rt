@@ -228,6 +228,6 @@ pub fn keep_all(net: &OwnNet<'_>, received: &mut [Received], frontier: u64)
         slice_get received.new place ≡ Some (keeping (oldest_asked net.now place frontier) known) }
 {
     for (place, pin) in received.iter_mut().enumerate() {
-        pin.keep(net.oldest_asked(place, frontier));
+        pin.keep(net, place, frontier);
     }
 }

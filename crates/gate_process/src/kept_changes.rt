@@ -1,7 +1,8 @@
 //! Changes as pins keep them.
-ghost use Rattle.std.specs.Prelude.{◌≡◌, ◌+◌, ◌≤◌, [], ◌∷◌, ◌++◌, length, drop, nat_le, nat_lt, OnOk, OnErr};
+ghost use Rattle.std.specs.Prelude.{◌≡◌, ◌==◌, ◌+◌, ◌≤◌, [], ◌∷◌, ◌++◌, length, drop, nat_le, nat_lt, OnOk, OnErr};
 ghost use Rattle.std.specs.List.{prefix_len};
 ghost use Rattle.logic3.specs.declared.change.Change.{Change};
+ghost use Rattle.logic3.specs.Rising.{TicksRise};
 ghost use Rattle.logic3.specs.Wave.{value_in_the_end};
 ghost use Rattle.timing_text.specs.Ranges.{most_ticks};
 
@@ -87,6 +88,13 @@ impl KeptChanges {
         &self.changes.as_slice()[self.start..]
     }
 
+    /// Returns whether there are none.
+    pub fn is_empty(&self) -> bool
+        ensures { result ≡ (length self.now == 0) }
+    {
+        self.as_slice().is_empty()
+    }
+
     /// Adds a change at the end. An `AllocError` changes nothing.
     pub fn push(&mut self, change: Change) -> Result<(), AllocError>
         requires { change.tick ≤ most_ticks }
@@ -127,11 +135,17 @@ pub fn last_kept(before: Value, changes: &[KeptChange]) -> Value
     }
 }
 
-/// Returns the number of leading changes before a tick, in as many steps.
+/// Returns the number of leading changes before a tick, in as many steps, or at once if all are.
 pub fn kept_below(changes: &[KeptChange], tick: u64) -> usize
+    requires { TicksRise changes.now }
     ensures count { result ≡ prefix_len (λ (change : Change). nat_lt change.tick tick) changes.now }
     ensures within { result ≤ length changes.now }
 {
+    if let Some(last) = changes.last() {
+        if last.is_before(tick) {
+            return changes.len();
+        }
+    }
     changes
         .iter()
         .take_while(|change| change.is_before(tick))

@@ -3,12 +3,12 @@ ghost use Rattle.std.specs.List.{list_any};
 ghost use Rattle.timing_text.specs.Ranges.{most_ticks};
 ghost use Rattle.cmb_channels.specs.Kinds.{is_change};
 ghost use Rattle.gate_process.specs.Step.{running, started_process, pin_frontier, pin_last, heard, heard_below, wanted_at, wanted_messages, safe_of, next_frontier, advanced, news, drained, drained_changes};
-ghost use Rattle.gate_process.specs.Quiet.{IsQuiet};
+ghost use Rattle.gate_process.specs.Quiet.{IsQuiet, KnowsTo};
 ghost use Rattle.gate_process.specs.Truth.{IsProcess, CanHear, CanHearAll};
 
 use crate::advance::{Span, extend, goes_on, keep_all};
 use crate::own_net::OwnNet;
-use crate::received::{Received, least_frontier, nothing_received};
+use crate::received::{Received, least_frontier, least_received, nothing_received};
 use cmb_channels::{Logged, Message};
 use design::Design;
 use logic3::{Change, Value, Waveform};
@@ -110,7 +110,7 @@ impl<'d> Process<'d> {
     {
         let received = &mut self.received[place as usize];
         received.hear(message)?;
-        received.keep(self.net.oldest_asked(place as usize, self.frontier));
+        received.keep(&self.net, place as usize, self.frontier);
         Ok(())
     }
 
@@ -139,7 +139,7 @@ impl<'d> Process<'d> {
         let pin = &mut self.received[place as usize];
         let count = pin.hear_below(messages, tick)?;
         // Once is enough: what is kept after the last message was kept after each.
-        pin.keep(self.net.oldest_asked(place as usize, self.frontier));
+        pin.keep(&self.net, place as usize, self.frontier);
         self.failed = false;
         Ok(count)
     }
@@ -250,6 +250,15 @@ impl<'d> Process<'d> {
         self.wave.split_below_into(bound, changes)?;
         self.floor = self.floor.max(bound);
         Ok(())
+    }
+
+    /// Returns a tick up to which the sources of all pins are known, at their own ticks: the least of the pins'
+    /// frontiers.
+    pub(crate) fn known_to(&self) -> u64
+        requires running { self.now.failed ≡ false }
+        ensures { KnowsTo result self.now.state }
+    {
+        least_received(self.received.as_slice())
     }
 
     /// Returns the number of ticks known at all pins, as the net sees them: the least of their frontiers,

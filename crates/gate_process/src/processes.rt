@@ -1,10 +1,12 @@
 //! The processes of a design.
 ghost use Rattle.std.specs.Prelude.{◌≡◌, ◌+◌, ◌<◌, ◌≤◌, ◌++◌, true, false, length, map, replicate, slice_get, slice_set, Some, IfOk, OnOk, OnErr};
+ghost use Rattle.std.specs.Bool.{OnTrue};
 ghost use Rattle.std.specs.List.{list_any};
 ghost use Rattle.std.specs.Option.{ForSome};
 ghost use Rattle.cmb_channels.specs.Kinds.{is_change};
 ghost use Rattle.design.specs.Design.{IsDesign};
 ghost use Rattle.gate_process.specs.Step.{ProcessView, running, started_process, next_frontier, advanced, news, heard, heard_below, wanted_at, wanted_messages, drained, drained_changes};
+ghost use Rattle.gate_process.specs.Quiet.{IsQuiet, KnowsTo};
 ghost use Rattle.gate_process.specs.Truth.{CanHear, CanHearAll};
 
 use crate::process::Process;
@@ -18,24 +20,27 @@ use timing_text::Horizon;
 /// A process for each net of a design.
 ///
 /// It knows which processes are quiet: they have received nothing since they last advanced, so an advance
-/// would change nothing. A quiet process that is to advance is skipped, and not even fetched from memory.
+/// would change nothing. A quiet process that is to advance is skipped, and not even fetched from memory. Nor
+/// is one that would take no messages ([`is_at_rest`](Self::is_at_rest)).
 #[derive(Debug, Drop)]
 pub struct Processes<'d> {
     processes: Vec<Process<'d>>,
     // Whether the process at the same place is quiet. A flag takes much less memory than a process.
     quiet: Vec<bool>,
+    // The tick up to which each pin of the process at the same place is known, if it is quiet.
+    heard: Vec<u64>,
 }
 
 impl<'d> Model for Processes<'d> {
     ghost use Rattle.std.specs.Prelude.{List};
     ghost use Rattle.gate_process.specs.Step.{ProcessView};
-    ghost use Rattle.gate_process.specs.Quiet.{AreQuiet};
+    ghost use Rattle.gate_process.specs.Quiet.{AreAtRest};
 
     ghost Value = { List ProcessView };
 
     ghost view = { λ p. p.processes.items };
 
-    ghost invariant = { λ p. AreQuiet p.processes.items p.quiet.items };
+    ghost invariant = { λ p. AreAtRest p.processes.items p.quiet.items p.heard.items };
 }
 
 impl<'d> Processes<'d> {
@@ -52,7 +57,12 @@ impl<'d> Processes<'d> {
     {
         let processes = started(alloc, design, horizon)?;
         let quiet = none_quiet(alloc, processes.len())?;
-        Ok(Processes { processes, quiet })
+        let heard = none_heard(alloc, processes.len())?;
+        Ok(Processes {
+            processes,
+            quiet,
+            heard,
+        })
     }
 
     /// Returns the number of processes: one for each net.
@@ -68,6 +78,21 @@ impl<'d> Processes<'d> {
         ensures { slice_get self.now net ≡ Some result.now }
     {
         &self.processes[net as usize]
+    }
+
+    /// Returns whether the process of a net is quiet and its pins are known up to a tick of their sources: then
+    /// it needs no messages to reach the tick, and an advance would change nothing. This looks at no process.
+    ///
+    /// `false` says only that the process has to be looked at.
+    pub fn is_at_rest(&self, net: u32, tick: u64) -> bool
+        requires net { net < length self.now }
+        requires running { ForSome (slice_get self.now net) (λ (process : ProcessView). process.failed ≡ false) }
+        ensures quiet { OnTrue result (ForSome (slice_get self.now net) (λ (process : ProcessView).
+            IsQuiet process.state)) }
+        ensures known { OnTrue result (ForSome (slice_get self.now net) (λ (process : ProcessView).
+            KnowsTo tick process.state)) }
+    {
+        self.quiet[net as usize] && tick <= self.heard[net as usize]
     }
 
     /// Lets the process of a net receive a message, as [`Process::receive`] does. An `AllocError` changes
@@ -141,7 +166,9 @@ impl<'d> Processes<'d> {
             messages.clear();
             return Ok(());
         }
-        self.processes[net as usize].advance_into(messages)?;
+        let process = &mut self.processes[net as usize];
+        process.advance_into(messages)?;
+        self.heard[net as usize] = process.known_to();
         self.quiet[net as usize] = true;
         Ok(())
     }
@@ -198,4 +225,15 @@ fn none_quiet(alloc: Global, count: usize) -> Result<Vec<bool>, AllocError>
         quiet.push(false)?;
     }
     Ok(quiet)
+}
+
+/// Returns the ticks up to which the pins of this number of processes are known, before they receive anything.
+fn none_heard(alloc: Global, count: usize) -> Result<Vec<u64>, AllocError>
+    ensures { IfOk result (λ heard. heard.items ≡ replicate count 0) }
+{
+    let mut heard = Vec::with_capacity(alloc, count)?;
+    for _process in 0..count {
+        heard.push(0)?;
+    }
+    Ok(heard)
 }

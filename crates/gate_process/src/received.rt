@@ -1,4 +1,4 @@
-ghost use Rattle.std.specs.Prelude.{◌≡◌, true, ◌+◌, ◌<◌, ◌≤◌, length, map, replicate, take, IfOk, OnOk, OnErr};
+ghost use Rattle.std.specs.Prelude.{◌≡◌, true, ◌+◌, ◌<◌, ◌≤◌, All, length, map, replicate, take, IfOk, OnOk, OnErr};
 ghost use Rattle.std.specs.List.{list_any};
 ghost use Rattle.logic3.specs.declared.value.Value.TheVariants.{Unknown};
 ghost use Rattle.logic3.specs.Summary.{summary_of};
@@ -7,10 +7,11 @@ ghost use Rattle.timing_text.specs.Ranges.{most_delay, most_ticks, HasWires};
 ghost use Rattle.design.specs.Equations.{values_at};
 ghost use Rattle.cmb_channels.specs.Kinds.{is_change};
 ghost use Rattle.gate_process.specs.Knowledge.{Knowledge, seen, seen_pins, as_known, nothing_known, told, told_all, wanted, ContinueAll, kept_since, forgetting, keeping};
-ghost use Rattle.gate_process.specs.Step.{least_or, signals_of};
+ghost use Rattle.gate_process.specs.Step.{least_or, oldest_asked, signals_of};
 
 use crate::cursor::{Cursor, FEW};
 use crate::kept_changes::{KeptChanges, kept_below, last_kept};
+use crate::own_net::OwnNet;
 use cmb_channels::{Logged, Message};
 use logic3::{Summary, Value};
 use smallvec::SmallVec;
@@ -96,11 +97,19 @@ impl Received {
         Ok(messages.len())
     }
 
-    /// Forgets the ticks before the oldest that is asked for, but never the last one known.
-    pub fn keep(&mut self, oldest: u64)
-        requires { kept_since oldest self.old.frontier ≡ 0 → self.old.wave.before ≡ Unknown }
-        ensures { self.new ≡ keeping oldest self.old }
+    /// Forgets the ticks before the oldest that a net, from a frontier on, asks of the source of its pin at
+    /// this place, but never the last one known.
+    pub fn keep(&mut self, net: &OwnNet<'_>, place: usize, frontier: u64)
+        requires place { place < length net.now.pins }
+        requires begin { kept_since (oldest_asked net.now place frontier) self.old.frontier ≡ 0 →
+            self.old.wave.before ≡ Unknown }
+        ensures { self.new ≡ keeping (oldest_asked net.now place frontier) self.old }
     {
+        // Most pins keep no change, and then the net needn't be asked.
+        if self.changes.is_empty() {
+            return;
+        }
+        let oldest = net.oldest_asked(place, frontier);
         self.forget_before(oldest.min(self.frontier.saturating_sub(1)));
     }
 
@@ -171,6 +180,17 @@ pub fn seen_at(received: &[Received], wires: &[u32], tick: u64) -> Summary
         pins.add(pin.cursor(wires[place]).go_to(tick));
     }
     pins
+}
+
+/// Returns the least of the pins' frontiers, at the sources' ticks, or 2^64 - 1 if there are no pins.
+pub fn least_received(received: &[Received]) -> u64
+    ensures { All (λ (known : Knowledge). result ≤ known.frontier) received.now }
+{
+    let mut least = u64::MAX;
+    for pin in received {
+        least = least.min(pin.frontier());
+    }
+    least
 }
 
 /// Returns the least of the pins' frontiers, each seen later by the delay of its wire, or `none` if there are

@@ -1,8 +1,8 @@
 -- What is printed for a fault after its line.
 use Rattle.std.specs.Prelude.{◌≡◌, ℕ, List, option_and_then, option_map, Option, None, Some, IfSome}
 use denote.Ref.{Bor}
-use Rattle.explanations.specs.declared.subject.Subject.{Subject}
-use Rattle.explanations.specs.declared.subject.Subject.TheVariants as of
+use Rattle.mistakes.specs.declared.subject.Subject.{Subject}
+use Rattle.mistakes.specs.declared.subject.Subject.TheVariants as of
 use Rattle.explanations.specs.declared.table.Table.{Table}
 use Rattle.explanations.specs.AtHand.{told_at_hand}
 use Rattle.prepared_runs.specs.declared.fault.SimFault.{SimFault}

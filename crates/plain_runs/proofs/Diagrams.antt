@@ -30,7 +30,7 @@ module _ (view : DiagramView) where
   ticks_of_view-bad fault bad = rw bad refl
 
   pub ticks_of_view-good : (horizon : ℕ) → horizon_of view.horizon ≡ Ok horizon →
-      ticks_of_view view ≡ or_fault Columns (columns_of view.from view.to view.step horizon)
+      ticks_of_view view ≡ or_fault Columns (columns_of view.from view.to view.step view.at_end horizon)
   unfolding ticks_of_view
   ticks_of_view-good horizon good = rw good refl
 
@@ -50,9 +50,9 @@ DiagramEndsBy-ticks view answer held fault bad is = go (horizon_of view.horizon)
     in_columns (Err why) e = let same : Columns why ≡ fault = cc in ends (Columns why) same (λ refused. (refused, Keeps-refl held))
 
     go : (end : Result ℕ OptionFault) →
-        (or_fault (λ why. Run (Setting why)) end >>= λ horizon. or_fault Columns (columns_of view.from view.to view.step horizon)) ≡ Err fault →
+        (or_fault (λ why. Run (Setting why)) end >>= λ horizon. or_fault Columns (columns_of view.from view.to view.step view.at_end horizon)) ≡ Err fault →
         DiagramEndsBy answer held held fault
-    go (Ok horizon) e = in_columns (columns_of view.from view.to view.step horizon) e
+    go (Ok horizon) e = in_columns (columns_of view.from view.to view.step view.at_end horizon) e
     go (Err why) e = let same : Run (Setting why) ≡ fault = cc in ends (Run (Setting why)) same (λ refused. (refused, Keeps-refl held))
 
 -- before a byte is written it ends by what refuses the run

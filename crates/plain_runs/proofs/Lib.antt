@@ -3,5 +3,6 @@ mod Causes
 mod Diagrams
 mod Listed
 mod Marked
+mod Numbered
 mod Tested
 mod Throughout

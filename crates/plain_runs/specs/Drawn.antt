@@ -19,7 +19,7 @@ use Rattle.prepared_runs.specs.Source.{SourceView, design_of_source, if_known, o
 unfoldable pub ticks_of_view : DiagramView → Result Ticks DiagramFault
 ticks_of_view view = do
   horizon ← or_fault (λ fault. Run (Setting fault)) (horizon_of view.horizon)
-  or_fault Columns (columns_of view.from view.to view.step horizon)
+  or_fault Columns (columns_of view.from view.to view.step view.at_end horizon)
 
 -- what the shown nets of a design show at some ticks, drawn
 unfoldable pub diagram_of_design : DiagramView → Ticks → DesignView → List ℕ

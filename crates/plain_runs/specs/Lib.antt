@@ -1,5 +1,7 @@
 pub mod Drawn
 pub mod Explained
+pub mod Likenesses
+pub mod Lines
 pub mod Noted
 pub mod Remarks
 pub mod Shows

@@ -1,10 +1,18 @@
 -- Notes as text, a line each.
-use Rattle.std.specs.Prelude.{ℕ, ◌-◌, ◌==◌, nat_le, if◌then◌else◌, List, [], ◌++◌, codes, decimal, length, take}
+use Rattle.std.specs.Prelude.{ℕ, ◌-◌, ◌==◌, nat_le, if◌then◌else◌, List, [], ◌++◌, codes, decimal, flat_map, length, take}
 use Rattle.netlist.specs.Netlist.{NetlistView}
 use Rattle.netlist.specs.Text.{names_behind}
 use Rattle.design.specs.Design.{DesignView}
+use Rattle.circuit_info.specs.Periods.{late_flops}
+use Rattle.prepared_runs.specs.Source.{SourceView}
 use Rattle.plain_runs.specs.declared.remark.Remark.{Remark}
 use Rattle.plain_runs.specs.declared.remark.Remark.TheVariants.{Undriven, Late, Unknown}
+use Rattle.plain_runs.specs.declared.doubt.Doubt.{Doubt}
+use Rattle.plain_runs.specs.declared.doubt.Doubt.TheVariants.{HiddenWord, Stimulus}
+use Rattle.plain_runs.specs.declared.likeness.Likeness.{Likeness}
+use Rattle.plain_runs.specs.declared.likeness.Likeness.TheVariants.{Bus, Comment, Marked}
+use Rattle.plain_runs.specs.Likenesses.{nets_like, said_of}
+use Rattle.plain_runs.specs.Lines.{doubtful_lines}
 use Rattle.plain_runs.specs.Remarks.{noted_nets}
 use Rattle.plain_runs.specs.Unused.{has_flops, unused_inputs}
 
@@ -45,8 +53,50 @@ sampling netlist = if has_flops netlist then codes "; flip-flops sample by --per
 abbrev pub unused_note : NetlistView → List ℕ
 unused_note netlist = nets_note netlist (codes "unused inputs") (unused_inputs netlist) (sampling netlist)
 
+-- the line of the flip-flops whose period is too short for the longest path to their pin
+abbrev pub late_flops_note : DesignView → List ℕ
+late_flops_note design =
+    nets_note design.netlist (codes "flip-flops whose period is shorter than the longest path to them") (late_flops design)
+    (codes "; nullsim info prints the longest")
+
+-- the line of the nets whose names look so
+abbrev pub likeness_note : Likeness → NetlistView → List ℕ
+likeness_note likeness netlist = nets_note netlist (said_of likeness) (nets_like netlist likeness) []
+
+-- ---- lines
+
+-- the numbers of lines, with a space before each
+abbrev pub numbers_behind : List ℕ → List ℕ
+numbers_behind numbers = flat_map (λ number. codes " " ++ decimal number) numbers
+
+-- the first dozen of these numbers, and how many others there are
+abbrev pub first_numbers : List ℕ → List ℕ
+first_numbers numbers =
+    if nat_le (length numbers) most_names then numbers_behind numbers
+    else (numbers_behind (take most_names numbers) ++ codes " and " ++ decimal (length numbers - most_names) ++ codes " more")
+
+-- the line with the numbers of some lines; none if there are no such lines
+abbrev pub lines_note : List ℕ → List ℕ → List ℕ
+lines_note words numbers =
+    if length numbers == 0 then [] else (codes "note: " ++ words ++ codes ":" ++ first_numbers numbers ++ codes "\n")
+
+-- the line of the doubtful lines of a text
+abbrev pub doubt_note : List ℕ → Doubt → DesignView → List ℕ → List ℕ
+doubt_note words doubt design text = lines_note words (doubtful_lines doubt design text)
+
+-- ---- a run
+
 -- all that is noted of a run to a horizon
 unfoldable pub notes_of_design : ℕ → DesignView → List ℕ
 notes_of_design horizon design =
     outputs_note design.netlist ++ remark_note Undriven horizon design ++ remark_note Late horizon design ++ unused_note design.netlist
-    ++ remark_note Unknown horizon design
+    ++ remark_note Unknown horizon design ++ late_flops_note design
+    ++ likeness_note Comment design.netlist ++ likeness_note Marked design.netlist ++ likeness_note Bus design.netlist
+
+-- what is noted of the texts of a design
+unfoldable pub notes_of_texts : SourceView → DesignView → List ℕ
+notes_of_texts source design =
+    doubt_note (codes "lines of the .bench text whose comments hide words after a carriage return") HiddenWord design source.bench
+    ++ doubt_note (codes "lines of the delay text whose comments hide words after a carriage return") HiddenWord design source.delays
+    ++ doubt_note (codes "lines of the stimulus text whose comments hide words after a carriage return") HiddenWord design source.stimuli
+    ++ doubt_note (codes "lines of the stimulus text that # makes comments, with stimuli for inputs that have none") Stimulus design source.stimuli

@@ -31,12 +31,14 @@ pub struct DiagramView<'a> {
     pub to: u64,
     /// The number of ticks of a column: at least 1, and enough for at most 1,000 columns.
     pub step: u64,
+    /// Whether a column shows the value at its last tick, whatever is before it.
+    pub at_end: bool,
     pub form: Form,
 }
 
 /// Writes the timing diagram of a run, which the plain engine computes up to its horizon.
 ///
-/// A column shows what the equations give the net at the column's ticks.
+/// A column shows what the equations give the net at the column's ticks, or at its last tick.
 ///
 /// # Errors
 /// The horizon and the columns ([`DiagramFault::Columns`]) are checked first, then the settings and the
@@ -70,7 +72,7 @@ fn columns_of(view: &DiagramView<'_>) -> Result<Columns, DiagramFault>
     ensures no_memory { IfErr result (λ fault. fault ≢ Run Memory) }
 {
     let horizon = Horizon::new(view.horizon)?;
-    Ok(Columns::new(view.from, view.to, view.step, horizon)?)
+    Ok(Columns::new(view.from, view.to, view.step, view.at_end, horizon)?)
 }
 
 /// Runs a design by the plain engine, and draws these nets, which are the shown ones.

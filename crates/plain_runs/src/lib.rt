@@ -3,8 +3,10 @@
 
 mod diagram_fault;
 mod diagram_run;
+mod doubt;
 mod dumping;
 pub mod laws;
+mod likeness;
 mod notes;
 mod plain_run;
 mod remark;

@@ -7,11 +7,14 @@ ghost use Rattle.prepared_runs.specs.Source.{seen_source, MayWantMemory};
 ghost use Rattle.prepared_runs.specs.declared.fault.SimFault.TheVariants.{Memory};
 ghost use Rattle.plain_runs.specs.Noted.{notes_of_source};
 ghost use Rattle.plain_runs.specs.Remarks.{noted_nets};
-ghost use Rattle.plain_runs.specs.Text.{notes_of_design, remark_note, sampling, unused_note};
+ghost use Rattle.plain_runs.specs.Text.{late_flops_note, notes_of_design, notes_of_texts, remark_note, sampling, unused_note};
 
+use crate::doubt::{Doubt, push_doubt};
+use crate::likeness::{Likeness, push_likeness};
 use crate::remark::Remark;
 use crate::text::{push_nets_note, push_outputs_note};
 use crate::unused::{has_flops, unused_inputs};
+use circuit_info::late_flops;
 use design::{Design, plain_waves};
 use logic3::Waveform;
 use netlist::Netlist;
@@ -26,10 +29,18 @@ use timing_text::Horizon;
 /// - `note: inputs whose stimuli after the horizon are ignored: e`
 /// - `note: unused inputs: c`, and, if there are flip-flops, `; flip-flops sample by --period or clock lines`
 /// - `note: other nets that are X throughout: y z`
+/// - `note: flip-flops whose period is shorter than the longest path to them: q; nullsim info prints the longest`
+/// - `note: nets named like comments, which begin with # here: //y`, for names that begin with `//`, `/*`, `--` or `;`
+/// - `note: nets whose names end with ';', ':' or '<', as part of the name: y:`
+/// - `note: nets named like buses, each of one bit: a[7:0]`
+/// - `note: lines of the .bench text whose comments hide words after a carriage return: 3`, and so of the delay text and
+///   of the stimulus text
+/// - `note: lines of the stimulus text that # makes comments, with stimuli for inputs that have none: 1 2`
 ///
 /// Names are in the order in which the netlist defines their nets, at most twelve in a line. If there are more, the
-/// number of the others follows, as in ` and 188 more`. An unused input is at no pin and isn't an output. The plain engine computes the run, with
-/// all waveforms in memory.
+/// number of the others follows, as in ` and 188 more`. An unused input is at no pin and isn't an output. The ticks of a
+/// path are those of [`longest_paths`](circuit_info::longest_paths), to the flip-flop's pin; if gates form a loop, there
+/// is no such note. The plain engine computes the run, with all waveforms in memory.
 ///
 /// # Errors
 /// A refusal of the settings or of a text, as for any run.
@@ -40,7 +51,9 @@ pub fn notes_text(alloc: Global, source: &Source<'_>, horizon: u64) -> Result<Ve
 {
     let (ticks, design) = prepare(alloc, source, horizon)?;
     let waves = plain_waves(alloc, &design, ticks)?;
-    Ok(design_notes(alloc, &design, ticks, waves.as_slice())?)
+    let mut notes = design_notes(alloc, &design, ticks, waves.as_slice())?;
+    push_text_notes(alloc, &mut notes, source, &design)?;
+    Ok(notes)
 }
 
 /// Returns the notes of a design, given the waveforms of all nets to the horizon.
@@ -59,7 +72,55 @@ fn design_notes(
     push_remark(alloc, &mut text, design, horizon, waves, Remark::Late)?;
     push_unused(alloc, &mut text, design.netlist())?;
     push_remark(alloc, &mut text, design, horizon, waves, Remark::Unknown)?;
+    push_late_flops(alloc, &mut text, design)?;
+    push_likeness(alloc, &mut text, design.netlist(), Likeness::Comment)?;
+    push_likeness(alloc, &mut text, design.netlist(), Likeness::Marked)?;
+    push_likeness(alloc, &mut text, design.netlist(), Likeness::Bus)?;
     Ok(text)
+}
+
+/// Adds the lines on the texts of a source.
+fn push_text_notes(
+    alloc: Global,
+    notes: &mut Vec<u8>,
+    source: &Source<'_>,
+    design: &Design,
+) -> Result<(), AllocError>
+    ensures { OnOk result (notes.new.items ≡ notes.old.items ++ notes_of_texts (seen_source source.now) design.now) }
+{
+    push_doubt(
+        alloc,
+        notes,
+        design,
+        "lines of the .bench text whose comments hide words after a carriage return",
+        source.bench,
+        Doubt::HiddenWord,
+    )?;
+    push_doubt(
+        alloc,
+        notes,
+        design,
+        "lines of the delay text whose comments hide words after a carriage return",
+        source.delays,
+        Doubt::HiddenWord,
+    )?;
+    push_doubt(
+        alloc,
+        notes,
+        design,
+        "lines of the stimulus text whose comments hide words after a carriage return",
+        source.stimuli,
+        Doubt::HiddenWord,
+    )?;
+    push_doubt(
+        alloc,
+        notes,
+        design,
+        "lines of the stimulus text that # makes comments, with stimuli for inputs that have none",
+        source.stimuli,
+        Doubt::Stimulus,
+    )?;
+    Ok(())
 }
 
 /// Adds the line of a remark.
@@ -89,6 +150,20 @@ fn push_unused(alloc: Global, text: &mut Vec<u8>, netlist: &Netlist) -> Result<(
         "unused inputs",
         nets.as_slice(),
         sampling(netlist),
+    )
+}
+
+/// Adds the line of the flip-flops whose period is too short for the longest path to their pin.
+fn push_late_flops(alloc: Global, text: &mut Vec<u8>, design: &Design) -> Result<(), AllocError>
+    ensures { OnOk result (text.new.items ≡ text.old.items ++ late_flops_note design.now) }
+{
+    let nets = late_flops(alloc, design)?;
+    push_nets_note(
+        text,
+        design.netlist(),
+        "flip-flops whose period is shorter than the longest path to them",
+        nets.as_slice(),
+        "; nullsim info prints the longest",
     )
 }
 

@@ -54,7 +54,7 @@ impl Remark {
 }
 
 /// Whether a net is an input that has no stimulus.
-fn is_undriven(design: &Design, net: u32) -> bool
+pub(crate) fn is_undriven(design: &Design, net: u32) -> bool
     requires { net < length design.now.circuit }
     ensures { result ≡ net_is is_undriven design.now.circuit net }
 {

@@ -1,4 +1,4 @@
-//! Tests of whole runs: worked examples, refusals, far horizons, faulty writers.
+//! Tests of whole runs: worked examples, refusals, far horizons, faulty writers. And of the program's library.
 #![tactic(auto)]
 
 #[cfg(test)]
@@ -7,6 +7,8 @@ mod cones;
 mod far_runs;
 #[cfg(test)]
 mod noting;
+#[cfg(test)]
+mod program;
 #[cfg(test)]
 mod showing;
 #[cfg(test)]

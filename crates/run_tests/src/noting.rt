@@ -52,6 +52,20 @@ const ALL: Source<'static> = Source {
     ..DRIVEN
 };
 
+// A flip-flop that samples what two gates make of an input.
+const DELAYED: Source<'static> = Source {
+    bench: b"INPUT(a)\nOUTPUT(q)\nn = NOT(a)\nm = NOT(n)\nq = DFF(m)\n",
+    stimuli: b"0 a 0\n",
+    ..DRIVEN
+};
+
+// Two inputs that are driven, and a gate.
+const BOTH: Source<'static> = Source {
+    bench: b"INPUT(a)\nINPUT(b)\nOUTPUT(y)\ny = AND(a, b)\n",
+    stimuli: b"0 a 0\n0 b 0\n",
+    ..DRIVEN
+};
+
 const LATE: &[u8] = b"note: inputs whose stimuli after the horizon are ignored: e\n";
 
 const NO_OUTPUT: &[u8] = b"note: no net is an output\n";
@@ -59,7 +73,7 @@ const NO_OUTPUT: &[u8] = b"note: no net is an output\n";
 /// A run, its horizon, and the notes on it.
 type Row = (Source<'static>, u64, &'static [u8]);
 
-static NOTED: [Row; 17] = [
+static NOTED: [Row; 32] = [
     (DRIVEN, 9, b""),
     (DRIVEN, 8, LATE),
     // Only the last stimulus, which comes too late.
@@ -179,6 +193,137 @@ static NOTED: [Row; 17] = [
         9,
         b"note: inputs without a stimulus, X throughout: a b c d e f g h i j k l\n\
           note: other nets that are X throughout: y\n",
+    ),
+    // The path takes 2 ticks, and then 4 of a period of 3.
+    (DELAYED, 9, b""),
+    (
+        Source {
+            default_delay: 2,
+            ..DELAYED
+        },
+        9,
+        b"note: flip-flops whose period is shorter than the longest path to them: q; nullsim info prints the longest\n",
+    ),
+    // With its wire it takes the 3 ticks of the period.
+    (
+        Source {
+            delays: b"timing version 2\nwire q 0 1\n",
+            ..DELAYED
+        },
+        9,
+        b"",
+    ),
+    (
+        Source {
+            delays: b"timing version 2\nwire q 0 2\n",
+            ..DELAYED
+        },
+        9,
+        b"note: flip-flops whose period is shorter than the longest path to them: q; nullsim info prints the longest\n",
+    ),
+    // A period of its own.
+    (
+        Source {
+            bench: b"INPUT(a)\nOUTPUT(p)\nOUTPUT(q)\nn = NOT(a)\np = DFF(n)\nq = DFF(n)\n",
+            delays: b"timing version 2\nclock p 2 0\n",
+            default_delay: 3,
+            ..DELAYED
+        },
+        9,
+        b"note: flip-flops whose period is shorter than the longest path to them: p; nullsim info prints the longest\n",
+    ),
+    // The path begins with the delay of the flip-flop.
+    (
+        Source {
+            delays: b"timing version 2\ninit q 0\n",
+            default_delay: 2,
+            ..RING
+        },
+        30,
+        b"note: no net is an output\n\
+          note: flip-flops whose period is shorter than the longest path to them: q; nullsim info prints the longest\n",
+    ),
+    // Gates in a loop have no longest path.
+    (
+        Source {
+            bench: b"INPUT(a)\nOUTPUT(q)\nn = NAND(a, m)\nm = NOT(n)\nq = DFF(m)\n",
+            default_delay: 5,
+            ..DELAYED
+        },
+        20,
+        b"",
+    ),
+    // Names that look like something else.
+    (
+        Source {
+            bench: b"INPUT(a)\nOUTPUT(y)\ny = NOT(a)\n//z = NOT(a)\n-b = NOT(a)\n;c = NOT(a)\n",
+            ..DELAYED
+        },
+        9,
+        b"note: nets named like comments, which begin with # here: //z ;c\n",
+    ),
+    (
+        Source {
+            bench: b"INPUT(a;)\nOUTPUT(y:)\ny:= NOT(a;)\n--z<= NOT(a;)\n",
+            stimuli: b"0 a; 0\n",
+            ..DELAYED
+        },
+        9,
+        b"note: nets named like comments, which begin with # here: --z<\n\
+          note: nets whose names end with ';', ':' or '<', as part of the name: a; y: --z<\n",
+    ),
+    (
+        Source {
+            bench: b"INPUT(a[1:0])\nOUTPUT(y)\ny = NOT(a[1:0])\ny[1] = NOT(y)\ny[2][3:2] = NOT(y)\ny[3:] = NOT(y)\n",
+            stimuli: b"0 a[1:0] 0\n",
+            ..DELAYED
+        },
+        9,
+        b"note: nets named like buses, each of one bit: a[1:0] y[2][3:2]\n",
+    ),
+    // A comment goes on to the line feed.
+    (
+        Source {
+            bench: b"# two inputs\rINPUT(c)\nINPUT(a)\nINPUT(b)\nOUTPUT(y)\ny = AND(a, b)\n",
+            ..BOTH
+        },
+        9,
+        b"note: lines of the .bench text whose comments hide words after a carriage return: 1\n",
+    ),
+    (
+        Source {
+            delays: b"# none\r\ny 1 # one \r y 2\n",
+            ..BOTH
+        },
+        9,
+        b"note: lines of the delay text whose comments hide words after a carriage return: 2\n",
+    ),
+    (
+        Source {
+            stimuli: b"0 a 0 # low\r1 a 1\n0 b 0 # low\r \t\r\n# \r#\n",
+            ..BOTH
+        },
+        9,
+        b"note: lines of the stimulus text whose comments hide words after a carriage return: 1 3\n",
+    ),
+    // Stimuli in comments, for an input without any.
+    (
+        Source {
+            stimuli: b"#10 a 1\n# 5 a 0\n0 b 0\n#10 a = 1;\n#b 1\n#7 b 1\n#8 y 1\n5 b 1 #9 a 1\n#1 a Z\n",
+            ..BOTH
+        },
+        9,
+        b"note: inputs without a stimulus, X throughout: a\n\
+          note: lines of the stimulus text that # makes comments, with stimuli for inputs that have none: 1 4\n",
+    ),
+    // Both inputs have one.
+    (
+        Source {
+            stimuli: b"0 a 0\n0 b 0\n#10 a 1\n",
+            ..BOTH
+        },
+        9,
+        b"",
     ),
 ];
 

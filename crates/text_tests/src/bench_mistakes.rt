@@ -4,7 +4,7 @@ use explanations::Subject;
 use std::test::Fail;
 
 // Lines of .bench texts.
-static BENCH: [Mistake; 28] = [
+static BENCH: [Mistake; 36] = [
     Mistake {
         line: "INPUT a",
         said: "column 7, after 'INPUT': found 'a', expected '(' or '='\nwrite INPUT(a)",
@@ -117,10 +117,42 @@ static BENCH: [Mistake; 28] = [
         line: "  y = NAND(a  b) # both",
         said: "column 15, after 'NAND(a': found 'b', expected ',' or ')'\nwrite y = NAND(a, b)",
     },
+    Mistake {
+        line: "INPTU(a)",
+        said: "column 6, after 'INPTU': found '(', expected '='\nwrite INPUT(a)",
+    },
+    Mistake {
+        line: "OUTPU( y )",
+        said: "column 6, after 'OUTPU': found '(', expected '='\nwrite OUTPUT(y)",
+    },
+    Mistake {
+        line: "OUTPUTS(y)",
+        said: "column 8, after 'OUTPUTS': found '(', expected '='\nwrite OUTPUT(y)",
+    },
+    Mistake {
+        line: "WIRE(w)",
+        said: "column 5, after 'WIRE': found '(', expected '='",
+    },
+    Mistake {
+        line: "output y",
+        said: "column 8, after 'output': found 'y', expected '(' or '='\nwrite output(y)",
+    },
+    Mistake {
+        line: "AND y",
+        said: "column 5, after 'AND': found 'y', expected '='",
+    },
+    Mistake {
+        line: "%stimulus",
+        said: "at the end of the line, after '%stimulus': expected '='\na marker of a deck is %bench, %delays, %stimuli or %schedule, alone in its line",
+    },
+    Mistake {
+        line: "%x y",
+        said: "column 4, after '%x': found 'y', expected '='",
+    },
 ];
 
 // Lines after those that define the nets a and b.
-static AFTER_NETS: [Mistake; 25] = [
+static AFTER_NETS: [Mistake; 33] = [
     Mistake {
         line: "y = a",
         said: "at the end of the line, after 'y = a': expected '('\na BUF has the value of its pin: y = BUF(a)",
@@ -225,6 +257,39 @@ static AFTER_NETS: [Mistake; 25] = [
     Mistake {
         line: "y = AND(NOT(a234567890123456789012345), b2345678901234567890, c)",
         said: "column 12, after 'AND(NOT': found '(', expected ',' or ')'",
+    },
+    Mistake {
+        line: "y = a&b",
+        said: "at the end of the line, after 'y = a&b': expected '('\na gate is written NAME = GATE(NAME, NAME): y = AND(a, b)",
+    },
+    Mistake {
+        line: "y = a+ b",
+        said: "column 8, after 'y = a+': found 'b', expected '('\na gate is written NAME = GATE(NAME, NAME): y = OR(a, b)",
+    },
+    Mistake {
+        line: "y = !a",
+        said: "at the end of the line, after 'y = !a': expected '('\na gate is written NAME = GATE(NAME, NAME): y = NOT(a)",
+    },
+    Mistake {
+        line: "y = a * b",
+        said: "column 7, after 'y = a': found '*', expected '('\na gate is written NAME = GATE(NAME, NAME): y = AND(a, b)",
+    },
+    Mistake {
+        line: "y = a&c",
+        said: "at the end of the line, after 'y = a&c': expected '('",
+    },
+    Mistake {
+        line: "y = a&b&a",
+        said: "at the end of the line, after 'y = a&b&a': expected '('",
+    },
+    // No such mark is before a name.
+    Mistake {
+        line: "y = &a",
+        said: "at the end of the line, after 'y = &a': expected '('",
+    },
+    Mistake {
+        line: "y = ~c",
+        said: "at the end of the line, after 'y = ~c': expected '('",
     },
 ];
 

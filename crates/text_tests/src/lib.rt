@@ -17,3 +17,5 @@ mod other_texts;
 mod reading;
 #[cfg(test)]
 mod timing;
+#[cfg(test)]
+mod timing_mistakes;

@@ -272,6 +272,15 @@ fn gate_words(rt: HostRuntime) -> Result<(), AllocError> {
             b"line 1: y = Inverter(a)\ngiven: Inverter\ndid you mean NOT?\n",
         ),
         (b"y = MAJ(a, b)", b"line 1: y = MAJ(a, b)\ngiven: MAJ\n"),
+        (
+            b"NOT = y(a)",
+            b"line 1: NOT = y(a)\ngiven: y\nthe net comes first: y = NOT(a)\n",
+        ),
+        (
+            b"Nor = y(a, b)",
+            b"line 1: Nor = y(a, b)\ngiven: y\nthe net comes first: y = Nor(a, b)\n",
+        ),
+        (b"DFF = q(d, e)", b"line 1: DFF = q(d, e)\ngiven: q\n"),
     ] {
         assert!(rt;
             said(rt.alloc(), Subject::Bench, "UnknownGate", line, b"")?.as_slice() == after

@@ -1,5 +1,5 @@
 -- A drawing depends on what its signals show up to its last tick alone.
-use Rattle.std.proofs.Common.{◌≡◌, refl, ap, arith, ℕ, zero, suc, ◌+◌, ◌-◌, ◌*◌, ◌/◌, ◌<◌, ◌≤◌, List, [], ◌∷◌, length, map, max, flat_map, add-one}
+use Rattle.std.proofs.Common.{◌≡◌, refl, ap, arith, ℕ, zero, suc, ◌+◌, ◌-◌, ◌*◌, ◌/◌, ◌<◌, ◌≤◌, List, [], ◌∷◌, length, map, max, flat_map, add-one, Bool, true, false, cond}
 use Rattle.std.proofs.Math.Nat.{div-mul-le_self, mul-le-mul_right}
 use Rattle.std.specs.List.{range_with_len, enumerate_from}
 use Rattle.logic3.specs.declared.value.Value.{Value}
@@ -8,7 +8,7 @@ use Rattle.texts.specs.Text.{is_empty}
 use Rattle.vcd_dump.specs.Dump.{Trace}
 use Rattle.timing_diagram.specs.declared.form.Form.{Form}
 use Rattle.timing_diagram.specs.declared.form.Form.TheVariants.{Text, Svg}
-use Rattle.timing_diagram.specs.Columns.{Ticks, IsDrawable, column_count, first_tick, last_tick}
+use Rattle.timing_diagram.specs.Columns.{Ticks, IsDrawable, column_count, first_tick, last_tick, shown_tick}
 use Rattle.timing_diagram.specs.Marks.{is_steady, mark_at}
 use Rattle.timing_diagram.specs.Picture.{widest, column_path, signal_path, trace_row}
 use Rattle.timing_diagram.specs.Drawing.{mark_byte, marks_text, line_text, drawing}
@@ -35,6 +35,14 @@ begins-within ticks column ok inside =
     let all : (ticks.to - ticks.from) / ticks.step * ticks.step ≤ ticks.to - ticks.from = div-mul-le_self (ticks.to - ticks.from) ticks.step in
     let forward = ok.forward in omega (arith, most, all, forward)
 
+-- so is the tick that it shows
+shown-within : (ticks : Ticks) (column : ℕ) → IsDrawable ticks → column < column_count ticks → shown_tick ticks column ≤ ticks.to
+shown-within ticks column ok inside = go ticks.at_end
+  where
+    go : (at_end : Bool) → cond at_end (last_tick ticks column) (first_tick ticks column) ≤ ticks.to
+    go true = omega arith
+    go false = begins-within ticks column ok inside
+
 -- two signals that show the same up to the last tick
 module _ (ticks : Ticks) (ok : IsDrawable ticks) (first second : ℕ → Value) (same : (tick : ℕ) → tick ≤ ticks.to → first tick ≡ second tick) where
   mark_at-same : (column : ℕ) → column < column_count ticks → mark_at first ticks column ≡ mark_at second ticks column
@@ -44,7 +52,7 @@ module _ (ticks : Ticks) (ok : IsDrawable ticks) (first second : ℕ → Value) 
       let to = last_tick ticks column in
       let steady : is_steady first from to ≡ is_steady second from to =
       ap is_empty (changes_between-same first second (from + 1) (to + 1) (rw add-one (same from begins)) (λ tick a b. same tick (omega arith))) in
-      rw (steady, same (from - 1) (omega arith), same from begins) refl
+      rw (steady, same (from - 1) (omega arith), same (shown_tick ticks column) (shown-within ticks column ok inside)) refl
 
   marks_text-same : marks_text first ticks ≡ marks_text second ticks
   marks_text-same =

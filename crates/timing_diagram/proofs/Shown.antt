@@ -8,8 +8,8 @@ use Rattle.logic3.specs.declared.value.Value.TheVariants.{Zero, One, Unknown}
 use Rattle.logic3.specs.Value.{is_same, is_same_equiv}
 use Rattle.logic3.proofs.CallerLemmas.{is_same-true}
 use Rattle.timing_diagram.specs.declared.mark.Mark.TheVariants.{Changing}
-use Rattle.timing_diagram.specs.Columns.{Ticks, column_count, first_tick, last_tick}
-use Rattle.timing_diagram.specs.Marks.{is_steady, has_edge, level_mark, mark_at}
+use Rattle.timing_diagram.specs.Columns.{Ticks, column_count, last_tick, shown_tick}
+use Rattle.timing_diagram.specs.Marks.{is_steady, has_edge, level_mark, mark_at, shows_value}
 use Rattle.timing_diagram.specs.Drawing.{mark_byte}
 use Rattle.timing_diagram.specs.Read.{column_value, drawn_value, value_of_character}
 use Rattle.timing_diagram.proofs.Steady.{changes_there}
@@ -37,7 +37,12 @@ column_back signal ticks column inside =
     let here : 0 + column ≡ column = omega arith in
     ap (option_and_then value_of_character)
     (at_range (λ k. mark_byte (mark_at signal ticks k)) 0 (column_count ticks) column inside ∙ ap (λ k. Some (mark_byte (mark_at signal ticks k))) here)
-    ∙ mark_back (is_steady signal (first_tick ticks column) (last_tick ticks column)) (has_edge signal ticks column) (signal (first_tick ticks column))
+    ∙ mark_back (shows_value signal ticks column) (has_edge signal ticks column) (signal (shown_tick ticks column))
+
+-- a column that shows its end shows the value there
+pub end_back : (signal : ℕ → Value) (ticks : Ticks) (column : ℕ) → column < column_count ticks → ticks.at_end ≡ true →
+    drawn_value signal ticks column ≡ Some (signal (last_tick ticks column))
+end_back signal ticks column inside ends = column_back signal ticks column inside ∙ rw ends refl
 
 -- one tick of a steady signal
 same_there : (signal : ℕ → Value) (first last at : ℕ) → is_steady signal first last ≡ true → first ≤ at → at < last → signal (at + 1) ≡ signal at

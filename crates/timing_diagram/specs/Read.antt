@@ -3,9 +3,9 @@ use Rattle.std.specs.Prelude.{ℕ, ◌==◌, ◌||◌, if◌then◌else◌, Opti
 use Rattle.std.specs.Option.{option_and_then}
 use Rattle.logic3.specs.declared.value.Value.{Value}
 use Rattle.logic3.specs.declared.value.Value.TheVariants.{Zero, One, Unknown}
-use Rattle.timing_diagram.specs.Columns.{Ticks, first_tick, last_tick}
+use Rattle.timing_diagram.specs.Columns.{Ticks, shown_tick}
 use Rattle.timing_diagram.specs.Drawing.{marks_text}
-use Rattle.timing_diagram.specs.Marks.{is_steady}
+use Rattle.timing_diagram.specs.Marks.{shows_value}
 
 -- the value of a character, if it shows one
 abbrev pub value_of_character : ℕ → Option Value
@@ -19,7 +19,7 @@ value_of_character byte =
 abbrev pub drawn_value : (ℕ → Value) → Ticks → ℕ → Option Value
 drawn_value signal ticks column = option_and_then value_of_character (slice_get (marks_text signal ticks) column)
 
--- the value that a signal has at every tick of a column, if it is constant there
+-- the value of a signal that a column shows, if any
 abbrev pub column_value : (ℕ → Value) → Ticks → ℕ → Option Value
 column_value signal ticks column =
-    if is_steady signal (first_tick ticks column) (last_tick ticks column) then Some (signal (first_tick ticks column)) else None
+    if shows_value signal ticks column then Some (signal (shown_tick ticks column)) else None

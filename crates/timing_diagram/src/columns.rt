@@ -10,11 +10,15 @@ const MOST_COLUMNS: u64 = 1_000;
 
 /// The ticks of a diagram, from one to another, divided into columns of equally many ticks: at most 1,000
 /// columns, of which the last may be shorter.
+///
+/// A column shows the value that a net has at all of its ticks, or the value at its last tick.
 #[derive(Clone, Copy, Debug, PartialEq, Eq)]
 pub struct Columns {
     from: u64,
     to: u64,
     step: u64,
+    // Whether a column shows the value at its last tick.
+    at_end: bool,
 }
 
 impl Model for Columns {
@@ -22,24 +26,31 @@ impl Model for Columns {
 
     ghost Value = { Ticks };
 
-    ghost view = { λ c. record { from = c.from; to = c.to; step = c.step } };
+    ghost view = { λ c. record { from = c.from; to = c.to; step = c.step; at_end = c.at_end } };
 
-    ghost invariant = { λ c. IsDrawable (record { from = c.from; to = c.to; step = c.step }) };
+    ghost invariant = { λ c. IsDrawable (record { from = c.from; to = c.to; step = c.step; at_end = c.at_end }) };
 
-    ghost inverse = { λ t. record { from = t.from; to = t.to; step = t.step } };
+    ghost inverse = { λ t. record { from = t.from; to = t.to; step = t.step; at_end = t.at_end } };
 }
 
 impl Columns {
-    ghost use Rattle.timing_diagram.specs.Columns.{IsDrawable, columns_of, column_count, first_tick, last_tick};
+    ghost use Rattle.timing_diagram.specs.Columns.{IsDrawable, columns_of, column_count, first_tick, last_tick, shown_tick};
 
-    /// Returns the ticks from `from` to `to`, in columns of `step` ticks, of a run up to this horizon.
+    /// Returns the ticks from `from` to `to`, in columns of `step` ticks, of a run up to this horizon. If
+    /// `at_end` is set, a column shows the value at its last tick, whatever is before it.
     ///
     /// # Errors
     /// [`ColumnsFault::NoStep`] if `step` is 0, else [`ColumnsFault::Backwards`] if `to` is before
     /// `from`, else [`ColumnsFault::PastHorizon`] if `to` is past the horizon, else
     /// [`ColumnsFault::TooManyColumns`] if there are more than 1,000 columns.
-    pub fn new(from: u64, to: u64, step: u64, horizon: Horizon) -> Result<Columns, ColumnsFault>
-        ensures exact { result ≡ columns_of from to step horizon }
+    pub fn new(
+        from: u64,
+        to: u64,
+        step: u64,
+        at_end: bool,
+        horizon: Horizon,
+    ) -> Result<Columns, ColumnsFault>
+        ensures exact { result ≡ columns_of from to step at_end horizon }
         ensures drawable { IfOk result IsDrawable }
         ensures within { IfOk result (λ ticks. ticks.to ≤ horizon) }
     {
@@ -55,7 +66,12 @@ impl Columns {
         if (to - from) / step >= MOST_COLUMNS {
             return Err(ColumnsFault::TooManyColumns);
         }
-        Ok(Columns { from, to, step })
+        Ok(Columns {
+            from,
+            to,
+            step,
+            at_end,
+        })
     }
 
     /// Returns the number of columns: 1 to 1,000.
@@ -81,5 +97,24 @@ impl Columns {
     {
         let first = self.first(column);
         first.saturating_add(self.step - 1).min(self.to)
+    }
+
+    /// Returns the tick whose value a column shows: its last one, or if `at_end` isn't set, the first one.
+    pub fn shown(self, column: u64) -> u64
+        requires { column < column_count self }
+        ensures { result ≡ shown_tick self column }
+    {
+        if self.at_end {
+            self.last(column)
+        } else {
+            self.first(column)
+        }
+    }
+
+    /// Returns whether a column shows the value at its last tick, whatever is before it.
+    pub fn at_end(self) -> bool
+        ensures { result ≡ self.at_end }
+    {
+        self.at_end
     }
 }

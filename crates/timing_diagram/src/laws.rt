@@ -1,17 +1,19 @@
 //! Facts about the definitions alone.
-ghost use Rattle.std.specs.Prelude.{◌≡◌, ℕ, ◌<◌, ◌≤◌, ◌==◌, true, false, List};
+ghost use Rattle.std.specs.Prelude.{◌≡◌, ℕ, ◌<◌, ◌≤◌, ◌==◌, true, false, List, Some};
 ghost use Rattle.std.specs.List.{list_any};
 ghost use Rattle.logic3.specs.declared.value.Value.{Value};
-ghost use Rattle.timing_diagram.specs.Columns.{Ticks, column_count};
+ghost use Rattle.timing_diagram.specs.Columns.{Ticks, column_count, last_tick};
 ghost use Rattle.timing_diagram.specs.Marks.{is_steady};
 ghost use Rattle.timing_diagram.specs.Picture.{escaped};
 ghost use Rattle.timing_diagram.specs.Read.{drawn_value, column_value};
 
-/// The character of a column shows the value that the signal has at every tick of the column, and no
-/// value if the signal changes within the column.
+/// The character of a column shows the value that the signal has at every tick of the column, and no value if
+/// the signal changes within the column. If columns show their ends, it shows the value at the last tick.
 pub fn columns_show_the_signal()
     ensures shown { (signal : ℕ → Value) (ticks : Ticks) (column : ℕ) → column < column_count ticks →
         drawn_value signal ticks column ≡ column_value signal ticks column }
+    ensures end { (signal : ℕ → Value) (ticks : Ticks) (column : ℕ) → column < column_count ticks →
+        ticks.at_end ≡ true → drawn_value signal ticks column ≡ Some (signal (last_tick ticks column)) }
     ensures steady { (signal : ℕ → Value) (first last tick : ℕ) → is_steady signal first last ≡ true →
         first ≤ tick → tick ≤ last → signal tick ≡ signal first }
 {}

@@ -58,14 +58,13 @@ impl Log {
         self.behind == 0
     }
 
-    /// Returns whether one more message needs more memory, and the log has as many messages as there are
-    /// pins that read it, and more than a few. To look at each pin then costs no more than to move the
-    /// messages.
-    pub fn is_full(&self) -> bool
+    /// Returns whether `more` messages need more memory, and the log has as many messages as there are pins
+    /// that read it, and more than a few. To look at each pin then costs no more than to move the messages.
+    pub fn is_full(&self, more: usize) -> bool
         ensures { IsTrue result → self.now.readers ≤ length self.now.messages }
     {
         let len = self.messages.len();
-        len == self.messages.capacity() && len >= LEAST_FULL && len >= self.readers as usize
+        self.messages.capacity() - len < more && len >= LEAST_FULL && len >= self.readers as usize
     }
 
     /// Returns the messages that a pin that has taken `count` messages hasn't taken, the oldest first.
@@ -76,17 +75,20 @@ impl Log {
         &self.messages[count.wrapping_sub(self.cut) as usize..]
     }
 
-    /// Adds a message at the end, which no pin has taken. A log that no pin reads keeps nothing, and
+    /// Adds messages at the end, which no pin has taken. A log that no pin reads keeps nothing, and
     /// allocates nothing.
     ///
     /// An `AllocError` leaves the log unchanged.
-    pub fn write(&mut self, message: Message) -> Result<(), AllocError>
-        ensures ok { OnOk result (self.new ≡ written message self.old) }
+    pub fn write(&mut self, messages: &[Message]) -> Result<(), AllocError>
+        ensures ok { OnOk result (self.new ≡ written messages.now self.old) }
         ensures err { OnErr result (self.new ≡ self.old) }
         ensures memory { OnErr result (0 < self.old.readers) }
     {
         if self.readers > 0 {
-            self.messages.push(Logged::of(message))?;
+            self.messages.reserve(messages.len())?;
+            for message in messages {
+                self.messages.push_reserved(Logged::of(*message));
+            }
             self.behind = self.readers;
         }
         Ok(())

@@ -15,7 +15,7 @@ use std::alloc::AllocError;
 
 impl<'d> Kernel<'d, Logs> {
     /// Sweeps as [`sweep`](Self::sweep) does, but faster: each pin takes all that it needs at once, as a part
-    /// of its source's log.
+    /// of its source's log, and a net that needs nothing is only counted.
     ///
     /// # Errors
     /// [`KernelFault::Failed`]; nothing changed. [`KernelFault::Memory`]; the kernel has failed from
@@ -41,6 +41,10 @@ impl<'d> Kernel<'d, Logs> {
         ensures err { OnErr result (self.new.failed ≡ true) }
         ensures sound { OnOk result (IsSound self.new.circuit self.new.end self.new.state) }
     {
+        if self.processes.is_at_rest(net, tick) {
+            self.counts.add_silent(1);
+            return Ok(());
+        }
         for place in 0..self.design.pins_of(net).len() {
             self.catch_up_at_once(net, place, tick)?;
         }

@@ -1,7 +1,6 @@
 ghost use Rattle.std.specs.Prelude.{◌≡◌, ◌<◌, true, false, None, length, Err, IfOk, OnOk, OnErr};
 ghost use Rattle.design.specs.Circuit.{IsCircuit, pin_count};
 ghost use Rattle.design.specs.Pins.{net_of_pin, place_of_pin};
-ghost use Rattle.cmb_channels.specs.Lists.{sent};
 ghost use Rattle.cmb_events.specs.declared.event.Event.TheVariants.{Deliver, Advance};
 ghost use Rattle.cmb_kernel.specs.declared.fault.KernelFault.TheVariants.{Memory};
 ghost use Rattle.cmb_kernel.specs.Step.{step, steps};
@@ -13,7 +12,7 @@ ghost use Rattle.cmb_kernel.specs.Calls.{IsOutcome};
 
 use crate::fault::KernelFault;
 use crate::kernel::Kernel;
-use cmb_channels::{Fabric, Message};
+use cmb_channels::Fabric;
 use cmb_events::{Event, MOST_EVENTS};
 use design::Design;
 use std::alloc::AllocError;
@@ -141,25 +140,11 @@ impl<'d, F: Fabric> Kernel<'d, F> {
         // This stays if the event runs out of memory.
         self.failed = true;
         self.processes.advance_into(net, &mut self.news)?;
-        send_all(&mut self.fabric, net, self.news.as_slice())?;
+        self.fabric.send_all(net, self.news.as_slice())?;
         self.counts.add_event(self.news.as_slice());
         self.failed = false;
         Ok(!self.news.is_empty())
     }
-}
-
-/// Sends messages of a net in order. An empty list takes no memory.
-fn send_all<F: Fabric>(fabric: &mut F, net: u32, messages: &[Message]) -> Result<(), AllocError>
-    requires { net < F.nets fabric.old }
-    ensures lists { OnOk result (F.lists fabric.new ≡ sent net messages.now (F.sources fabric.old) (F.lists fabric.old)) }
-    ensures sources { F.sources fabric.new ≡ F.sources fabric.old }
-    ensures nets { F.nets fabric.new ≡ F.nets fabric.old }
-    ensures memory { OnErr result (0 < length messages.now) }
-{
-    for message in messages {
-        fabric.send(net, *message)?;
-    }
-    Ok(())
 }
 
 /// Checks that the event at this place of a list names a pin or a net of the design.

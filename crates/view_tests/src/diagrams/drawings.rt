@@ -99,6 +99,34 @@ static DRAWN: [Row; 10] = [
     (MARKED, 7, (7, 7, 1), Svg, MARKED_SVG),
 ];
 
+const HAZARD_ENDS_SVG: &[u8] =
+    b"<svg xmlns=\"http://www.w3.org/2000/svg\" width=\"134\" height=\"130\" font-family=\"monospace\" font-size=\"12\">\n\
+      <rect width=\"100%\" height=\"100%\" fill=\"white\"/>\n\
+      <path d=\"M24 20V130\" stroke=\"#ccc\"/><text y=\"14\" x=\"24\">4</text>\n\
+      <text x=\"8\" y=\"44\">a</text><path transform=\"translate(24 30)\" d=\"M0 0h10M10 0h10M20 0h10\" fill=\"none\" stroke=\"black\"/>\n\
+      <text x=\"8\" y=\"74\">b</text><path transform=\"translate(24 60)\" d=\"M0 16h10M10 16v-16h10M20 0h10\" fill=\"none\" stroke=\"black\"/>\n\
+      <text x=\"8\" y=\"104\">y</text><path transform=\"translate(24 90)\" d=\"M0 16h10M10 16h10M20 16h10\" fill=\"none\" stroke=\"black\"/>\n\
+      </svg>\n";
+
+// Columns that show the value at their last ticks: no column of theirs has a cross.
+static ENDS: [Row; 3] = [
+    (
+        HAZARD,
+        8,
+        (0, 8, 2),
+        Text,
+        b"   0.........\na  __/--\nb  ___/-\ny  x\\___\n",
+    ),
+    (
+        SAMPLER,
+        12,
+        (0, 12, 4),
+        Text,
+        b"   0.........\nd  x\\__\nq  x/\\_\n",
+    ),
+    (HAZARD, 8, (4, 8, 2), Svg, HAZARD_ENDS_SVG),
+];
+
 // The diagram of these nets is this text.
 fn is_drawn(
     rt: &impl Abort,
@@ -120,8 +148,8 @@ fn is_drawn(
     assert!(rt; out.as_slice() == text);
 }
 
-// The diagram of all nets.
-fn shows(rt: &impl Abort, alloc: Global, row: &Row) -> Result<(), Fail> {
+// The diagram of all nets. Its columns may show their ends.
+fn shows(rt: &impl Abort, alloc: Global, row: &Row, at_end: bool) -> Result<(), Fail> {
     let (circuit, horizon, (from, to, step), form, text) = *row;
     let design = circuit.build(alloc)?;
     let horizon = Horizon::new(horizon)?;
@@ -130,7 +158,7 @@ fn shows(rt: &impl Abort, alloc: Global, row: &Row) -> Result<(), Fail> {
     for net in 0..design.nets() {
         shown.push(net)?;
     }
-    let columns = Columns::new(from, to, step, horizon)?;
+    let columns = Columns::new(from, to, step, at_end, horizon)?;
     is_drawn(
         rt,
         alloc,
@@ -147,7 +175,15 @@ fn shows(rt: &impl Abort, alloc: Global, row: &Row) -> Result<(), Fail> {
 #[test]
 fn worked_circuits(rt: HostRuntime) -> Result<(), Fail> {
     for row in &DRAWN {
-        shows(&rt, rt.alloc(), row)?;
+        shows(&rt, rt.alloc(), row, false)?;
+    }
+    Ok(())
+}
+
+#[test]
+fn ends_of_columns(rt: HostRuntime) -> Result<(), Fail> {
+    for row in &ENDS {
+        shows(&rt, rt.alloc(), row, true)?;
     }
     Ok(())
 }
@@ -155,7 +191,7 @@ fn worked_circuits(rt: HostRuntime) -> Result<(), Fail> {
 #[test]
 fn no_net(rt: HostRuntime) -> Result<(), Fail> {
     let design = INVERTER.build(rt.alloc())?;
-    let columns = Columns::new(3, 14, 1, Horizon::new(14)?)?;
+    let columns = Columns::new(3, 14, 1, false, Horizon::new(14)?)?;
     let text = b"  3.........13........\n";
     is_drawn(&rt, rt.alloc(), &design, &[], &[], columns, Text, text);
     Ok(())

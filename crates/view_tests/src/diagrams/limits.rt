@@ -34,7 +34,7 @@ static OF_TICKS: [((u64, u64, u64), u64, Result<u64, ColumnsFault>); 11] = [
 fn columns(rt: HostRuntime) -> Result<(), Fail> {
     for ((from, to, step), horizon, wanted) in &OF_TICKS {
         let horizon = Horizon::new(*horizon)?;
-        let count = Columns::new(*from, *to, *step, horizon).map(|columns| columns.count());
+        let count = Columns::new(*from, *to, *step, false, horizon).map(|columns| columns.count());
         assert!(&rt; count == *wanted);
     }
     Ok(())
@@ -51,7 +51,7 @@ fn shows_name(rt: &impl Abort, alloc: Global, design: &Design, name: &[u8]) -> R
     text.extend_from_slice(b"  x\n")?;
     let mut out = Vec::new(alloc);
     let waves = [Waveform::new(alloc)];
-    let columns = Columns::new(0, 0, 1, Horizon::new(0)?)?;
+    let columns = Columns::new(0, 0, 1, false, Horizon::new(0)?)?;
     let answer = draw(alloc, &mut out, design, &[0], &waves, columns, Form::Text);
     assert!(rt; answer == Ok(()));
     assert!(rt; out.as_slice() == text.as_slice());
@@ -74,7 +74,7 @@ fn longest_name(rt: HostRuntime) -> Result<(), Fail> {
 #[test]
 fn a_writer_that_fails(rt: HostRuntime) -> Result<(), Fail> {
     let design = INVERTER.build(rt.alloc())?;
-    let columns = Columns::new(0, 5, 1, Horizon::new(5)?)?;
+    let columns = Columns::new(0, 5, 1, false, Horizon::new(5)?)?;
     let mut out = Narrow::new(rt.alloc(), 7, 3);
     let answer = draw(rt.alloc(), &mut out, &design, &[], &[], columns, Form::Text);
     assert!(&rt; answer == Err(DumpFault::Write));

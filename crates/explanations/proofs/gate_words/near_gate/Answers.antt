@@ -1,5 +1,5 @@
 use Rattle.std.proofs.Common.{ap, ap₂, map, ◌∙◌}
-use Rattle.explanations.specs.Near.{near_among}
+use Rattle.mistakes.specs.Near.{near_among}
 use Rattle.explanations.proofs.gate_words.near_gate.Goals as goal
 
 pub returns : goal.returns

@@ -2,7 +2,7 @@ use Rattle.std.proofs.Common.{rules, tests, sym, ◌∙◌}
 use Rattle.std.proofs.lemmas.Iterator.{YieldsList-from_slice}
 use Rattle.std.proofs.lemmas.Iterator.Search.{any_from_yields_List}
 use Rattle.explanations.specs.Missing.{is_number}
-use Rattle.explanations.proofs.Left.{list_any-map}
+use Rattle.mistakes.proofs.CallerLemmas.{list_any-map}
 use Rattle.explanations.proofs.missing.has_number.Goals as goal
 
 pub returns : goal.returns

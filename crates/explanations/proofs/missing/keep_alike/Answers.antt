@@ -1,7 +1,7 @@
 use Rattle.std.proofs.Common.{rules, tests, map, ap, ◌∙◌}
 use Rattle.std.proofs.lemmas.Fn.{filter_same}
 use Rattle.explanations.specs.Missing.{is_alike}
-use Rattle.explanations.proofs.Left.{map-filter}
+use Rattle.mistakes.proofs.CallerLemmas.{map-filter}
 use Rattle.explanations.proofs.missing.keep_alike.Goals as goal
 
 pub returns : goal.returns

@@ -1,7 +1,8 @@
 use Rattle.std.proofs.Common.{rules, tests, ap, ◌∙◌}
 use Rattle.std.proofs.lemmas.Iterator.Consumers.{YieldsList-from_first}
 use Rattle.std.proofs.lemmas.Iterator.Search.{find_from_yields_List}
-use Rattle.explanations.specs.AtFault.{defines, number_or_none}
+use Rattle.mistakes.specs.BenchLines.{defines}
+use Rattle.explanations.specs.AtFault.{number_or_none}
 use Rattle.explanations.proofs.nets.line_of_net.Goals as goal
 
 pub returns : goal.returns

@@ -1,6 +1,7 @@
 use Rattle.std.proofs.Common.{rules, tests, not, bytes_eq, map, ap, sym, ◌∙◌}
 use Rattle.std.proofs.lemmas.Fn.{filter_same}
-use Rattle.explanations.proofs.Left.{filter-all, map-filter}
+use Rattle.mistakes.proofs.CallerLemmas.{map-filter}
+use Rattle.explanations.proofs.Left.{filter-all}
 use Rattle.explanations.proofs.undefined.take_out.Goals as goal
 
 pub returns-in-Some : goal.returns-in-Some

@@ -1,6 +1,6 @@
 use Rattle.std.proofs.Common.{◌||◌, map, not, sym, ap, ◌∙◌, option_map}
 use Rattle.std.specs.List.{find, list_any}
-use Rattle.explanations.specs.AtFault.{defines, is_net}
+use Rattle.mistakes.specs.BenchLines.{defines, is_net}
 use Rattle.explanations.proofs.Left.{find-left}
 use Rattle.explanations.proofs.undefined.undefined_in.Goals as goal
 

@@ -1,5 +1,6 @@
-use Rattle.std.proofs.Common.{sym, ◌∙◌}
+use Rattle.std.proofs.Common.{ap, sym, ◌∙◌}
 use Rattle.gate_process.specs.Knowledge.{keeping}
+use Rattle.gate_process.specs.Step.{oldest_asked}
 use Rattle.gate_process.proofs.Kept.{kept-more}
 use Rattle.gate_process.proofs.advance.keep_all.Goals as goal
 
@@ -7,4 +8,4 @@ pub loop-place-preserved : goal.loop-place-preserved
 loop-place-preserved c =
     kept-more c.args.net.now c.args.frontier c.args.received.now c.loop-place.place c.loop-place.received c.index-received-place.result c.keep.new.self
     c.loop-place.invariant c.loop-place-test.true c.index-received-place.is
-    (c.keep.ensures ∙ (λ i. keeping (c.oldest_asked.ensures i) (sym c.index-received-place.is i)))
+    (c.keep.ensures ∙ ap (keeping (oldest_asked c.args.net.now c.loop-place.place c.args.frontier)) (sym c.index-received-place.is))

@@ -44,7 +44,7 @@ add_event-requires g c =
 -- what the event makes of the parts
 applied : (g : Over) (c : After-add_event g) →
     IsApplied c.self.inside.design.now c.self.inside.end c.advance_into.new.self
-    (g.F.Fabric.sources c.send_all.new.fabric) (g.F.Fabric.nets c.send_all.new.fabric) (g.F.Fabric.lists c.send_all.new.fabric)
+    (g.F.Fabric.sources c.send_all.new.self) (g.F.Fabric.nets c.send_all.new.self) (g.F.Fabric.lists c.send_all.new.self)
     c.add_event.new.self (state_of c.self.inside.processes (g.F.Fabric.lists c.self.inside.fabric) c.self.inside.counts)
     (Advance c.args.net) (not (length c.advance_into.new.messages.items == 0))
 applied g c =
@@ -53,7 +53,7 @@ applied g c =
     let mover = process_at all c.args.net below in
     rw (
       c.add_event.ensures,
-      c.in_ok-send_all.ensures.lists,
+      c.in_ok-send_all.ensures.ok,
       c.in_ok-send_all.ensures.sources,
       c.in_ok-send_all.ensures.nets,
       c.as_slice.ensures.value,

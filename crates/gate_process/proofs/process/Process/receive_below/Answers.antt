@@ -5,7 +5,7 @@ use Rattle.timing_text.specs.Ranges.{most_ticks}
 use Rattle.logic3.proofs.CallerLemmas.{OnErr_always}
 use Rattle.cmb_channels.specs.declared.message.Message.{Message}
 use Rattle.cmb_channels.specs.Kinds.{is_change}
-use Rattle.gate_process.specs.Knowledge.{told_all, wanted, keeping}
+use Rattle.gate_process.specs.Knowledge.{told_all, wanted}
 use Rattle.gate_process.specs.Step.{ProcessState, ProcessView, kept, heard_all, wanted_at, wanted_messages}
 use Rattle.gate_process.specs.Truth.{IsProcess, CanHearAll}
 use Rattle.gate_process.proofs.Heard.{heard_at}
@@ -71,11 +71,11 @@ returns-in_err-count-clause-memory c =
     let at = (goal.at.returns-in_err-count-clause-memory c).After-index_mut-pin in
     OnErr_always c.from_residual.result (ap (list_any is_change) (sym (taken_is at)) ∙ c.in_err-count.ensures.memory)
 
-pub keep-requires : goal.keep-requires
+pub keep-requires-clause-begin : goal.keep-requires-clause-begin
 unfolding before taken
-keep-requires c =
-    let at = (goal.at.keep-requires c).After-index_mut-pin in
-    rw (c.in_ok-count.ensures.ok, c.oldest_asked.ensures) (once at).begins
+keep-requires-clause-begin c =
+    let at = (goal.at.keep-requires-clause-begin c).After-index_mut-pin in
+    rw c.in_ok-count.ensures.ok (once at).begins
 
 written : (c : goal.After-self-3-1) → c.keep.new.self
     ≡ kept (before (goal.at.invariant_of-self-2 c).After-index_mut-pin) c.args.place
@@ -83,8 +83,7 @@ written : (c : goal.After-self-3-1) → c.keep.new.self
 unfolding before taken
 written c =
     let at = (goal.at.invariant_of-self-2 c).After-index_mut-pin in
-    c.keep.ensures ∙ ap (λ oldest. keeping oldest c.hear_below.new.self) c.oldest_asked.ensures
-    ∙ ap (kept (before at) c.args.place) c.in_ok-count.ensures.ok
+    c.keep.ensures ∙ ap (kept (before at) c.args.place) c.in_ok-count.ensures.ok
 
 heard_is : (c : goal.After-self-3-1) → heard_at c.args.place c.keep.new.self (before (goal.at.invariant_of-self-2 c).After-index_mut-pin)
     ≡ heard_all c.args.place (taken (goal.at.invariant_of-self-2 c).After-index_mut-pin) (before (goal.at.invariant_of-self-2 c).After-index_mut-pin)

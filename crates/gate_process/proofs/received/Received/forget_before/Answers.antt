@@ -1,4 +1,5 @@
 use Rattle.std.proofs.Common.{◌≡◌, ◌≤◌, ◌∙◌, length, take, ap, sym, subst, arith}
+use Rattle.logic3.specs.Rising.{TicksRise}
 use Rattle.logic3.specs.Wave.{value_in_the_end}
 use Rattle.logic3.proofs.CallerLemmas.{IsCut, AllPairs-Alternates, due_below}
 use Rattle.gate_process.specs.Knowledge.{Knowledge, IsKnowledge, forgetting}
@@ -11,6 +12,11 @@ known c = record { wave = record { before = c.self.inside.before; changes = c.se
 
 left : goal.After-drop_front → Knowledge
 left c = record { wave = record { before = c.last_kept-self-inside.result; changes = c.drop_front.new.self }; frontier = c.self.inside.frontier }
+
+pub kept_below-early-requires : goal.kept_below-early-requires
+kept_below-early-requires c =
+    subst TicksRise (sym c.as_slice-changes.ensures)
+    (AllPairs-Alternates c.self.inside.before 0 c.self.inside.changes c.self.invariant.known.wave)
 
 cut : (c : goal.After-drop_front) → IsCut c.args.tick c.self.inside.changes c.kept_below-early.result
 cut c =

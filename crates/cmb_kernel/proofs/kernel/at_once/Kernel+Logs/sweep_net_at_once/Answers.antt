@@ -1,5 +1,60 @@
+use Rattle.std.proofs.Common.{◌≡◌, ◌<◌, length, Some, slice_get}
+use Rattle.std.proofs.lemmas.Bool.{OnTrue_at}
+use Rattle.gate_process.specs.Quiet.{IsQuiet, KnowsTo}
+use Rattle.gate_process.specs.Step.{ProcessView}
+use Rattle.cmb_kernel.specs.Running.{state_of, IsRunning}
+use Rattle.cmb_kernel.proofs.AtRest.{rested, only_counted}
+use Rattle.cmb_kernel.proofs.Running.{process_below, process_at, runs_at}
 use Rattle.cmb_kernel.proofs.SweepLoops.{pin_catches_up}
 use Rattle.cmb_kernel.proofs.kernel.at_once.Kernel+Logs.sweep_net_at_once.Goals as goal
+use Rattle.cmb_kernel.proofs.kernel.at_once.Kernel+Logs.sweep_net_at_once.Goals.{Then-is_at_rest}
+
+pub is_at_rest-requires-clause-net : goal.is_at_rest-requires-clause-net
+is_at_rest-requires-clause-net c =
+    process_below (c.self.invariant (rw (← c.self.view_is) at c.requires.running)) c.args.net (rw (← c.self.view_is) at c.requires.net)
+
+pub is_at_rest-requires-clause-running : goal.is_at_rest-requires-clause-running
+is_at_rest-requires-clause-running c = λ process at.
+    (runs_at (c.self.invariant (rw (← c.self.view_is) at c.requires.running)) c.args.net process at).runs
+
+-- ---- a net at rest
+
+running : (c : Then-is_at_rest) →
+    IsRunning c.self.inside.design.now c.self.inside.end c.self.inside.processes c.self.inside.fabric.sources c.self.inside.fabric.nets
+    (state_of c.self.inside.processes c.self.inside.fabric.lists c.self.inside.counts)
+running c = c.self.invariant (rw (← c.self.view_is) at c.requires.running)
+
+below : (c : Then-is_at_rest) → c.args.net < length c.self.inside.design.now.circuit
+below c = rw (← c.self.view_is) at c.requires.net
+
+-- its process
+rester : (c : Then-is_at_rest) → (process : ProcessView) × (slice_get c.self.inside.processes c.args.net ≡ Some process)
+rester c = process_at (running c) c.args.net (below c)
+
+quiet : (c : Then-is_at_rest) → IsQuiet ((rester c).0).state
+quiet c = OnTrue_at c.if-is_at_rest.true c.is_at_rest.ensures.quiet (rester c).0 (rester c).1
+
+knows : (c : Then-is_at_rest) → KnowsTo c.args.tick ((rester c).0).state
+knows c = OnTrue_at c.if-is_at_rest.true c.is_at_rest.ensures.known (rester c).0 (rester c).1
+
+pub invariant_of-self : goal.invariant_of-self
+invariant_of-self c =
+    let at = (goal.at.invariant_of-self c).Then-is_at_rest in
+    λ _. rw c.add_silent.ensures (rested (running at) c.args.net (rester at).0 (below at) (rester at).1 (quiet at)).all
+
+pub returns-then-is_at_rest-clause-ok : goal.returns-then-is_at_rest-clause-ok
+returns-then-is_at_rest-clause-ok c =
+    let at = (goal.at.returns-then-is_at_rest-clause-ok c).Then-is_at_rest in
+    let counted = only_counted (running at) c.args.net (rester at).0 (below at) (rester at).1 (quiet at) c.args.tick (knows at) in
+    rw (← c.self.view_is, c.add_silent.ensures)
+    (λ i. record { circuit = c.self.inside.design.now.circuit; end = c.self.inside.end; failed = c.self.inside.failed; state = counted i })
+
+pub returns-then-is_at_rest-clause-sound : goal.returns-then-is_at_rest-clause-sound
+returns-then-is_at_rest-clause-sound c =
+    let at = (goal.at.returns-then-is_at_rest-clause-sound c).Then-is_at_rest in
+    rw c.add_silent.ensures (rested (running at) c.args.net (rester at).0 (below at) (rester at).1 (quiet at)).all.sound
+
+-- ---- the pins of another
 
 pub loop-place-preserved : goal.loop-place-preserved
 loop-place-preserved c =

@@ -1,9 +1,0 @@
--- The words so far, and those of the tokens left, are those of the line.
-use Rattle.std.proofs.Common.{◌≡◌, ◌++◌}
-use Rattle.explanations.specs.SeenCorrections.{seen_words}
-use Rattle.explanations.specs.Tokens.{bytes_of, tokens_of}
-use Rattle.explanations.specs.declared.subject.Subject.TheVariants.{Bench}
-use Rattle.explanations.proofs.corrections.words.marked_words.Given as goal
-
-abbrev pub invariant-loop-token : goal.invariant-loop-token
-invariant-loop-token l = seen_words l.words.items ++ bytes_of l.token-iterator ≡ bytes_of (tokens_of Bench l.code)

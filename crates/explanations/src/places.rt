@@ -1,8 +1,0 @@
-//! Where a line stops having a form of its text.
-pub(crate) mod forms;
-mod line;
-pub(crate) mod slot;
-mod telling_place;
-pub(crate) mod tokens;
-
-pub(crate) use telling_place::misplaced;

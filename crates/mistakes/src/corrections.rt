@@ -1,0 +1,22 @@
+//! What a line without a form may be written as.
+mod accepted;
+mod applying;
+mod bench;
+mod correction;
+mod delays;
+mod first_words;
+mod formulas;
+mod gates;
+mod lists;
+mod nested;
+mod ports;
+mod right;
+mod schedule;
+mod statements;
+mod stimuli;
+mod telling_correction;
+mod ticks;
+mod traces;
+mod words;
+
+pub use telling_correction::corrected;
