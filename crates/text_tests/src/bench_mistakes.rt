@@ -1,5 +1,5 @@
 //! Lines of .bench texts without a form, and what is said of the place at which each stops having one.
-use crate::mistakes::{Mistake, is_said};
+use crate::mistaken_lines::{Mistake, is_said};
 use explanations::Subject;
 use std::test::Fail;
 

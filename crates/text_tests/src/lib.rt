@@ -8,7 +8,7 @@ mod flow;
 #[cfg(test)]
 mod lines;
 #[cfg(test)]
-mod mistakes;
+mod mistaken_lines;
 #[cfg(test)]
 mod near_names;
 #[cfg(test)]

@@ -1,6 +1,6 @@
 //! Lines of delays, stimuli, schedules and decks without a form, and what is said of the place at which each stops
 //! having one.
-use crate::mistakes::{Mistake, is_said, told};
+use crate::mistaken_lines::{Mistake, is_said, told};
 use explanations::Subject;
 use std::test::Fail;
 
