@@ -5,7 +5,7 @@ use crate::options::{ALONE, LENGTH, SHOWN, SOURCE, number_given, selection_given
 use crate::order::Order;
 use crate::source_options::PickOptions;
 use clap::{ArgMatches, Command};
-use plain_runs::DiagramView;
+use prepared_runs::DiagramView;
 use std::alloc::{AllocError, Global};
 use timing_diagram::Form;
 

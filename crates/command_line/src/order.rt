@@ -6,8 +6,7 @@ ghost use Rattle.command_line.specs.Orders.{bench_alone, files_on, last_tick, na
 
 use crate::source_options::{Files, SourceOptions, file_of_bench, names_of_files};
 use drawn_stimuli::{Draws, Driven};
-use plain_runs::DiagramView;
-use prepared_runs::{DumpView, RunTexts, Selection};
+use prepared_runs::{DiagramView, DumpView, RunTexts, Selection};
 use std::slice::from_ref;
 use wave_diff::{DiffTicks, Side};
 

@@ -18,7 +18,7 @@ use Rattle.wave_diff.specs.declared.fault.ComparedFault.{ComparedFault}
 use Rattle.wave_diff.specs.declared.fault.ComparedFault.TheVariants as compared
 use Rattle.prepared_runs.specs.declared.fault.SimFault.{SimFault}
 use Rattle.prepared_runs.specs.declared.fault.SimFault.TheVariants as sim
-use Rattle.plain_runs.specs.declared.diagram_run.DiagramView.{DiagramView}
+use Rattle.prepared_runs.specs.declared.view.DiagramView.{DiagramView}
 use Rattle.wave_diff.specs.declared.diff_ticks.DiffTicks.{DiffTicks}
 use Rattle.wave_diff.specs.declared.comparison.Side.{Side}
 use Rattle.program_io.specs.declared.program_fault.ProgramFault.{ProgramFault}
@@ -52,46 +52,20 @@ input_driven other place = None
 
 -- ---- the number at fault
 
-abbrev pub number_of_setting : Order → Side → OptionFault → Option ℕ
-number_of_setting order side setting.BadDelay = option_map (λ (options : SourceOptions). options.delay) (options_on order side)
-number_of_setting order side setting.BadPeriod = option_map (λ (options : SourceOptions). options.period) (options_on order side)
-number_of_setting order side setting.BadHorizon = last_tick order
-
--- too many columns have no such number
-abbrev pub number_of_columns : ColumnsFault → DiagramView → Option ℕ
-number_of_columns columns.NoStep view = Some view.step
-number_of_columns columns.Backwards view = Some view.to
-number_of_columns columns.PastHorizon view = Some view.to
-number_of_columns columns.TooManyColumns view = None
-
-abbrev pub number_of_ticks : ComparedFault → DiffTicks → Option ℕ
-number_of_ticks compared.BadEvery ticks = Some ticks.every
-number_of_ticks compared.PastHorizon ticks = Some ticks.from
-
-abbrev pub number_of_draws : DriveFault → Draws → Option ℕ
-number_of_draws drive.BadEvery draws = Some draws.every
-number_of_draws other draws = None
-
-abbrev pub number_in_run : Order → Side → SimFault → Option ℕ
-number_in_run order side (sim.Setting fault) = number_of_setting order side fault
-number_in_run order side other = None
-
+-- the number that each fault is for; too many columns have no such number
 abbrev pub number_at_fault : Order → ProgramFault → Option ℕ
-number_at_fault order (program.Run side fault) = number_in_run order side fault
-number_at_fault order (program.Columns fault) = option_and_then (number_of_columns fault) (diagram_in order)
-number_at_fault order (program.Compared fault) = option_and_then (number_of_ticks fault) (ticks_in order)
-number_at_fault order (program.Drives fault) = option_and_then (number_of_draws fault) (draws_in order)
+number_at_fault order (program.Run side (sim.Setting setting.BadDelay)) = option_map (λ (options : SourceOptions). options.delay) (options_on order side)
+number_at_fault order (program.Run side (sim.Setting setting.BadPeriod)) = option_map (λ (options : SourceOptions). options.period) (options_on order side)
+number_at_fault order (program.Run side (sim.Setting setting.BadHorizon)) = last_tick order
+number_at_fault order (program.Columns columns.NoStep) = option_map (λ (view : DiagramView). view.step) (diagram_in order)
+number_at_fault order (program.Columns columns.Backwards) = option_map (λ (view : DiagramView). view.to) (diagram_in order)
+number_at_fault order (program.Columns columns.PastHorizon) = option_map (λ (view : DiagramView). view.to) (diagram_in order)
+number_at_fault order (program.Compared compared.BadEvery) = option_map (λ (ticks : DiffTicks). ticks.every) (ticks_in order)
+number_at_fault order (program.Compared compared.PastHorizon) = option_map (λ (ticks : DiffTicks). ticks.from) (ticks_in order)
+number_at_fault order (program.Drives drive.BadEvery) = option_map (λ (draws : Draws). draws.every) (draws_in order)
 number_at_fault order other = None
 
 -- ---- the name at fault
-
--- the place of the drive at fault
-abbrev pub place_of_drive : DriveFault → Option ℕ
-place_of_drive (drive.NotAnInput place) = Some place
-place_of_drive (drive.Twice place) = Some place
-place_of_drive (drive.BadHalf place) = Some place
-place_of_drive (drive.BadPulse place) = Some place
-place_of_drive other = None
 
 -- the netlist of a text, if it is one
 abbrev pub if_read : Result NetlistView BenchFault → Option NetlistView
@@ -117,11 +91,11 @@ unknown_asked order side texts =
     let netlist = netlist_in (texts_on texts side).bench.items in
     first_in_neither (names_asked order) netlist netlist
 
-abbrev pub name_in_run : Order → Side → SimFault → OrderTexts → Option (List ℕ)
-name_in_run order side sim.UnknownNet texts = unknown_asked order side texts
-name_in_run order side other texts = None
-
+-- the name that each fault is for
 abbrev pub name_at_fault : Order → ProgramFault → OrderTexts → Option (List ℕ)
-name_at_fault order (program.Run side fault) texts = name_in_run order side fault texts
-name_at_fault order (program.Drives fault) texts = option_and_then (input_driven order) (place_of_drive fault)
+name_at_fault order (program.Run side sim.UnknownNet) texts = unknown_asked order side texts
+name_at_fault order (program.Drives (drive.NotAnInput place)) texts = input_driven order place
+name_at_fault order (program.Drives (drive.Twice place)) texts = input_driven order place
+name_at_fault order (program.Drives (drive.BadHalf place)) texts = input_driven order place
+name_at_fault order (program.Drives (drive.BadPulse place)) texts = input_driven order place
 name_at_fault order other texts = None

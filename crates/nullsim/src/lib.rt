@@ -27,10 +27,10 @@ pub use kernel_runs::{
     CheckAnswer, DiffAnswer, DiffFault, DiffTicks, Report, Side, TwinAnswer, TwinFault, check,
     diff, simulate, simulate_with_progress, twin,
 };
-pub use plain_runs::{DiagramFault, DiagramView, diagram, plain, plain_with_progress};
+pub use plain_runs::{DiagramFault, diagram, plain, plain_with_progress};
 pub use prepared_runs::{
-    DeckFault, DumpView, Picks, Progress, RunTexts, Sections, Selection, Show, Silent, SimFault,
-    Source, View, read_sections,
+    DeckFault, DiagramView, DumpView, Picks, Progress, RunTexts, Sections, Selection, Show, Silent,
+    SimFault, Source, View, read_sections,
 };
 pub use program_io::{
     OrderTexts, Outcome, ProgramFault, ReadFault, Texts, answer_deck, deck, read_text, read_texts,

@@ -1,8 +1,10 @@
 //! The name at fault among the arguments.
-ghost use Rattle.std.specs.Prelude.{◌≡◌, option_and_then, option_map, IfOk};
+ghost use Rattle.std.specs.Prelude.{◌≡◌, option_map, IfOk};
 ghost use Rattle.std.specs.List.{find};
 ghost use Rattle.netlist.specs.Names.{seen_names};
-ghost use Rattle.nullsim.specs.AtFault.{first_in_neither, in_neither, input_driven, name_at_fault, name_in_run, netlist_in, place_of_drive, unknown_asked};
+ghost use Rattle.nullsim.specs.AtFault.{first_in_neither, in_neither, input_driven, name_at_fault, netlist_in, unknown_asked};
+ghost use Rattle.program_io.specs.declared.order_texts.OrderTexts.{OrderTexts};
+ghost use Rattle.program_io.specs.declared.program_fault.ProgramFault.TheVariants.{Drives};
 
 use bench_text::{BenchFault, read};
 use command_line::Order;
@@ -29,24 +31,11 @@ pub(crate) fn name_at_fault<'o>(
         ≡ name_at_fault order.now fault.entry texts.now) }
 {
     match fault {
-        ProgramFault::Run { side, fault } => name_in_run(alloc, order, side, fault, texts),
-        ProgramFault::Drives(fault) => Ok(input_at(order, place_of_drive(fault))),
-        _ => Ok(None),
-    }
-}
-
-fn name_in_run<'o>(
-    alloc: Global,
-    order: &'o Order<'_>,
-    side: Side,
-    fault: SimFault,
-    texts: &OrderTexts,
-) -> Result<Option<&'o [u8]>, AllocError>
-    ensures { IfOk result (λ name. option_map (λ name. name.now) name
-        ≡ name_in_run order.now side fault texts.now) }
-{
-    match fault {
-        SimFault::UnknownNet => unknown_asked(alloc, order, side, texts),
+        ProgramFault::Run {
+            side,
+            fault: SimFault::UnknownNet,
+        } => unknown_asked(alloc, order, side, texts),
+        ProgramFault::Drives(fault) => Ok(driven_at_fault(order, fault)),
         _ => Ok(None),
     }
 }
@@ -106,26 +95,20 @@ fn first_unknown<'a>(names: &[&'a [u8]], one: &Netlist, other: &Netlist) -> Opti
     names.iter().copied().find(|name| one.find(name).is_none() && other.find(name).is_none())
 }
 
-/// Returns the place of the drive at fault.
-fn place_of_drive(fault: DriveFault) -> Option<usize>
-    ensures { result ≡ place_of_drive fault }
+/// Returns the name of the input whose drive is at fault.
+fn driven_at_fault<'o>(order: &'o Order<'_>, fault: DriveFault) -> Option<&'o [u8]>
+    ensures { (texts : OrderTexts) → option_map (λ name. name.now) result ≡ name_at_fault order.now (Drives fault) texts }
 {
     match fault {
         DriveFault::NotAnInput { place }
         | DriveFault::Twice { place }
         | DriveFault::BadHalf { place }
-        | DriveFault::BadPulse { place } => Some(place),
+        | DriveFault::BadPulse { place } => input_driven(order, place),
         DriveFault::BadEvery | DriveFault::TooLong | DriveFault::Memory => None,
     }
 }
 
 /// Returns the name of the input that is driven by the drive at a place, if there is such a drive.
-fn input_at<'o>(order: &'o Order<'_>, place: Option<usize>) -> Option<&'o [u8]>
-    ensures { option_map (λ name. name.now) result ≡ option_and_then (input_driven order.now) place }
-{
-    input_driven(order, place?)
-}
-
 fn input_driven<'o>(order: &'o Order<'_>, place: usize) -> Option<&'o [u8]>
     ensures { option_map (λ name. name.now) result ≡ input_driven order.now place }
 {

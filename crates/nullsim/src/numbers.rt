@@ -1,11 +1,12 @@
 //! The number at fault among the arguments.
 ghost use Rattle.std.specs.Prelude.{◌≡◌, option_map};
-ghost use Rattle.nullsim.specs.AtFault.{diagram_in, draws_in, number_at_fault, number_in_run, number_of_columns, number_of_draws, number_of_setting, number_of_ticks, ticks_in};
+ghost use Rattle.nullsim.specs.AtFault.{diagram_in, draws_in, number_at_fault, ticks_in};
+ghost use Rattle.prepared_runs.specs.declared.fault.SimFault.TheVariants.{Setting};
+ghost use Rattle.program_io.specs.declared.program_fault.ProgramFault.TheVariants.{Columns, Compared, Run};
 
 use command_line::Order;
 use drawn_stimuli::{Draws, DriveFault};
-use plain_runs::DiagramView;
-use prepared_runs::SimFault;
+use prepared_runs::{DiagramView, SimFault};
 use program_io::ProgramFault;
 use timing_diagram::ColumnsFault;
 use timing_text::OptionFault;
@@ -16,25 +17,19 @@ pub(crate) fn number_at_fault(order: &Order<'_>, fault: ProgramFault<'_>) -> Opt
     ensures { result ≡ number_at_fault order.now fault.entry }
 {
     match fault {
-        ProgramFault::Run { side, fault } => number_in_run(order, side, fault),
-        ProgramFault::Columns(fault) => number_of_columns(fault, diagram_in(order)?),
-        ProgramFault::Compared(fault) => number_of_ticks(fault, ticks_in(order)?),
-        ProgramFault::Drives(fault) => number_of_draws(fault, draws_in(order)?),
-        _ => None,
-    }
-}
-
-fn number_in_run(order: &Order<'_>, side: Side, fault: SimFault) -> Option<u64>
-    ensures { result ≡ number_in_run order.now side fault }
-{
-    match fault {
-        SimFault::Setting(fault) => number_of_setting(order, side, fault),
+        ProgramFault::Run {
+            side,
+            fault: SimFault::Setting(fault),
+        } => number_of_setting(order, side, fault),
+        ProgramFault::Columns(fault) => number_of_columns(order, fault),
+        ProgramFault::Compared(fault) => number_of_ticks(order, fault),
+        ProgramFault::Drives(DriveFault::BadEvery) => Some(draws_in(order)?.every),
         _ => None,
     }
 }
 
 fn number_of_setting(order: &Order<'_>, side: Side, fault: OptionFault) -> Option<u64>
-    ensures { result ≡ number_of_setting order.now side fault }
+    ensures { result ≡ number_at_fault order.now (Run side (Setting fault)) }
 {
     match fault {
         OptionFault::BadDelay => Some(order.options(side)?.delay),
@@ -43,9 +38,10 @@ fn number_of_setting(order: &Order<'_>, side: Side, fault: OptionFault) -> Optio
     }
 }
 
-fn number_of_columns(fault: ColumnsFault, view: &DiagramView<'_>) -> Option<u64>
-    ensures { result ≡ number_of_columns fault view.now }
+fn number_of_columns(order: &Order<'_>, fault: ColumnsFault) -> Option<u64>
+    ensures { result ≡ number_at_fault order.now (Columns fault) }
 {
+    let view = diagram_in(order)?;
     match fault {
         ColumnsFault::NoStep => Some(view.step),
         ColumnsFault::Backwards | ColumnsFault::PastHorizon => Some(view.to),
@@ -53,21 +49,13 @@ fn number_of_columns(fault: ColumnsFault, view: &DiagramView<'_>) -> Option<u64>
     }
 }
 
-fn number_of_ticks(fault: ComparedFault, ticks: DiffTicks) -> Option<u64>
-    ensures { result ≡ number_of_ticks fault ticks }
+fn number_of_ticks(order: &Order<'_>, fault: ComparedFault) -> Option<u64>
+    ensures { result ≡ number_at_fault order.now (Compared fault) }
 {
+    let ticks = ticks_in(order)?;
     match fault {
         ComparedFault::BadEvery => Some(ticks.every),
         ComparedFault::PastHorizon => Some(ticks.from),
-    }
-}
-
-fn number_of_draws(fault: DriveFault, draws: Draws) -> Option<u64>
-    ensures { result ≡ number_of_draws fault draws }
-{
-    match fault {
-        DriveFault::BadEvery => Some(draws.every),
-        _ => None,
     }
 }
 

@@ -13,7 +13,7 @@ use Rattle.timing_diagram.specs.declared.fault.ColumnsFault.{ColumnsFault}
 use Rattle.timing_diagram.specs.Columns.{Ticks, IsDrawable, columns_of}
 use Rattle.timing_diagram.specs.Drawing.{drawing}
 use Rattle.timing_diagram.proofs.CallerLemmas.{drawing-same}
-use Rattle.plain_runs.specs.declared.diagram_run.DiagramView.{DiagramView}
+use Rattle.prepared_runs.specs.declared.view.DiagramView.{DiagramView}
 use Rattle.prepared_runs.specs.declared.fault.SimFault.{SimFault}
 use Rattle.prepared_runs.specs.declared.fault.SimFault.TheVariants.{Setting, Dump, Memory}
 use Rattle.plain_runs.specs.declared.diagram_fault.DiagramFault.{DiagramFault}

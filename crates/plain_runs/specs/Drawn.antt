@@ -10,7 +10,7 @@ use Rattle.texts.specs.Written.{AppendsPrefix}
 use Rattle.vcd_dump.specs.Faults.{IsFailedWrite}
 use Rattle.plain_runs.specs.declared.diagram_fault.DiagramFault.{DiagramFault}
 use Rattle.plain_runs.specs.declared.diagram_fault.DiagramFault.TheVariants.{Columns, Run}
-use Rattle.plain_runs.specs.declared.diagram_run.DiagramView.{DiagramView}
+use Rattle.prepared_runs.specs.declared.view.DiagramView.{DiagramView}
 use Rattle.prepared_runs.specs.declared.fault.SimFault.TheVariants.{Setting, Dump, Memory}
 use Rattle.prepared_runs.specs.Ends.{WritesPart}
 use Rattle.prepared_runs.specs.Source.{SourceView, design_of_source, if_known, or_fault, shown_nets, signals_of}

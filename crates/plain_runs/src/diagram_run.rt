@@ -12,29 +12,11 @@ ghost use Rattle.prepared_runs.specs.declared.fault.SimFault.TheVariants.{Memory
 use crate::diagram_fault::DiagramFault;
 use crate::plain_run::shown_waves;
 use design::Design;
-use prepared_runs::{Selection, Silent, SimFault, Source, prepare, shown_nets};
+use prepared_runs::{DiagramView, Silent, SimFault, Source, prepare, shown_nets};
 use std::alloc::Global;
 use std::io::Write;
-use timing_diagram::{Columns, Form, draw};
+use timing_diagram::{Columns, draw};
 use timing_text::Horizon;
-
-/// What a timing diagram shows of a run.
-#[derive(Debug, Drop)]
-pub struct DiagramView<'a> {
-    /// Which nets it shows, from top to bottom.
-    pub show: Selection<'a>,
-    /// The last tick of the run: at most 10,000,000.
-    pub horizon: u64,
-    /// The first tick that is drawn.
-    pub from: u64,
-    /// The last tick that is drawn: at most the horizon.
-    pub to: u64,
-    /// The number of ticks of a column: at least 1, and enough for at most 1,000 columns.
-    pub step: u64,
-    /// Whether a column shows the value at its last tick, whatever is before it.
-    pub at_end: bool,
-    pub form: Form,
-}
 
 /// Writes the timing diagram of a run, which the plain engine computes up to its horizon.
 ///

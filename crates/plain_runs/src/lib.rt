@@ -15,7 +15,7 @@ mod unused;
 mod why_run;
 
 pub use diagram_fault::DiagramFault;
-pub use diagram_run::{DiagramView, diagram};
+pub use diagram_run::diagram;
 pub use notes::notes_text;
 pub use plain_run::{plain, plain_with_progress};
 pub use why_run::why;

@@ -21,4 +21,4 @@ pub use progress::{Progress, Silent};
 pub use run_texts::{RunTexts, SECTIONS};
 pub use sections::{Sections, read_sections};
 pub use source::{Picks, Source};
-pub use view::{DumpView, Selection, Show, View};
+pub use view::{DiagramView, DumpView, Selection, Show, View};

@@ -1,7 +1,8 @@
-//! What of a run its dump shows.
+//! What of a run its dump or its diagram shows.
 ghost use Rattle.std.specs.Prelude.{◌≡◌};
 ghost use Rattle.prepared_runs.specs.Views.{dump_view, selection_of};
 
+use timing_diagram::Form;
 use vcd_dump::TimeUnit;
 
 /// What of a run its dump shows.
@@ -31,6 +32,24 @@ pub struct DumpView<'a> {
     pub show: Selection<'a>,
     /// The unit of the ticks.
     pub unit: TimeUnit,
+}
+
+/// What a timing diagram shows of a run.
+#[derive(Debug, Drop)]
+pub struct DiagramView<'a> {
+    /// Which nets it shows, from top to bottom.
+    pub show: Selection<'a>,
+    /// The last tick of the run: at most 10,000,000.
+    pub horizon: u64,
+    /// The first tick that is drawn.
+    pub from: u64,
+    /// The last tick that is drawn: at most the horizon.
+    pub to: u64,
+    /// The number of ticks of a column: at least 1, and enough for at most 1,000 columns.
+    pub step: u64,
+    /// Whether a column shows the value at its last tick, whatever is before it.
+    pub at_end: bool,
+    pub form: Form,
 }
 
 /// Which nets a dump or a diagram shows.

@@ -24,7 +24,7 @@ use Rattle.cmb_events.specs.Schedule.{events_after, events_of}
 use Rattle.prepared_runs.specs.declared.fault.SimFault.{SimFault}
 use Rattle.prepared_runs.specs.declared.fault.SimFault.TheVariants.{Setting}
 use Rattle.prepared_runs.specs.declared.view.DumpView.{DumpView}
-use Rattle.plain_runs.specs.declared.diagram_run.DiagramView.{DiagramView}
+use Rattle.prepared_runs.specs.declared.view.DiagramView.{DiagramView}
 use Rattle.drawn_stimuli.specs.declared.drive.Draws.{Draws}
 use Rattle.drawn_stimuli.specs.Inputs.{DriveView}
 use Rattle.wave_diff.specs.declared.diff_ticks.DiffTicks.{DiffTicks}

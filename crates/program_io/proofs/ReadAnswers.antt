@@ -6,7 +6,7 @@ use Rattle.netlist.specs.Names.{seen_names}
 use Rattle.drawn_stimuli.specs.declared.drive.Draws.{Draws}
 use Rattle.drawn_stimuli.specs.declared.drive.Driven.{Driven}
 use Rattle.drawn_stimuli.specs.Inputs.{seen_drive}
-use Rattle.plain_runs.specs.declared.diagram_run.DiagramView.{DiagramView}
+use Rattle.prepared_runs.specs.declared.view.DiagramView.{DiagramView}
 use Rattle.wave_diff.specs.declared.diff_ticks.DiffTicks.{DiffTicks}
 use Rattle.prepared_runs.specs.declared.view.DumpView.{DumpView}
 use Rattle.kernel_runs.specs.Checked.{checked}

@@ -3,7 +3,7 @@ use Rattle.std.specs.Prelude.{◌≡◌, ℕ, Bool, List, true, false, Option, R
 use Rattle.std.specs.Result.{result_map_both}
 use Rattle.std.specs.Io.KnownBytes.{Appends}
 use Rattle.cmb_kernel.specs.declared.counts.Counts.{Counts}
-use Rattle.plain_runs.specs.declared.diagram_run.DiagramView.{DiagramView}
+use Rattle.prepared_runs.specs.declared.view.DiagramView.{DiagramView}
 use Rattle.prepared_runs.specs.declared.fault.SimFault.{SimFault}
 use Rattle.kernel_runs.specs.declared.simulation.Report.{Report}
 use Rattle.wave_diff.specs.declared.comparison.Side.TheVariants.{First}

@@ -19,8 +19,8 @@ use kernel_runs::{
     DiffTicks, check, check_text, diff, simulate_with_progress, sweep_with_progress, twin,
     twin_text,
 };
-use plain_runs::{DiagramView, diagram, plain_with_progress, why};
-use prepared_runs::{DumpView, Progress, SimFault, Source, prepare};
+use plain_runs::{diagram, plain_with_progress, why};
+use prepared_runs::{DiagramView, DumpView, Progress, SimFault, Source, prepare};
 use std::alloc::Global;
 use std::io::Write;
 
