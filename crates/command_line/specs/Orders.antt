@@ -18,7 +18,7 @@ use Rattle.command_line.specs.Sources.{Files, file_of_bench, files_of_options, n
 abbrev pub options_on : Order → Side → Option SourceOptions
 options_on (Run options view counts) First = Some options
 options_on (Plain options view) First = Some options
-options_on (Draw options view) First = Some options
+options_on (Draw options view form) First = Some options
 options_on (Trace options horizon) First = Some options
 options_on (Why options net tick) First = Some options
 options_on (Info options) First = Some options
@@ -52,7 +52,7 @@ names_of order side = names_of_files (files_on order side)
 abbrev pub last_tick : Order → Option ℕ
 last_tick (Run options view counts) = Some view.horizon
 last_tick (Plain options view) = Some view.horizon
-last_tick (Draw options view) = Some view.horizon
+last_tick (Draw options view form) = Some view.horizon
 last_tick (Trace options horizon) = Some horizon
 last_tick (Why options net tick) = Some tick
 last_tick (Check options horizon) = Some horizon
@@ -69,7 +69,7 @@ names_shown other = []
 abbrev pub names_asked : Order → List (List ℕ)
 names_asked (Run options view counts) = names_shown view.show
 names_asked (Plain options view) = names_shown view.show
-names_asked (Draw options view) = names_shown view.show
+names_asked (Draw options view form) = names_shown view.show
 names_asked (Why options net tick) = net.now ∷ []
 names_asked (Cone bench names) = seen_names names.items
 names_asked (Diff first second names ticks) = seen_names names.items

@@ -63,6 +63,7 @@ pub(super) fn order_given<'a>(
     Ok(Order::Draw {
         source: source_given(options, &ALONE, PickOptions::Nothing),
         view: view_given(alloc, options)?,
+        form: form_given(options),
     })
 }
 
@@ -75,7 +76,6 @@ fn view_given<'a>(alloc: Global, options: &ArgMatches<'a>) -> Result<DiagramView
         to: options.get_one("to").unwrap_or(horizon),
         step: number_given(options, "step"),
         at_end: options.get_flag("at-end"),
-        form: form_given(options),
     })
 }
 

@@ -8,6 +8,7 @@ use crate::source_options::{Files, SourceOptions, file_of_bench, names_of_files}
 use drawn_stimuli::{Draws, Driven};
 use prepared_runs::{DiagramView, DumpView, RunTexts, Selection};
 use std::slice::from_ref;
+use timing_diagram::Form;
 use wave_diff::{DiffTicks, Side};
 
 /// A command with its options. The numbers may be out of their ranges.
@@ -29,6 +30,7 @@ pub enum Order<'a> {
     Draw {
         source: SourceOptions<'a>,
         view: DiagramView<'a>,
+        form: Form,
     },
     /// Write the trace of a run.
     Trace {

@@ -34,7 +34,7 @@ use Rattle.program_io.specs.Options.{texts_on}
 
 -- the diagram that it draws, the ticks that it compares, what it draws for inputs
 abbrev pub diagram_in : Order → Option DiagramView
-diagram_in (Draw options view) = Some view
+diagram_in (Draw options view form) = Some view
 diagram_in other = None
 
 abbrev pub ticks_in : Order → Option DiffTicks

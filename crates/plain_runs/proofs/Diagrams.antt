@@ -10,6 +10,7 @@ use Rattle.design.specs.Design.{DesignView}
 use Rattle.design.specs.Equations.{value_of}
 use Rattle.vcd_dump.specs.Traces.{name_of, traces}
 use Rattle.timing_diagram.specs.declared.fault.ColumnsFault.{ColumnsFault}
+use Rattle.timing_diagram.specs.declared.form.Form.{Form}
 use Rattle.timing_diagram.specs.Columns.{Ticks, IsDrawable, columns_of}
 use Rattle.timing_diagram.specs.Drawing.{drawing}
 use Rattle.timing_diagram.proofs.CallerLemmas.{drawing-same}
@@ -71,37 +72,37 @@ DiagramEndsBy-BreaksOff old new text _ part = absurd part
 
 -- ---- its answer
 
-module _ (source : SourceView) (view : DiagramView) where
+module _ (source : SourceView) (view : DiagramView) (form : Form) where
   -- a fault of the ticks is the answer
-  pub diagram_of_source-bad_ticks : (fault : DiagramFault) → ticks_of_view view ≡ Err fault → diagram_of_source source view ≡ Err fault
+  pub diagram_of_source-bad_ticks : (fault : DiagramFault) → ticks_of_view view ≡ Err fault → diagram_of_source source view form ≡ Err fault
   unfolding diagram_of_source
   diagram_of_source-bad_ticks fault bad = rw bad refl
 
   module _ (ticks : Ticks) (drawn : ticks_of_view view ≡ Ok ticks) where
     -- so is one of the design
-    pub diagram_of_source-bad : (fault : SimFault) → design_of_source source view.horizon ≡ Err fault → diagram_of_source source view ≡ Err (Run fault)
+    pub diagram_of_source-bad : (fault : SimFault) → design_of_source source view.horizon ≡ Err fault → diagram_of_source source view form ≡ Err (Run fault)
     unfolding diagram_of_source
     diagram_of_source-bad fault bad = rw (drawn, bad) refl
 
     module _ (horizon : ℕ) (design : DesignView) (made : design_of_source source view.horizon ≡ Ok (horizon, design)) where
       -- so is a net that isn't there
       pub diagram_of_source-unknown : {A : Type 0} (shown : A) (fault : SimFault) → if_known view.show design.netlist shown ≡ Err fault →
-          diagram_of_source source view ≡ Err (Run fault)
+          diagram_of_source source view form ≡ Err (Run fault)
       unfolding diagram_of_source
       diagram_of_source-unknown shown fault unknown = rw (drawn, made) (ap (or_fault Run) (unknown_for view.show design.netlist shown _ fault unknown))
 
-      pub diagram_of_source-good : IsTrue (knows_shown view.show design.netlist) → diagram_of_source source view ≡ Ok (diagram_of_design view ticks design)
+      pub diagram_of_source-good : IsTrue (knows_shown view.show design.netlist) → diagram_of_source source view form ≡ Ok (diagram_of_design view form ticks design)
       unfolding diagram_of_source
       diagram_of_source-good known = rw (drawn, made, known) refl
 
 -- what is drawn of the shown nets' waveforms is the answer's text
-pub diagram_of_design-waves : (view : DiagramView) (ticks : Ticks) (horizon : ℕ) (design : DesignView) (nets : List ℕ) (waves : List Wave) →
+pub diagram_of_design-waves : (view : DiagramView) (form : Form) (ticks : Ticks) (horizon : ℕ) (design : DesignView) (nets : List ℕ) (waves : List Wave) →
     IsDrawable ticks → ticks.to ≤ horizon → nets ≡ shown_nets view.show design.netlist → waves ≡ waves_up_to design.circuit horizon nets →
-    drawing view.form ticks (traces design.circuit nets waves) ≡ diagram_of_design view ticks design
+    drawing form ticks (traces design.circuit nets waves) ≡ diagram_of_design view form ticks design
 unfolding diagram_of_design
-diagram_of_design-waves view ticks horizon design nets waves ok within are show =
-    ap (λ ws. drawing view.form ticks (traces design.circuit nets ws)) show
-    ∙ ap (drawing view.form ticks) (traces-map design.circuit (λ net. wave_of (value_of design.circuit net) 0 (horizon + 1)) nets)
+diagram_of_design-waves view form ticks horizon design nets waves ok within are show =
+    ap (λ ws. drawing form ticks (traces design.circuit nets ws)) show
+    ∙ ap (drawing form ticks) (traces-map design.circuit (λ net. wave_of (value_of design.circuit net) 0 (horizon + 1)) nets)
     ∙ drawing-same ticks ok (name_of design.circuit) (λ net. value_at (wave_of (value_of design.circuit net) 0 (horizon + 1))) (value_of design.circuit)
-    (λ net tick inside. value_at-wave_of (value_of design.circuit net) 0 (horizon + 1) tick (omega arith) (omega arith)) view.form nets
-    ∙ ap (λ ns. drawing view.form ticks (signals_of design.circuit ns)) are
+    (λ net tick inside. value_at-wave_of (value_of design.circuit net) 0 (horizon + 1) tick (omega arith) (omega arith)) form nets
+    ∙ ap (λ ns. drawing form ticks (signals_of design.circuit ns)) are

@@ -15,7 +15,7 @@ use design::Design;
 use prepared_runs::{DiagramView, Silent, SimFault, Source, prepare, shown_nets};
 use std::alloc::Global;
 use std::io::Write;
-use timing_diagram::{Columns, draw};
+use timing_diagram::{Columns, Form, draw};
 use timing_text::Horizon;
 
 /// Writes the timing diagram of a run, which the plain engine computes up to its horizon.
@@ -31,18 +31,28 @@ pub fn diagram<W: Write>(
     alloc: Global,
     source: &Source<'_>,
     view: &DiagramView<'_>,
+    form: Form,
     out: &mut W,
 ) -> Result<(), DiagramFault>
-    ensures ok { OnOk result (IsOkAnd (diagram_of_source (seen_source source.now) view.now)
+    ensures ok { OnOk result (IsOkAnd (diagram_of_source (seen_source source.now) view.now form)
         (Appends (W.contents out.old) (W.contents out.new))) }
-    ensures err { IfErr result (DiagramEndsBy (diagram_of_source (seen_source source.now) view.now)
+    ensures err { IfErr result (DiagramEndsBy (diagram_of_source (seen_source source.now) view.now form)
         (W.contents out.old) (W.contents out.new)) }
     ensures memory { result ≡ Err (Run Memory) → MayWantMemory (seen_source source.now) view.now.horizon }
 {
     let columns = columns_of(view)?;
     let (horizon, design) = prepare(alloc, source, view.horizon)?;
     let nets = shown_nets(alloc, &design, &view.show)?;
-    draw_design(alloc, &design, horizon, view, nets.as_slice(), columns, out)?;
+    draw_design(
+        alloc,
+        &design,
+        horizon,
+        view,
+        form,
+        nets.as_slice(),
+        columns,
+        out,
+    )?;
     Ok(())
 }
 
@@ -63,6 +73,7 @@ fn draw_design<W: Write>(
     design: &Design,
     horizon: Horizon,
     view: &DiagramView<'_>,
+    form: Form,
     nets: &[u32],
     columns: Columns,
     out: &mut W,
@@ -72,19 +83,11 @@ fn draw_design<W: Write>(
     requires drawable { IsDrawable columns }
     requires within { columns.to ≤ horizon }
     ensures ok { OnOk result (Appends (W.contents out.old) (W.contents out.new)
-        (diagram_of_design view.now columns design.now)) }
+        (diagram_of_design view.now form columns design.now)) }
     ensures err { IfErr result (BreaksOff (W.contents out.old) (W.contents out.new)
-        (diagram_of_design view.now columns design.now)) }
+        (diagram_of_design view.now form columns design.now)) }
 {
     let waves = shown_waves(alloc, design, horizon, &view.show, nets, &mut Silent)?;
-    draw(
-        alloc,
-        out,
-        design,
-        nets,
-        waves.as_slice(),
-        columns,
-        view.form,
-    )?;
+    draw(alloc, out, design, nets, waves.as_slice(), columns, form)?;
     Ok(())
 }

@@ -2,7 +2,6 @@
 ghost use Rattle.std.specs.Prelude.{◌≡◌};
 ghost use Rattle.prepared_runs.specs.Views.{dump_view, selection_of};
 
-use timing_diagram::Form;
 use vcd_dump::TimeUnit;
 
 /// What of a run its dump shows.
@@ -49,7 +48,6 @@ pub struct DiagramView<'a> {
     pub step: u64,
     /// Whether a column shows the value at its last tick, whatever is before it.
     pub at_end: bool,
-    pub form: Form,
 }
 
 /// Which nets a dump or a diagram shows.

@@ -30,6 +30,7 @@ use Rattle.drawn_stimuli.specs.Inputs.{DriveView}
 use Rattle.wave_diff.specs.declared.diff_ticks.DiffTicks.{DiffTicks}
 use Rattle.kernel_runs.specs.Diffs.{pair_of}
 use Rattle.plain_runs.specs.Drawn.{diagram_of_source}
+use Rattle.timing_diagram.specs.declared.form.Form.{Form}
 use Rattle.drawn_stimuli.specs.Driven.{stimuli_of_drives}
 use Rattle.plain_runs.specs.Explained.{why_of_source}
 use Rattle.event_trace.specs.Traced.{trace_of_source}
@@ -118,9 +119,10 @@ pub dump_of_source-cut : (source : SourceView) (view : DumpView) → dump_of_sou
 unfolding dump_of_source
 dump_of_source-cut source view = rw (design_of_source-cut source view.horizon) refl
 
-pub diagram_of_source-cut : (source : SourceView) (view : DiagramView) → diagram_of_source (cut_source source) view ≡ diagram_of_source source view
+pub diagram_of_source-cut : (source : SourceView) (view : DiagramView) (form : Form) →
+    diagram_of_source (cut_source source) view form ≡ diagram_of_source source view form
 unfolding diagram_of_source
-diagram_of_source-cut source view = rw (design_of_source-cut source view.horizon) refl
+diagram_of_source-cut source view form = rw (design_of_source-cut source view.horizon) refl
 
 -- the run, from what the settings and texts give, and the picks
 abbrev run_by : Result (ℕ × DesignView) SimFault → (Circuit → Result (List Event) ScheduleFault) → Result RunView SimFault

@@ -190,5 +190,5 @@ module _ (texts : List ℕ → List ℕ) where
   one_answer (Trace options horizon) a b = one_for_source options _ _ a b (λ source is other_is. is ∙ sym other_is)
   one_answer (Why options net tick) a b = one_for_source options _ _ a b (λ source is other_is. is ∙ sym other_is)
   one_answer (Stimuli bench drives draws horizon) a b = one_for_stimuli bench drives draws horizon a b
-  one_answer (Draw options view) a b = one_for_source options _ _ a b (λ source is other_is. is ∙ sym other_is)
+  one_answer (Draw options view form) a b = one_for_source options _ _ a b (λ source is other_is. is ∙ sym other_is)
   one_answer (Check options horizon) a b = one_for_source options _ _ a b (λ source is other_is. is ∙ sym other_is)

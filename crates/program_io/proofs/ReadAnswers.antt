@@ -6,6 +6,7 @@ use Rattle.netlist.specs.Names.{seen_names}
 use Rattle.drawn_stimuli.specs.declared.drive.Draws.{Draws}
 use Rattle.drawn_stimuli.specs.declared.drive.Driven.{Driven}
 use Rattle.drawn_stimuli.specs.Inputs.{seen_drive}
+use Rattle.timing_diagram.specs.declared.form.Form.{Form}
 use Rattle.prepared_runs.specs.declared.view.DiagramView.{DiagramView}
 use Rattle.wave_diff.specs.declared.diff_ticks.DiffTicks.{DiffTicks}
 use Rattle.prepared_runs.specs.declared.view.DumpView.{DumpView}
@@ -94,10 +95,10 @@ module _ (known : KnownTexts) (options : SourceOptions) (texts : ReadTexts) (rea
   IsAnswer-plain view answer same =
       ForSource-read _ (λ source is_cut. same ∙ ap (λ s. plain_answer s view) is_cut ∙ ap (answered just) (dump_of_source-cut source view))
 
-  IsAnswer-diagram : (view : DiagramView) (answer : Result Answer ProgramFault) → answer ≡ diagram_answer seen view →
-      IsAnswer known (orders.Draw options view) answer
-  IsAnswer-diagram view answer same =
-      ForSource-read _ (λ source is_cut. same ∙ ap (λ s. diagram_answer s view) is_cut ∙ ap (result_map_both just fault_of_diagram) (diagram_of_source-cut source view))
+  IsAnswer-diagram : (view : DiagramView) (form : Form) (answer : Result Answer ProgramFault) → answer ≡ diagram_answer seen view form →
+      IsAnswer known (orders.Draw options view form) answer
+  IsAnswer-diagram view form answer same =
+      ForSource-read _ (λ source is_cut. same ∙ ap (λ s. diagram_answer s view form) is_cut ∙ ap (result_map_both just fault_of_diagram) (diagram_of_source-cut source view form))
 
   IsAnswer-trace : (horizon : ℕ) (answer : Result Answer ProgramFault) → answer ≡ trace_answer seen horizon →
       IsAnswer known (orders.Trace options horizon) answer
@@ -183,7 +184,7 @@ pub IsAnswer-read : (known : KnownTexts) (order : Order) (texts : OrderTexts) �
     (answer : Result Answer ProgramFault) → IsAnswerTo order texts answer → IsAnswer known order answer
 IsAnswer-read known (orders.Run options view counts) texts (one, other) answer is = IsAnswer-run known options texts.first one view counts answer is
 IsAnswer-read known (orders.Plain options view) texts (one, other) answer is = IsAnswer-plain known options texts.first one view answer is
-IsAnswer-read known (orders.Draw options view) texts (one, other) answer is = IsAnswer-diagram known options texts.first one view answer is
+IsAnswer-read known (orders.Draw options view form) texts (one, other) answer is = IsAnswer-diagram known options texts.first one view form answer is
 IsAnswer-read known (orders.Trace options horizon) texts (one, other) answer is = IsAnswer-trace known options texts.first one horizon answer is
 IsAnswer-read known (orders.Why options net tick) texts (one, other) answer is = IsAnswer-why known options texts.first one net tick answer is
 IsAnswer-read known (orders.Check options horizon) texts (one, other) answer is = IsAnswer-check known options texts.first one horizon answer is

@@ -16,6 +16,7 @@ use Rattle.fanin_cone.specs.ConeText.{IsConeAnswer}
 use Rattle.drawn_stimuli.specs.declared.drive.Draws.{Draws}
 use Rattle.drawn_stimuli.specs.Inputs.{DriveView}
 use Rattle.plain_runs.specs.Drawn.{diagram_of_source}
+use Rattle.timing_diagram.specs.declared.form.Form.{Form}
 use Rattle.drawn_stimuli.specs.Driven.{stimuli_of_drives}
 use Rattle.kernel_runs.specs.declared.diff_fault.DiffFault.{DiffFault}
 use Rattle.wave_diff.specs.declared.diff_ticks.DiffTicks.{DiffTicks}
@@ -73,8 +74,8 @@ abbrev pub plain_answer : SourceView → DumpView → Result Answer ProgramFault
 plain_answer source view = answered just (dump_of_source source view)
 
 -- the timing diagram of a run
-abbrev pub diagram_answer : SourceView → DiagramView → Result Answer ProgramFault
-diagram_answer source view = result_map_both just fault_of_diagram (diagram_of_source source view)
+abbrev pub diagram_answer : SourceView → DiagramView → Form → Result Answer ProgramFault
+diagram_answer source view form = result_map_both just fault_of_diagram (diagram_of_source source view form)
 
 -- the trace of a run
 abbrev pub trace_answer : SourceView → ℕ → Result Answer ProgramFault

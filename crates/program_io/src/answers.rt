@@ -23,6 +23,7 @@ use plain_runs::{diagram, plain_with_progress, why};
 use prepared_runs::{DiagramView, DumpView, Progress, SimFault, Source, prepare};
 use std::alloc::Global;
 use std::io::Write;
+use timing_diagram::Form;
 
 /// Writes the dump of a run by the kernel and flushes once. If the counts are requested, the run is by rounds
 /// and its outcome has the counts at its end; otherwise the run is in sweeps. Reports its progress as
@@ -107,15 +108,16 @@ pub(crate) fn write_diagram<W: Write>(
     alloc: Global,
     source: &Source<'_>,
     view: &DiagramView<'_>,
+    form: Form,
     out: &mut W,
 ) -> Result<Outcome, ProgramFault<'static>>
-    ensures ok { IfOk result (GoesOut (λ answer. answer ≡ diagram_answer (seen_source source.now) view.now)
+    ensures ok { IfOk result (GoesOut (λ answer. answer ≡ diagram_answer (seen_source source.now) view.now form)
         (W.contents out.old) (W.contents out.new)) }
-    ensures err { IfErr result (AnswerEndsBy (λ answer. answer ≡ diagram_answer (seen_source source.now) view.now)
+    ensures err { IfErr result (AnswerEndsBy (λ answer. answer ≡ diagram_answer (seen_source source.now) view.now form)
         (W.contents out.old) (W.contents out.new)) }
     ensures no_read { IfErr result IsNoRead }
 {
-    diagram(alloc, source, view, out)?;
+    diagram(alloc, source, view, form, out)?;
     flush(out)?;
     Ok(Outcome::Done)
 }

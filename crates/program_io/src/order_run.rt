@@ -49,7 +49,9 @@ pub fn write_answer<W: Write, P: Progress>(
         Order::Plain { source, view } => {
             write_plain(alloc, &source.source(one), view, out, progress)
         }
-        Order::Draw { source, view } => write_diagram(alloc, &source.source(one), view, out),
+        Order::Draw { source, view, form } => {
+            write_diagram(alloc, &source.source(one), view, *form, out)
+        }
         Order::Trace { source, horizon } => {
             write_trace(alloc, &source.source(one), *horizon, out)
         }

@@ -13,7 +13,7 @@ returns-in_err-columns-clause-err g c =
     let p = err_from_is_err_and c.from_residual.result c.from_residual.ensures.1 in
     let view = c.args.view.now in
     let bad = sym c.in_err-columns.ensures.exact in
-    rw (p.1, p.2) (DiagramEndsBy-ticks view _ _ _ bad (diagram_of_source-bad_ticks (seen_source c.args.source.now) view _ bad))
+    rw (p.1, p.2) (DiagramEndsBy-ticks view _ _ _ bad (diagram_of_source-bad_ticks (seen_source c.args.source.now) view c.args.form _ bad))
 
 pub returns-in_err-horizon-clause-err : goal.returns-in_err-horizon-clause-err
 returns-in_err-horizon-clause-err g c =
@@ -21,13 +21,13 @@ returns-in_err-horizon-clause-err g c =
     let source = seen_source c.args.source.now in
     let view = c.args.view.now in
     rw (p.1, p.2) (DiagramEndsBy-IsRefusal (design_of_source source view.horizon) _ _ _
-    (diagram_of_source-bad source view _ (sym c.in_ok-columns.ensures.exact) _) c.in_err-horizon.ensures.err)
+    (diagram_of_source-bad source view c.args.form _ (sym c.in_ok-columns.ensures.exact) _) c.in_err-horizon.ensures.err)
 
 pub returns-in_err-nets-clause-err : goal.returns-in_err-nets-clause-err
 returns-in_err-nets-clause-err g c =
     let p = err_from_is_err_and c.from_residual-in_err-nets.result c.from_residual-in_err-nets.ensures.1 in
     rw (p.1, p.2) (DiagramEndsBy-IsRefusal _ _ _ _
-    (diagram_of_source-unknown (seen_source c.args.source.now) c.args.view.now _ (sym c.in_ok-columns.ensures.exact) _ _ c.in_ok-horizon.ensures.ok _ _) c.in_err-nets.ensures.err)
+    (diagram_of_source-unknown (seen_source c.args.source.now) c.args.view.now c.args.form _ (sym c.in_ok-columns.ensures.exact) _ _ c.in_ok-horizon.ensures.ok _ _) c.in_err-nets.ensures.err)
 
 pub draw_design-requires-clause-within : goal.draw_design-requires-clause-within
 draw_design-requires-clause-within g c =
@@ -38,11 +38,11 @@ draw_design-requires-clause-within g c =
 pub returns-in_err-draw_design-clause-err : goal.returns-in_err-draw_design-clause-err
 returns-in_err-draw_design-clause-err g c =
     let p = err_from_is_err_and c.from_residual-in_err-draw_design.result c.from_residual-in_err-draw_design.ensures.1 in
-    let good = diagram_of_source-good (seen_source c.args.source.now) c.args.view.now _ (sym c.in_ok-columns.ensures.exact) _ _ c.in_ok-horizon.ensures.ok c.in_ok-nets.ensures.known in
+    let good = diagram_of_source-good (seen_source c.args.source.now) c.args.view.now c.args.form _ (sym c.in_ok-columns.ensures.exact) _ _ c.in_ok-horizon.ensures.ok c.in_ok-nets.ensures.known in
     rw (p.1, p.2)
     (subst (λ (answer : Result (List ℕ) DiagramFault). DiagramEndsBy answer (g.W.Write.contents c.args.out.now) (g.W.Write.contents c.draw_design.new.out)
     (Run c.in_err-draw_design.field-0.0)) (sym good) (DiagramEndsBy-BreaksOff _ _ _ _ c.in_err-draw_design.ensures.err))
 
 pub returns-clause-ok : goal.returns-clause-ok
 returns-clause-ok g c =
-    rw (diagram_of_source-good (seen_source c.args.source.now) c.args.view.now _ (sym c.in_ok-columns.ensures.exact) _ _ c.in_ok-horizon.ensures.ok c.in_ok-nets.ensures.known) c.in_ok-draw_design.ensures.ok
+    rw (diagram_of_source-good (seen_source c.args.source.now) c.args.view.now c.args.form _ (sym c.in_ok-columns.ensures.exact) _ _ c.in_ok-horizon.ensures.ok c.in_ok-nets.ensures.known) c.in_ok-draw_design.ensures.ok

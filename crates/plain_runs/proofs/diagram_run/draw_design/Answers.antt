@@ -22,14 +22,14 @@ draw-requires-clause-few g c =
 pub returns-in_err-draw-clause-err : goal.returns-in_err-draw-clause-err
 returns-in_err-draw-clause-err g c =
     let p = err_from_is_err_and c.from_residual-in_err-draw.result c.from_residual-in_err-draw.ensures.1 in
-    let text = diagram_of_design-waves c.args.view.now c.args.columns c.args.horizon c.args.design.now _ _ c.requires.drawable c.requires.within
+    let text = diagram_of_design-waves c.args.view.now c.args.form c.args.columns c.args.horizon c.args.design.now _ _ c.requires.drawable c.requires.within
     c.requires.nets
     (c.as_slice.ensures.value ∙ c.in_ok-waves.ensures.waves) in
     rw (p.1, p.2) (BreaksOff-dump _ _ _ _ c.in_err-draw.ensures.fault (subst (AppendsPrefix _ _) text c.in_err-draw.ensures.err))
 
 pub returns-clause-ok : goal.returns-clause-ok
 returns-clause-ok g c =
-    let text = diagram_of_design-waves c.args.view.now c.args.columns c.args.horizon c.args.design.now _ _ c.requires.drawable c.requires.within
+    let text = diagram_of_design-waves c.args.view.now c.args.form c.args.columns c.args.horizon c.args.design.now _ _ c.requires.drawable c.requires.within
     c.requires.nets
     (c.as_slice.ensures.value ∙ c.in_ok-waves.ensures.waves) in
     subst (Appends _ _) text c.in_ok-draw.ensures.ok

@@ -9,8 +9,8 @@ use Rattle.program_io.proofs.answers.write_diagram.Goals as goal
 pub returns-in_err-diagram-clause-err : goal.returns-in_err-diagram-clause-err
 returns-in_err-diagram-clause-err g c =
     let p = err_from_is_err_and c.from_residual.result c.from_residual.ensures.1 in
-    rw (p.1, p.2) (AnswerEndsBy-diagram (λ answer. answer ≡ diagram_answer (seen_source c.args.source.now) c.args.view.now)
-    (diagram_of_source (seen_source c.args.source.now) c.args.view.now) refl _ _ _ c.in_err-diagram.ensures.err)
+    rw (p.1, p.2) (AnswerEndsBy-diagram (λ answer. answer ≡ diagram_answer (seen_source c.args.source.now) c.args.view.now c.args.form)
+    (diagram_of_source (seen_source c.args.source.now) c.args.view.now c.args.form) refl _ _ _ c.in_err-diagram.ensures.err)
 
 pub returns-in_err-diagram-clause-no_read : goal.returns-in_err-diagram-clause-no_read
 returns-in_err-diagram-clause-no_read g c =
@@ -20,8 +20,8 @@ returns-in_err-diagram-clause-no_read g c =
 pub returns-in_err-flush-clause-err : goal.returns-in_err-flush-clause-err
 returns-in_err-flush-clause-err g c =
     let p = err_from_is_err_and c.from_residual-in_err-flush.result c.from_residual-in_err-flush.ensures.1 in
-    rw (p.1, p.2) (AnswerEndsBy-flush (λ answer. answer ≡ diagram_answer (seen_source c.args.source.now) c.args.view.now) _ _ _ _ (GoesOut-diagram (λ answer. answer ≡ diagram_answer (seen_source c.args.source.now) c.args.view.now)
-    (diagram_of_source (seen_source c.args.source.now) c.args.view.now) refl _ _ c.in_ok-diagram.ensures.ok) c.flush.ensures.kept _ c.in_err-flush.ensures.err)
+    rw (p.1, p.2) (AnswerEndsBy-flush (λ answer. answer ≡ diagram_answer (seen_source c.args.source.now) c.args.view.now c.args.form) _ _ _ _ (GoesOut-diagram (λ answer. answer ≡ diagram_answer (seen_source c.args.source.now) c.args.view.now c.args.form)
+    (diagram_of_source (seen_source c.args.source.now) c.args.view.now c.args.form) refl _ _ c.in_ok-diagram.ensures.ok) c.flush.ensures.kept _ c.in_err-flush.ensures.err)
 
 pub returns-in_err-flush-clause-no_read : goal.returns-in_err-flush-clause-no_read
 returns-in_err-flush-clause-no_read g c =
@@ -30,5 +30,5 @@ returns-in_err-flush-clause-no_read g c =
 
 pub returns-clause-ok : goal.returns-clause-ok
 returns-clause-ok g c =
-    GoesOut-flushed (λ answer. answer ≡ diagram_answer (seen_source c.args.source.now) c.args.view.now) _ _ _ _ (GoesOut-diagram (λ answer. answer ≡ diagram_answer (seen_source c.args.source.now) c.args.view.now)
-    (diagram_of_source (seen_source c.args.source.now) c.args.view.now) refl _ _ c.in_ok-diagram.ensures.ok) c.flush.ensures.kept
+    GoesOut-flushed (λ answer. answer ≡ diagram_answer (seen_source c.args.source.now) c.args.view.now c.args.form) _ _ _ _ (GoesOut-diagram (λ answer. answer ≡ diagram_answer (seen_source c.args.source.now) c.args.view.now c.args.form)
+    (diagram_of_source (seen_source c.args.source.now) c.args.view.now c.args.form) refl _ _ c.in_ok-diagram.ensures.ok) c.flush.ensures.kept
