@@ -162,27 +162,18 @@ pub(super) fn source_given<'a>(
     }
 }
 
-/// Returns the nets to show: those with the names that are given, if any. An empty piece between commas isn't a
-/// name.
+/// Returns the nets to show: those with the names that are given, if any.
 pub(super) fn selection_given<'a>(
     alloc: Global,
     options: &ArgMatches<'a>,
 ) -> Result<Selection<'a>, AllocError> {
-    if let Some(pieces) = options.get_strs("nets") {
-        return Ok(Selection::Named(names_in(alloc, pieces)?));
+    if options.get_strs("nets").is_some() {
+        return Ok(Selection::Named(names_given(alloc, options, "nets")?));
     }
     match options.get_str("show") {
         Some("outputs") => Ok(Selection::Outputs),
         _ => Ok(Selection::All),
     }
-}
-
-fn names_in<'a>(alloc: Global, pieces: &[&'a str]) -> Result<Vec<&'a [u8]>, AllocError> {
-    pieces
-        .iter()
-        .filter(|piece| !piece.is_empty())
-        .map(|piece| piece.as_bytes())
-        .collect(alloc)
 }
 
 pub(super) fn view_given<'a>(
@@ -217,7 +208,7 @@ pub(super) fn side_picks<'a>(options: &ArgMatches<'a>, id: &str) -> PickOptions<
     }
 }
 
-/// Returns the names of nets that an option gives.
+/// Returns the names of nets that an option gives: the pieces between its commas, empty ones too.
 pub(super) fn names_given<'a>(
     alloc: Global,
     options: &ArgMatches<'a>,
