@@ -69,11 +69,13 @@ pub(super) fn order_given<'a>(
 
 fn view_given<'a>(alloc: Global, options: &ArgMatches<'a>) -> Result<DiagramView<'a>, AllocError> {
     let horizon = number_given(options, "horizon");
+    let from = number_given(options, "from");
     Ok(DiagramView {
         show: selection_given(alloc, options)?,
         horizon,
-        from: number_given(options, "from"),
-        to: options.get_one("to").unwrap_or(horizon),
+        from,
+        // a first tick after the horizon is the one at fault, and not the horizon
+        to: options.get_one("to").unwrap_or(horizon.max(from)),
         step: number_given(options, "step"),
         at_end: options.get_flag("at-end"),
     })

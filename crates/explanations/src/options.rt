@@ -59,7 +59,7 @@ pub(crate) static COLUMNS: [Explanation; 4] = [
     Explanation {
         name: "PastHorizon",
         meaning: "the last tick to draw is after the end of the run.",
-        wanted: "--to no later than --horizon",
+        wanted: "--from and --to no later than --horizon",
         example: Some(Example {
             line: 0,
             faulty: "nullsim draw --bench circuit.bench --horizon 60 --to 70\n",
