@@ -9,11 +9,12 @@ use Rattle.mistakes.specs.Corrected.{corrected}
 use Rattle.mistakes.specs.Lines.{line_at, unless_empty}
 use Rattle.explanations.specs.Excerpt.{excerpt}
 use Rattle.explanations.specs.Foreign.{foreign_text}
-use Rattle.explanations.specs.OtherParts.{part_at_fault}
+use Rattle.explanations.specs.OtherParts.{is_table_at_fault, part_at_fault}
 use Rattle.mistakes.specs.Places.{misplaced}
 use Rattle.explanations.specs.Suggestion.{suggestion}
 use Rattle.mistakes.specs.Subjects.{subject_number, title_of}
 use Rattle.explanations.specs.Explained.{is_called, meaning_line, wanted_line}
+use Rattle.texts.specs.Text.{is_empty}
 
 -- ---- what it means
 
@@ -50,17 +51,29 @@ pub record FaultView : Type 0 where
   pub reason : Option (List ℕ)
   pub circuit : Option (List ℕ)
 
--- a corrected line, or a near name
+-- a corrected line
+abbrev pub corrected_at : FaultView → List ℕ
+corrected_at fault = corrected fault.subject fault.name fault.line fault.text fault.circuit
+
+-- or else a near name
 abbrev pub corrected_or_name : FaultView → List ℕ
 corrected_or_name fault =
-    unless_empty (corrected fault.subject fault.name fault.line fault.text fault.circuit)
+    unless_empty (corrected_at fault)
     (suggestion fault.subject fault.name fault.line fault.text fault.word fault.circuit)
+
+-- the line at fault
+abbrev pub faulty_line : FaultView → Option (List ℕ)
+faulty_line fault = option_and_then (line_at fault.line) fault.text
+
+-- the gate that a look-up table is, as a corrected line
+unfoldable pub gate_of_table : FaultView → List ℕ
+gate_of_table fault = if is_table_at_fault fault.subject (faulty_line fault) then corrected_at fault else []
 
 -- what to write instead of a part that there isn't, or else one of these
 abbrev pub part_or_name : FaultView → List ℕ
 part_or_name fault =
-    unless_empty (part_at_fault fault.subject fault.name (option_and_then (line_at fault.line) fault.text))
-    (corrected_or_name fault)
+    let part = part_at_fault fault.subject fault.name (faulty_line fault) in
+    if is_empty part then corrected_or_name fault else part ++ gate_of_table fault
 
 -- what is known of this fault: the place at which its line stops having a form, and what may have been meant
 abbrev pub sharper : FaultView → List ℕ

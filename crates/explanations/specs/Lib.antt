@@ -1,5 +1,6 @@
 pub mod AtFault
 pub mod AtHand
+pub mod DeckStart
 pub mod Excerpt
 pub mod Foreign
 pub mod OtherParts

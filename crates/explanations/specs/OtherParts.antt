@@ -1,5 +1,5 @@
 -- Parts of circuits that other tools have, and nullsim hasn't.
-use Rattle.std.specs.Prelude.{ℕ, ◌||◌, ◌&&◌, nat_lt, Bool, if◌then◌else◌, List, [], ◌∷◌, ◌++◌, length, take, codes, bytes_eq, Option, None, Some, unwrap_or}
+use Rattle.std.specs.Prelude.{ℕ, ◌||◌, ◌&&◌, nat_lt, Bool, false, if◌then◌else◌, List, [], ◌∷◌, ◌++◌, length, take, codes, bytes_eq, Option, None, Some, unwrap_or}
 use Rattle.std.specs.List.{list_any}
 use Rattle.std.specs.Option.{is_none, option_map_or}
 use Rattle.std.specs.Str.{str_eq_ignore_ascii_case}
@@ -111,3 +111,8 @@ part_line name code = option_map_or (λ part. part_text part (unwrap_or (nth_nam
 unfoldable pub part_at_fault : Subject → List ℕ → Option (List ℕ) → List ℕ
 part_at_fault Bench name (Some line) = part_line name (code_of line)
 part_at_fault subject name line = []
+
+-- whether the line asks for a look-up table
+abbrev pub is_table_at_fault : Subject → Option (List ℕ) → Bool
+is_table_at_fault Bench (Some line) = is_table (code_of line)
+is_table_at_fault subject line = false

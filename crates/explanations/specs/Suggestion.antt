@@ -10,7 +10,8 @@ use Rattle.explanations.specs.AtFault.{topic_of, undefined_in}
 use Rattle.mistakes.specs.Lines.{line_at}
 use Rattle.explanations.specs.Missing.{missing_told}
 use Rattle.mistakes.specs.Near.{near_among}
-use Rattle.explanations.specs.Nets.{defined_told, nets_in}
+use Rattle.explanations.specs.DeckStart.{deck_start}
+use Rattle.explanations.specs.Nets.{defined_told, inputs_in, nets_in}
 use Rattle.texts.specs.Text.{code_of, is_empty}
 
 -- ---- a net
@@ -86,10 +87,26 @@ abbrev pub for_net : Option (List ℕ) → Option (List ℕ) → List ℕ
 for_net None name = []
 for_net (Some circuit) name = option_map_or (λ name. near_net_told (codes " of the .bench text") name circuit) name []
 
+-- for a name that no input of the circuit has, whose text is known: the input that is near to it
+abbrev pub near_input_told : List ℕ → List ℕ → List ℕ
+near_input_told name text =
+    option_map_or (defined_told (codes " of the .bench text") text) (near_among name (inputs_in text)) []
+
+abbrev pub for_input : Option (List ℕ) → Option (List ℕ) → List ℕ
+for_input (Some circuit) (Some name) = near_input_told name circuit
+for_input circuit name = []
+
+-- for a fault of an option's input, or of a deck
+abbrev pub for_other : List ℕ → Option (List ℕ) → Option (List ℕ) → Option (List ℕ) → List ℕ
+for_other name text word circuit =
+    if bytes_eq name (codes "NotAnInput") then for_input circuit word
+    else if bytes_eq name (codes "BadDeck") then deck_start text
+    else []
+
 -- the suggestion for a fault, if any: with the line at fault and its text, the word at fault that no text contains, and the circuit's text
 abbrev pub suggestion : Subject → List ℕ → ℕ → Option (List ℕ) → Option (List ℕ) → Option (List ℕ) → List ℕ
 suggestion subject name number text word circuit =
     if bytes_eq name (codes "Undefined") then for_undefined number text
     else if bytes_eq name (codes "UnknownGate") then for_gate number text
     else if bytes_eq name (codes "UnknownNet") then for_net circuit (unknown_net subject number text word)
-    else []
+    else for_other name text word circuit

@@ -1,6 +1,6 @@
 //! The message about a fault that occurred.
 ghost use Rattle.std.specs.Prelude.{◌≡◌, ◌++◌, flat_map, option_and_then, option_map, string_bytes, IfOk, OnOk};
-ghost use Rattle.explanations.specs.AtHand.{corrected_or_name, hint_if_called, hint_of, hints_in, number_line, part_or_name, sharper, sharper_or_hints, told_at_hand, told_of_kind, told_of_own_kind};
+ghost use Rattle.explanations.specs.AtHand.{corrected_at, corrected_or_name, gate_of_table, hint_if_called, hint_of, hints_in, number_line, part_or_name, sharper, sharper_or_hints, told_at_hand, told_of_kind, told_of_own_kind};
 ghost use Rattle.mistakes.specs.Lines.{line_at};
 ghost use Rattle.explanations.specs.Seen.{seen_fault};
 
@@ -8,7 +8,7 @@ use crate::at_fault::{push_at_fault, push_word};
 use crate::excerpt::push_excerpt;
 use crate::explanation::Explanation;
 use crate::foreign::foreign_text;
-use crate::other_parts::part_at_fault;
+use crate::other_parts::{is_table_at_fault, part_at_fault};
 use crate::suggestion::push_suggestion;
 use crate::table::Table;
 use crate::telling::{push_meaning, push_wanted};
@@ -139,8 +139,50 @@ fn push_part_or_name(alloc: Global, told: &mut Vec<u8>, fault: AtHand<'_>) -> Re
     if part.is_empty() {
         push_corrected_or_name(alloc, told, fault)
     } else {
-        told.extend_from_slice(&part)
+        push_part(alloc, told, &part, fault)
     }
+}
+
+/// Adds what to write instead of a part, and the gate that a look-up table is.
+fn push_part(
+    alloc: Global,
+    told: &mut Vec<u8>,
+    part: &[u8],
+    fault: AtHand<'_>,
+) -> Result<(), AllocError>
+    ensures { OnOk result (told.new.items ≡ told.old.items ++ (part.now ++ gate_of_table (seen_fault fault.entry))) }
+{
+    told.extend_from_slice(part)?;
+    push_gate_of_table(alloc, told, fault)
+}
+
+/// Adds the gate that a look-up table is, as a corrected line.
+#[tactic(auto, unfolding(crate::specs::AtHand::gate_of_table))]
+fn push_gate_of_table(
+    alloc: Global,
+    told: &mut Vec<u8>,
+    fault: AtHand<'_>,
+) -> Result<(), AllocError>
+    ensures { OnOk result (told.new.items ≡ told.old.items ++ gate_of_table (seen_fault fault.entry)) }
+{
+    if !is_table_at_fault(fault.subject, line_of(fault.line, fault.text)) {
+        return Ok(());
+    }
+    let corrected = corrected_line(alloc, fault)?;
+    told.extend_from_slice(&corrected)
+}
+
+fn corrected_line(alloc: Global, fault: AtHand<'_>) -> Result<Vec<u8>, AllocError>
+    ensures { IfOk result (λ told. told.items ≡ corrected_at (seen_fault fault.entry)) }
+{
+    corrected(
+        alloc,
+        fault.subject,
+        fault.name,
+        fault.line,
+        fault.text,
+        fault.circuit,
+    )
 }
 
 /// Adds the corrected line, or the near name.
@@ -151,14 +193,7 @@ fn push_corrected_or_name(
 ) -> Result<(), AllocError>
     ensures { OnOk result (told.new.items ≡ told.old.items ++ corrected_or_name (seen_fault fault.entry)) }
 {
-    let corrected = corrected(
-        alloc,
-        fault.subject,
-        fault.name,
-        fault.line,
-        fault.text,
-        fault.circuit,
-    )?;
+    let corrected = corrected_line(alloc, fault)?;
     if corrected.is_empty() {
         push_suggestion(
             alloc,

@@ -7,6 +7,7 @@ mod at_fault;
 mod at_hand;
 mod bench;
 mod deck;
+mod deck_start;
 mod delays;
 mod excerpt;
 mod explanation;

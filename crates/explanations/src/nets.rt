@@ -2,11 +2,11 @@
 ghost use Rattle.std.specs.Prelude.{◌≡◌, ◌++◌, map, option_map, IfOk, OnOk};
 ghost use Rattle.std.specs.Option.{option_to_list};
 ghost use Rattle.mistakes.specs.BenchLines.{defined_by, is_net};
-ghost use Rattle.explanations.specs.Nets.{defined_told, line_of_net, nets_in};
+ghost use Rattle.explanations.specs.Nets.{defined_told, input_by, inputs_in, line_of_net, nets_in};
 
 use crate::above::number_or_none;
 use crate::at_fault::push_quoted;
-use mistakes::defined_by;
+use mistakes::{defined_by, is_assignment};
 use std::alloc::{AllocError, Global};
 use texts::code_lines;
 
@@ -19,6 +19,28 @@ pub(crate) fn nets_in(alloc: Global, text: &[u8]) -> Result<Vec<&[u8]>, AllocErr
         push_net(&mut nets, defined_by(code))?;
     }
     Ok(nets)
+}
+
+/// Returns the inputs that the lines of a text define, in their order.
+pub(crate) fn inputs_in(alloc: Global, text: &[u8]) -> Result<Vec<&[u8]>, AllocError>
+    ensures { IfOk result (λ inputs. map (λ input. input.now) inputs.items ≡ inputs_in text.now) }
+{
+    let mut inputs = Vec::new(alloc);
+    for (_, code) in code_lines(text) {
+        push_net(&mut inputs, input_by(code))?;
+    }
+    Ok(inputs)
+}
+
+/// Returns the input that a line without its comment defines.
+fn input_by(code: &[u8]) -> Option<&[u8]>
+    ensures { option_map (λ input. input.now) result ≡ input_by code.now }
+{
+    if is_assignment(code) {
+        None
+    } else {
+        defined_by(code)
+    }
 }
 
 /// Adds a net, if there is one.

@@ -2,7 +2,7 @@
 ghost use Rattle.std.specs.Prelude.{◌≡◌, ◌++◌, codes, option_map, IfOk, OnOk};
 ghost use Rattle.std.specs.Str.{str_eq_ignore_ascii_case};
 ghost use Rattle.explanations.specs.Excerpt.{shown_line};
-ghost use Rattle.explanations.specs.OtherParts.{begins_called, clock_pin, constant_of, constant_or_digit, constant_text, input_text, is_table, is_with_reset, lone_word, other_part, part_at_fault, part_line, part_of_line, part_of_word, part_text, stimulus_text};
+ghost use Rattle.explanations.specs.OtherParts.{begins_called, clock_pin, constant_of, constant_or_digit, constant_text, input_text, is_table, is_table_at_fault, is_with_reset, lone_word, other_part, part_at_fault, part_line, part_of_line, part_of_word, part_text, stimulus_text};
 
 use crate::excerpt::push_shown;
 use mistakes::{Subject, is_assignment, nth_name, up_to};
@@ -154,6 +154,16 @@ pub(crate) fn part_at_fault(
     match (subject, line) {
         (Subject::Bench, Some(line)) => part_in(alloc, name, code_of(line)),
         _ => Ok(Vec::new(alloc)),
+    }
+}
+
+/// Returns whether a line is one of a circuit, and asks for a look-up table.
+pub(crate) fn is_table_at_fault(subject: Subject, line: Option<&[u8]>) -> bool
+    ensures { result ≡ is_table_at_fault subject (option_map (λ line. line.now) line.entry) }
+{
+    match (subject, line) {
+        (Subject::Bench, Some(line)) => is_table(code_of(line)),
+        _ => false,
     }
 }
 

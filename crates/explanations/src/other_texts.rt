@@ -81,7 +81,7 @@ fn kind_of(
 }
 
 /// Returns whether a line has a form of a kind of text, of which it would be the only line.
-fn has_form_in(alloc: Global, kind: Subject, code: &[u8]) -> Result<bool, AllocError>
+pub(crate) fn has_form_in(alloc: Global, kind: Subject, code: &[u8]) -> Result<bool, AllocError>
     ensures { IfOk result (λ has. has ≡ has_form_in kind code.now) }
 {
     let place = misplaced(alloc, kind, "BadLine", 1, Some(code))?;

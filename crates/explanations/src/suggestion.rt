@@ -1,11 +1,12 @@
 //! The suggestion after what is known of a fault: what a name that no line defines may mean, or the only name
 //! near to the one at fault.
 ghost use Rattle.std.specs.Prelude.{◌≡◌, ◌++◌, option_and_then, option_map, OnOk};
-ghost use Rattle.explanations.specs.Suggestion.{code_at, for_gate, for_missing, for_net, for_undefined, for_undefined_in, near_net_told, suggestion, unknown_net};
+ghost use Rattle.explanations.specs.Suggestion.{code_at, for_gate, for_input, for_missing, for_net, for_other, for_undefined, for_undefined_in, near_input_told, near_net_told, suggestion, unknown_net};
 
+use crate::deck_start::push_deck_start;
 use crate::gate_words::push_gate;
 use crate::missing::missing_text;
-use crate::nets::{nets_in, push_defined};
+use crate::nets::{inputs_in, nets_in, push_defined};
 use crate::topic::topic_of;
 use crate::undefined::undefined_in;
 use mistakes::{Subject, line_at, near_among, nth_name};
@@ -40,7 +41,59 @@ pub(crate) fn push_suggestion(
             unknown_net(subject, number, text, word),
         )
     } else {
+        push_for_other(alloc, told, name, text, word, circuit)
+    }
+}
+
+/// Adds the suggestion for a fault of an option's input, or of a deck.
+fn push_for_other(
+    alloc: Global,
+    told: &mut Vec<u8>,
+    name: &str,
+    text: Option<&[u8]>,
+    word: Option<&[u8]>,
+    circuit: Option<&[u8]>,
+) -> Result<(), AllocError>
+    ensures { OnOk result (told.new.items ≡ told.old.items
+        ++ for_other name.now (option_map (λ text. text.now) text.entry)
+        (option_map (λ word. word.now) word.entry) (option_map (λ circuit. circuit.now) circuit.entry)) }
+{
+    if name == "NotAnInput" {
+        push_for_input(alloc, told, circuit, word)
+    } else if name == "BadDeck" {
+        push_deck_start(alloc, told, text)
+    } else {
         Ok(())
+    }
+}
+
+/// Adds the input of the circuit that is near to a name that no input has.
+fn push_for_input(
+    alloc: Global,
+    told: &mut Vec<u8>,
+    circuit: Option<&[u8]>,
+    name: Option<&[u8]>,
+) -> Result<(), AllocError>
+    ensures { OnOk result (told.new.items ≡ told.old.items
+        ++ for_input (option_map (λ circuit. circuit.now) circuit.entry) (option_map (λ name. name.now) name.entry)) }
+{
+    match (circuit, name) {
+        (Some(circuit), Some(name)) => push_near_input(alloc, told, name, circuit),
+        _ => Ok(()),
+    }
+}
+
+fn push_near_input(
+    alloc: Global,
+    told: &mut Vec<u8>,
+    name: &[u8],
+    text: &[u8],
+) -> Result<(), AllocError>
+    ensures { OnOk result (told.new.items ≡ told.old.items ++ near_input_told name.now text.now) }
+{
+    match near_among(name, inputs_in(alloc, text)?) {
+        Some(input) => push_defined(alloc, told, " of the .bench text", text, input),
+        None => Ok(()),
     }
 }
 

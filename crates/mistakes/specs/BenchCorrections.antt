@@ -1,7 +1,7 @@
 -- Ways in which a .bench line is wrong, and what it may be written as.
 use Rattle.std.specs.Prelude.{ℕ, List, [], ◌∷◌, ◌++◌, codes}
 use Rattle.mistakes.specs.Corrections.{Correction, Piece, at_place, from_place, own}
-use Rattle.mistakes.specs.Forms.{Slot, fixed, gate_word, line_end, more_names, net_name}
+use Rattle.mistakes.specs.Forms.{Slot, fixed, gate_word, keyword, line_end, more_names, net_name}
 
 -- ---- parts of rows and of lines
 
@@ -140,6 +140,24 @@ only_nested =
     (net_name ∷ equals ∷ gate_word ∷ opening ∷ gate_word ∷ opening ∷ net_name ∷ comma ∷ net_name ∷ closing ∷ closing ∷ line_end ∷ [])
     (new_net (of_two (at_place 4) (at_place 6) (at_place 8)) ∷ defining (of_one (at_place 2) (own (codes "n"))) ∷ [])
 
+-- ---- look-up tables of two pins that a gate has
+
+-- y = LUT 0x8 (a, b)
+abbrev pub table : List ℕ → List ℕ → List ℕ → Correction
+table number gate said =
+    correction
+    (net_name ∷ equals ∷ keyword (codes "LUT") ∷ keyword number ∷ opening ∷ net_name ∷ comma ∷ net_name ∷ closing ∷ line_end ∷ [])
+    said (defining (of_two (own gate) (at_place 5) (at_place 7)) ∷ [])
+
+unfoldable pub table_corrections : List Correction
+table_corrections =
+    table (codes "0x8") (codes "AND") (codes "0x8 of two pins is AND: ")
+    ∷ table (codes "0x7") (codes "NAND") (codes "0x7 of two pins is NAND: ")
+    ∷ table (codes "0xE") (codes "OR") (codes "0xE of two pins is OR: ")
+    ∷ table (codes "0x1") (codes "NOR") (codes "0x1 of two pins is NOR: ")
+    ∷ table (codes "0x6") (codes "XOR") (codes "0x6 of two pins is XOR: ")
+    ∷ table (codes "0x9") (codes "XNOR") (codes "0x9 of two pins is XNOR: ") ∷ []
+
 -- ---- all of them
 
 unfoldable pub port_corrections : List Correction
@@ -153,4 +171,4 @@ unfoldable pub nested_corrections : List Correction
 nested_corrections = first_nested ∷ last_nested ∷ only_nested ∷ []
 
 unfoldable pub bench_corrections : List Correction
-bench_corrections = port_corrections ++ gate_corrections ++ nested_corrections
+bench_corrections = port_corrections ++ gate_corrections ++ nested_corrections ++ table_corrections

@@ -12,7 +12,7 @@ use Rattle.mistakes.specs.Corrections.{Correction, Refused, is_shown_whole, told
 use Rattle.mistakes.specs.Lines.{line_at, unless_empty}
 use Rattle.mistakes.specs.Forms.{forms_of}
 use Rattle.mistakes.specs.TimingCorrections.{delay_corrections, schedule_corrections, stimulus_corrections}
-use Rattle.mistakes.specs.TimingLines.{marker_told, pins_told, point_told, respelled_right, respelled_told, right_told, trace_told, unit_told}
+use Rattle.mistakes.specs.TimingLines.{marker_told, pins_told, point_told, respelled_right, respelled_told, right_told, sign_told, trace_told, unit_told}
 use Rattle.mistakes.specs.Tokens.{bytes_of, tokens_of}
 use Rattle.texts.specs.Text.{code_of}
 
@@ -34,10 +34,14 @@ words_corrected refused =
 abbrev pub bench_corrected : Refused → List ℕ
 bench_corrected refused = unless_empty (statement_corrected refused) (words_corrected refused)
 
--- a line of another text: the only correction that applies, its units, its first word, or what is said of its ticks or its pins
+-- a line of another text: a point or a sign in its ticks, or what is said of markers
+unfoldable pub ticks_told : Refused → List ℕ
+ticks_told refused = first_told (point_told refused ∷ sign_told refused ∷ marker_told refused ∷ [])
+
+-- or else the only correction that applies, its units or its first word, one of these, or the pins of its net
 abbrev pub timing_corrected : List Correction → Refused → List ℕ
 timing_corrected table refused =
-    first_told (told_by table refused ∷ unit_told refused ∷ respelled_right refused ∷ point_told refused ∷ pins_told refused ∷ [])
+    first_told (told_by table refused ∷ unit_told refused ∷ respelled_right refused ∷ ticks_told refused ∷ pins_told refused ∷ [])
 
 abbrev pub refused_corrected : Refused → List ℕ
 refused_corrected refused = by refused.subject

@@ -1,10 +1,10 @@
 -- Lines of delay, stimulus and schedule texts that a reader takes once a word is written otherwise, and what is said of others.
-use Rattle.std.specs.Prelude.{ℕ, ◌==◌, ◌+◌, ◌-◌, ◌||◌, ◌&&◌, nat_lt, Bool, false, if◌then◌else◌, List, [], ◌∷◌, ◌++◌, drop, flat_map, length, map, take, codes, bytes_eq, slice_index, Option, None, Some}
+use Rattle.std.specs.Prelude.{ℕ, ◌==◌, ◌-◌, ◌||◌, ◌&&◌, not, nat_lt, Bool, false, if◌then◌else◌, List, [], ◌∷◌, ◌++◌, drop, flat_map, length, map, take, codes, bytes_eq, slice_index, Option, None, Some}
 use Rattle.std.specs.Char.{is_ascii_digit}
 use Rattle.std.specs.List.{find, prefix_len}
 use Rattle.std.specs.Option.{is_none, is_some, option_map_or}
 use Rattle.mistakes.specs.declared.subject.Subject.{Subject}
-use Rattle.mistakes.specs.declared.subject.Subject.TheVariants.{Delays, Stimuli}
+use Rattle.mistakes.specs.declared.subject.Subject.TheVariants.{Bench, Delays, Stimuli}
 use Rattle.mistakes.specs.BenchLines.{defines, is_among, is_assignment, used_by}
 use Rattle.mistakes.specs.BenchLists.{line_told, with_commas}
 use Rattle.mistakes.specs.Corrections.{Refused, has_net, is_accepted, word_of, written_line}
@@ -70,6 +70,20 @@ scale_told digits = if is_empty digits then [] else scale_rule ++ zeros_line dig
 
 abbrev pub point_told : Refused → List ℕ
 point_told refused = scale_told (after_point (ticks_word refused.subject refused.words))
+
+-- ---- numbers with a sign
+
+-- a sign, and then digits
+abbrev pub is_signed : List ℕ → Bool
+is_signed [] = false
+is_signed (mark ∷ digits) = (mark == 45 || mark == 43) && is_some (number_of digits)
+
+abbrev pub sign_rule : Subject → List ℕ
+sign_rule Stimuli = codes "ticks begin at 0 and have no sign\n"
+sign_rule other = codes "ticks have no sign\n"
+
+unfoldable pub sign_told : Refused → List ℕ
+sign_told refused = if is_signed (ticks_word refused.subject refused.words) then sign_rule refused.subject else []
 
 -- ---- first words
 
@@ -151,13 +165,42 @@ pins_told refused = if lacks_place refused then pins_listed (pins_of (word_of 1 
 
 -- ---- markers
 
--- a word alone that begins with %
-abbrev pub is_like_marker : List (List ℕ) → Bool
-is_like_marker (word ∷ []) = slice_index word 0 == 37
-is_like_marker words = false
+abbrev pub markers : List (List ℕ)
+markers = codes "%bench" ∷ codes "%delays" ∷ codes "%stimuli" ∷ codes "%schedule" ∷ []
+
+abbrev pub begins_with_sign : List ℕ → Bool
+begins_with_sign word = slice_index word 0 == 37
+
+-- a .bench line is one word that begins with %; another line begins with one that is no net which the text may name
+abbrev pub is_like_marker : Refused → Bool
+is_like_marker refused = by refused.subject refused.words
+  where
+    by : Subject → List (List ℕ) → Bool
+    by Bench (word ∷ []) = begins_with_sign word
+    by Bench words = false
+    by other words = begins_with_sign (word_of 0 words) && not (has_net refused (word_of 0 words))
+
+-- the marker that a word may mean: by its subject, or the only one near to it
+abbrev pub meant_marker : List ℕ → Option (List ℕ)
+meant_marker word =
+    if bytes_eq word (codes "%stimulus") then Some (codes "%stimuli")
+    else if bytes_eq word (codes "%timing") then Some (codes "%delays")
+    else near_among word markers
 
 unfoldable pub marker_rule : List ℕ
 marker_rule = codes "a marker of a deck is %bench, %delays, %stimuli or %schedule, alone in its line\n"
 
+unfoldable pub no_marker : List ℕ → List ℕ
+no_marker word = codes "'" ++ word ++ codes "' is no marker of a deck; did you mean "
+
+abbrev pub meant_told : List ℕ → List ℕ → List ℕ
+meant_told word marker = no_marker word ++ marker ++ codes "?\n"
+
+abbrev pub marker_hint : List ℕ → Option (List ℕ) → List ℕ
+marker_hint word None = marker_rule
+marker_hint word (Some marker) = meant_told word marker
+
 unfoldable pub marker_told : Refused → List ℕ
-marker_told refused = if is_like_marker refused.words then marker_rule else []
+marker_told refused =
+    let word = word_of 0 refused.words in
+    if is_like_marker refused then marker_hint word (meant_marker word) else []

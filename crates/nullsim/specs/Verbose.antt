@@ -24,6 +24,7 @@ use Rattle.program_io.specs.Readings.{StopsBy, files_of}
 use Rattle.nullsim.specs.AtFault.{name_at_fault, number_at_fault}
 use Rattle.nullsim.specs.Command.{Streams}
 use Rattle.nullsim.specs.Parts.{AreWritten}
+use Rattle.wave_diff.specs.declared.comparison.Side.TheVariants as sides
 
 -- the subject of a fault of a run
 abbrev pub subject_of_run : SimFault → Subject
@@ -78,9 +79,10 @@ abbrev pub text_at_fault : ProgramFault → OrderTexts → Option (List ℕ)
 text_at_fault (Run side fault) texts = text_in_run (texts_on texts side) fault
 text_at_fault other texts = None
 
--- the circuit of the run at fault
+-- the circuit of the run at fault, or the one whose inputs are driven
 abbrev pub circuit_at_fault : ProgramFault → OrderTexts → Option (List ℕ)
 circuit_at_fault (Run side fault) texts = Some (texts_on texts side).bench.items
+circuit_at_fault (Drives fault) texts = Some (texts_on texts sides.First).bench.items
 circuit_at_fault other texts = None
 
 -- what is printed for the fault of an order, by what is known

@@ -20,6 +20,7 @@ use std::alloc::{AllocError, Global};
 use std::io::Write;
 use texts::write_all_bytes;
 use vcd_dump::DumpFault;
+use wave_diff::Side;
 
 /// Carries out an order and returns the exit status, as [`answer_order`](crate::answer_order) does.
 ///
@@ -174,7 +175,7 @@ fn text_at_fault<'a>(fault: ProgramFault<'_>, texts: &'a OrderTexts) -> Option<&
     }
 }
 
-/// Returns the circuit of the run at fault, if the texts were read.
+/// Returns the circuit of the run at fault, or the one whose inputs are driven, if the texts were read.
 fn circuit_if_read<'a>(fault: ProgramFault<'_>, texts: Option<&'a OrderTexts>) -> Option<&'a [u8]>
     ensures { if_given result
         ≡ option_and_then (circuit_at_fault fault.entry) (if_given texts.entry) }
@@ -187,6 +188,7 @@ fn circuit_at_fault<'a>(fault: ProgramFault<'_>, texts: &'a OrderTexts) -> Optio
 {
     match fault {
         ProgramFault::Run { side, .. } => Some(texts.on(side).bench.as_slice()),
+        ProgramFault::Drives(_) => Some(texts.on(Side::First).bench.as_slice()),
         _ => None,
     }
 }

@@ -1,8 +1,9 @@
 -- Names of nets that look like something else, though they are names as any other.
-use Rattle.std.specs.Prelude.{ℕ, ◌-◌, ◌==◌, ◌||◌, ◌&&◌, nat_eq, Bool, false, List, [], ◌∷◌, codes, filter, length, take}
+use Rattle.std.specs.Prelude.{ℕ, ◌-◌, ◌==◌, ◌||◌, ◌&&◌, nat_eq, Bool, false, if◌then◌else◌, List, [], ◌∷◌, codes, filter, flat_map, length, take}
 use Rattle.std.specs.List.{after_first, before_first, ends_with, range_with_len, starts_with}
-use Rattle.std.specs.Option.{is_some}
-use Rattle.texts.specs.Text.{number_of}
+use Rattle.std.specs.Option.{is_some, option_map_or}
+use Rattle.texts.specs.Text.{code_lines, number_of}
+use Rattle.mistakes.specs.BenchLines.{defined_by}
 use Rattle.netlist.specs.Netlist.{NetlistView, name_at}
 use Rattle.plain_runs.specs.declared.likeness.Likeness.{Likeness}
 use Rattle.plain_runs.specs.declared.likeness.Likeness.TheVariants.{Bus, Comment, Marked}
@@ -45,6 +46,13 @@ has_likeness netlist likeness net = is_like likeness (name_at netlist net)
 -- the numbers of the nets whose names look so, in rising order
 abbrev pub nets_like : NetlistView → Likeness → List ℕ
 nets_like netlist likeness = filter (has_likeness netlist likeness) (range_with_len 0 (length netlist.nets))
+
+-- the number of a line of a .bench text, if it defines a net whose name looks so; and those of the lines of a text
+abbrev pub number_if_like : Likeness → ℕ × List ℕ → List ℕ
+number_if_like likeness line = if option_map_or (is_like likeness) (defined_by line.1) false then line.0 ∷ [] else []
+
+abbrev pub lines_like : Likeness → List ℕ → List ℕ
+lines_like likeness text = flat_map (number_if_like likeness) (code_lines text)
 
 -- what a line says of the nets that it names
 abbrev pub said_of : Likeness → List ℕ

@@ -11,7 +11,7 @@ use Rattle.plain_runs.specs.declared.doubt.Doubt.{Doubt}
 use Rattle.plain_runs.specs.declared.doubt.Doubt.TheVariants.{HiddenWord, Stimulus}
 use Rattle.plain_runs.specs.declared.likeness.Likeness.{Likeness}
 use Rattle.plain_runs.specs.declared.likeness.Likeness.TheVariants.{Bus, Comment, Marked}
-use Rattle.plain_runs.specs.Likenesses.{nets_like, said_of}
+use Rattle.plain_runs.specs.Likenesses.{lines_like, nets_like, said_of}
 use Rattle.plain_runs.specs.Lines.{doubtful_lines}
 use Rattle.plain_runs.specs.Remarks.{noted_nets}
 use Rattle.plain_runs.specs.Unused.{has_flops, unused_inputs}
@@ -59,10 +59,6 @@ late_flops_note design =
     nets_note design.netlist (codes "flip-flops whose period is shorter than the longest path to them") (late_flops design)
     (codes "; nullsim info prints the longest")
 
--- the line of the nets whose names look so
-abbrev pub likeness_note : Likeness → NetlistView → List ℕ
-likeness_note likeness netlist = nets_note netlist (said_of likeness) (nets_like netlist likeness) []
-
 -- ---- lines
 
 -- the numbers of lines, with a space before each
@@ -84,6 +80,24 @@ lines_note words numbers =
 abbrev pub doubt_note : List ℕ → Doubt → DesignView → List ℕ → List ℕ
 doubt_note words doubt design text = lines_note words (doubtful_lines doubt design text)
 
+-- ---- names
+
+abbrev pub in_lines : List ℕ → List ℕ
+in_lines numbers = if length numbers == 1 then codes ", in line" else codes ", in lines"
+
+-- the lines of the .bench text that define some nets
+abbrev pub lines_after : List ℕ → List ℕ
+lines_after numbers = in_lines numbers ++ first_numbers numbers ++ codes " of the .bench text"
+
+-- the line of the nets whose names look so, with the lines of the .bench text that define such nets
+abbrev pub likeness_note : NetlistView → List ℕ → Likeness → List ℕ
+likeness_note netlist text likeness =
+    nets_note netlist (said_of likeness) (nets_like netlist likeness) (lines_after (lines_like likeness text))
+
+abbrev pub notes_of_names : NetlistView → List ℕ → List ℕ
+notes_of_names netlist text =
+    likeness_note netlist text Comment ++ likeness_note netlist text Marked ++ likeness_note netlist text Bus
+
 -- ---- a run
 
 -- all that is noted of a run to a horizon
@@ -91,12 +105,12 @@ unfoldable pub notes_of_design : ℕ → DesignView → List ℕ
 notes_of_design horizon design =
     outputs_note design.netlist ++ remark_note Undriven horizon design ++ remark_note Late horizon design ++ unused_note design.netlist
     ++ remark_note Unknown horizon design ++ late_flops_note design
-    ++ likeness_note Comment design.netlist ++ likeness_note Marked design.netlist ++ likeness_note Bus design.netlist
 
 -- what is noted of the texts of a design
 unfoldable pub notes_of_texts : SourceView → DesignView → List ℕ
 notes_of_texts source design =
-    doubt_note (codes "lines of the .bench text whose comments hide words after a carriage return") HiddenWord design source.bench
+    notes_of_names design.netlist source.bench
+    ++ doubt_note (codes "lines of the .bench text whose comments hide words after a carriage return") HiddenWord design source.bench
     ++ doubt_note (codes "lines of the delay text whose comments hide words after a carriage return") HiddenWord design source.delays
     ++ doubt_note (codes "lines of the stimulus text whose comments hide words after a carriage return") HiddenWord design source.stimuli
     ++ doubt_note (codes "lines of the stimulus text that # makes comments, with stimuli for inputs that have none") Stimulus design source.stimuli

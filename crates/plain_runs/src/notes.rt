@@ -10,7 +10,7 @@ ghost use Rattle.plain_runs.specs.Remarks.{noted_nets};
 ghost use Rattle.plain_runs.specs.Text.{late_flops_note, notes_of_design, notes_of_texts, remark_note, sampling, unused_note};
 
 use crate::doubt::{Doubt, push_doubt};
-use crate::likeness::{Likeness, push_likeness};
+use crate::likeness::push_name_notes;
 use crate::remark::Remark;
 use crate::text::{push_nets_note, push_outputs_note};
 use crate::unused::{has_flops, unused_inputs};
@@ -30,9 +30,10 @@ use timing_text::Horizon;
 /// - `note: unused inputs: c`, and, if there are flip-flops, `; flip-flops sample by --period or clock lines`
 /// - `note: other nets that are X throughout: y z`
 /// - `note: flip-flops whose period is shorter than the longest path to them: q; nullsim info prints the longest`
-/// - `note: nets named like comments, which begin with # here: //y`, for names that begin with `//`, `/*`, `--` or `;`
-/// - `note: nets whose names end with ';', ':' or '<', as part of the name: y:`
-/// - `note: nets named like buses, each of one bit: a[7:0]`
+/// - `note: nets named like comments, which begin with # here: //y, in line 2 of the .bench text`, for names that begin
+///   with `//`, `/*`, `--` or `;`
+/// - `note: nets whose names end with ';', ':' or '<', as part of the name: y: z<, in lines 2 3 of the .bench text`
+/// - `note: nets named like buses, each of one bit: a[7:0], in line 1 of the .bench text`
 /// - `note: lines of the .bench text whose comments hide words after a carriage return: 3`, and so of the delay text and
 ///   of the stimulus text
 /// - `note: lines of the stimulus text that # makes comments, with stimuli for inputs that have none: 1 2`
@@ -73,13 +74,10 @@ fn design_notes(
     push_unused(alloc, &mut text, design.netlist())?;
     push_remark(alloc, &mut text, design, horizon, waves, Remark::Unknown)?;
     push_late_flops(alloc, &mut text, design)?;
-    push_likeness(alloc, &mut text, design.netlist(), Likeness::Comment)?;
-    push_likeness(alloc, &mut text, design.netlist(), Likeness::Marked)?;
-    push_likeness(alloc, &mut text, design.netlist(), Likeness::Bus)?;
     Ok(text)
 }
 
-/// Adds the lines on the texts of a source.
+/// Adds the lines on the names of nets, and on the texts of a source.
 fn push_text_notes(
     alloc: Global,
     notes: &mut Vec<u8>,
@@ -88,6 +86,7 @@ fn push_text_notes(
 ) -> Result<(), AllocError>
     ensures { OnOk result (notes.new.items ≡ notes.old.items ++ notes_of_texts (seen_source source.now) design.now) }
 {
+    push_name_notes(alloc, notes, design.netlist(), source.bench)?;
     push_doubt(
         alloc,
         notes,
@@ -136,7 +135,7 @@ fn push_remark(
     ensures { OnOk result (text.new.items ≡ text.old.items ++ remark_note remark horizon design.now) }
 {
     let nets = noted_nets(alloc, design, horizon, waves, remark)?;
-    push_nets_note(text, design.netlist(), remark.words(), nets.as_slice(), "")
+    push_nets_note(text, design.netlist(), remark.words(), nets.as_slice(), b"")
 }
 
 /// Adds the line of the inputs that nothing uses.
@@ -149,7 +148,7 @@ fn push_unused(alloc: Global, text: &mut Vec<u8>, netlist: &Netlist) -> Result<(
         netlist,
         "unused inputs",
         nets.as_slice(),
-        sampling(netlist),
+        sampling(netlist).as_bytes(),
     )
 }
 
@@ -163,7 +162,7 @@ fn push_late_flops(alloc: Global, text: &mut Vec<u8>, design: &Design) -> Result
         design.netlist(),
         "flip-flops whose period is shorter than the longest path to them",
         nets.as_slice(),
-        "; nullsim info prints the longest",
+        b"; nullsim info prints the longest",
     )
 }
 

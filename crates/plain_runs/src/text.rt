@@ -25,7 +25,7 @@ pub(crate) fn push_nets_note(
     netlist: &Netlist,
     words: &str,
     nets: &[u32],
-    after: &str,
+    after: &[u8],
 ) -> Result<(), AllocError>
     requires { All (λ net. net < length netlist.now.nets) nets.now }
     ensures { OnOk result (text.new.items ≡ text.old.items ++ nets_note netlist.now words.now nets.now after.now) }
@@ -37,7 +37,7 @@ pub(crate) fn push_nets_note(
     text.extend_from_slice(words.as_bytes())?;
     text.push(b':')?;
     push_first_names(text, netlist, nets)?;
-    text.extend_from_slice(after.as_bytes())?;
+    text.extend_from_slice(after)?;
     text.push(b'\n')?;
     Ok(())
 }
@@ -76,7 +76,7 @@ pub(crate) fn push_lines_note(
 }
 
 /// Adds these numbers. Of more than a dozen it adds the first dozen, and how many others there are.
-fn push_first_numbers(text: &mut Vec<u8>, numbers: &[u64]) -> Result<(), AllocError>
+pub(crate) fn push_first_numbers(text: &mut Vec<u8>, numbers: &[u64]) -> Result<(), AllocError>
     ensures { OnOk result (text.new.items ≡ text.old.items ++ first_numbers numbers.now) }
 {
     if numbers.len() <= MOST_NAMES {

@@ -260,7 +260,7 @@ static NOTED: [Row; 32] = [
             ..DELAYED
         },
         9,
-        b"note: nets named like comments, which begin with # here: //z ;c\n",
+        b"note: nets named like comments, which begin with # here: //z ;c, in lines 4 6 of the .bench text\n",
     ),
     (
         Source {
@@ -269,8 +269,8 @@ static NOTED: [Row; 32] = [
             ..DELAYED
         },
         9,
-        b"note: nets named like comments, which begin with # here: --z<\n\
-          note: nets whose names end with ';', ':' or '<', as part of the name: a; y: --z<\n",
+        b"note: nets named like comments, which begin with # here: --z<, in line 4 of the .bench text\n\
+          note: nets whose names end with ';', ':' or '<', as part of the name: a; y: --z<, in lines 1 3 4 of the .bench text\n",
     ),
     (
         Source {
@@ -279,7 +279,7 @@ static NOTED: [Row; 32] = [
             ..DELAYED
         },
         9,
-        b"note: nets named like buses, each of one bit: a[1:0] y[2][3:2]\n",
+        b"note: nets named like buses, each of one bit: a[1:0] y[2][3:2], in lines 1 5 of the .bench text\n",
     ),
     // A comment goes on to the line feed.
     (

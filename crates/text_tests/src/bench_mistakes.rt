@@ -4,7 +4,7 @@ use explanations::Subject;
 use std::test::Fail;
 
 // Lines of .bench texts.
-static BENCH: [Mistake; 36] = [
+static BENCH: [Mistake; 46] = [
     Mistake {
         line: "INPUT a",
         said: "column 7, after 'INPUT': found 'a', expected '(' or '='\nwrite INPUT(a)",
@@ -143,11 +143,51 @@ static BENCH: [Mistake; 36] = [
     },
     Mistake {
         line: "%stimulus",
-        said: "at the end of the line, after '%stimulus': expected '='\na marker of a deck is %bench, %delays, %stimuli or %schedule, alone in its line",
+        said: "at the end of the line, after '%stimulus': expected '='\n'%stimulus' is no marker of a deck; did you mean %stimuli?",
+    },
+    Mistake {
+        line: "%end",
+        said: "at the end of the line, after '%end': expected '='\na marker of a deck is %bench, %delays, %stimuli or %schedule, alone in its line",
     },
     Mistake {
         line: "%x y",
         said: "column 4, after '%x': found 'y', expected '='",
+    },
+    Mistake {
+        line: "y = LUT 0x8 (a, b)",
+        said: "column 9, after 'y = LUT': found '0x8', expected '('\nthere are no look-up tables; ABC writes gates by write_bench -l\n0x8 of two pins is AND: y = AND(a, b)",
+    },
+    Mistake {
+        line: "y = LUT 0x7 (a, b)",
+        said: "column 9, after 'y = LUT': found '0x7', expected '('\nthere are no look-up tables; ABC writes gates by write_bench -l\n0x7 of two pins is NAND: y = NAND(a, b)",
+    },
+    Mistake {
+        line: "y = LUT 0xe (a, b)",
+        said: "column 9, after 'y = LUT': found '0xe', expected '('\nthere are no look-up tables; ABC writes gates by write_bench -l\n0xE of two pins is OR: y = OR(a, b)",
+    },
+    Mistake {
+        line: "y = LUT 0x1 (a, b)",
+        said: "column 9, after 'y = LUT': found '0x1', expected '('\nthere are no look-up tables; ABC writes gates by write_bench -l\n0x1 of two pins is NOR: y = NOR(a, b)",
+    },
+    Mistake {
+        line: "y = LUT 0x6 (a, b)",
+        said: "column 9, after 'y = LUT': found '0x6', expected '('\nthere are no look-up tables; ABC writes gates by write_bench -l\n0x6 of two pins is XOR: y = XOR(a, b)",
+    },
+    Mistake {
+        line: "y = LUT 0x9 (a, b)",
+        said: "column 9, after 'y = LUT': found '0x9', expected '('\nthere are no look-up tables; ABC writes gates by write_bench -l\n0x9 of two pins is XNOR: y = XNOR(a, b)",
+    },
+    Mistake {
+        line: "y = LUT 0x80 (a, b, c)",
+        said: "column 9, after 'y = LUT': found '0x80', expected '('\nthere are no look-up tables; ABC writes gates by write_bench -l",
+    },
+    Mistake {
+        line: "y = LUT 0x8 (a, b, c)",
+        said: "column 9, after 'y = LUT': found '0x8', expected '('\nthere are no look-up tables; ABC writes gates by write_bench -l",
+    },
+    Mistake {
+        line: "y = LUT 0x8 ($a, b)",
+        said: "column 9, after 'y = LUT': found '0x8', expected '('\nthere are no look-up tables; ABC writes gates by write_bench -l",
     },
 ];
 

@@ -75,6 +75,36 @@ fn nets_that_are_near(rt: HostRuntime) -> Result<(), AllocError> {
     Ok(())
 }
 
+#[test]
+fn inputs_that_are_near(rt: HostRuntime) -> Result<(), AllocError> {
+    let circuit = b"INPUT(data)\nINPUT(enable)\nDATE = NOT(data)\n".as_slice();
+    for (name, told) in [
+        (
+            b"DATA".as_slice(),
+            b"given: DATA\nline 1 of the .bench text defines 'data'\n".as_slice(),
+        ),
+        (
+            b"enabel",
+            b"given: enabel\nline 2 of the .bench text defines 'enable'\n",
+        ),
+        (b"Date", b"given: Date\n"),
+        (b"b", b"given: b\n"),
+    ] {
+        let fault = AtHand {
+            subject: Subject::Drives,
+            name: "NotAnInput",
+            line: 0,
+            text: None,
+            word: Some(name),
+            number: None,
+            reason: None,
+            circuit: Some(circuit),
+        };
+        assert!(rt; fault_text(rt.alloc(), &[], fault)?.as_slice() == told);
+    }
+    Ok(())
+}
+
 /// A name that the first line uses and no line defines, the lines after it, and what is suggested.
 struct Missing {
     name: &'static str,

@@ -5,7 +5,7 @@ use explanations::Subject;
 use std::test::Fail;
 
 // First lines of delay texts.
-static FIRST: [Mistake; 11] = [
+static FIRST: [Mistake; 16] = [
     Mistake {
         line: "y 3ns",
         said: "column 3, after 'y': found '3ns', expected TICKS, a whole number of 1 to 1000000\nticks have no unit: write y 3",
@@ -49,6 +49,26 @@ static FIRST: [Mistake; 11] = [
     Mistake {
         line: "a #3",
         said: "column 3, after 'a': found a comment, which begins at #; expected TICKS, a whole number of 1 to 1000000",
+    },
+    Mistake {
+        line: "y -3",
+        said: "column 3, after 'y': found '-3', expected TICKS, a whole number of 1 to 1000000\nticks have no sign",
+    },
+    Mistake {
+        line: "y -",
+        said: "column 3, after 'y': found '-', expected TICKS, a whole number of 1 to 1000000",
+    },
+    Mistake {
+        line: "%stimulus",
+        said: "at the end of the line, after '%stimulus': expected TICKS, a whole number of 1 to 1000000\n'%stimulus' is no marker of a deck; did you mean %stimuli?",
+    },
+    Mistake {
+        line: "%stimuli # all",
+        said: "column 10, after '%stimuli': found a comment, which begins at #; expected TICKS, a whole number of 1 to 1000000\na marker of a deck is %bench, %delays, %stimuli or %schedule, alone in its line",
+    },
+    Mistake {
+        line: "%y 3ns",
+        said: "column 4, after '%y': found '3ns', expected TICKS, a whole number of 1 to 1000000\na marker of a deck is %bench, %delays, %stimuli or %schedule, alone in its line",
     },
 ];
 
@@ -164,7 +184,7 @@ fn delay_lines_of_version_2(rt: HostRuntime) -> Result<(), Fail> {
 }
 
 // Lines of stimulus texts.
-static STIMULI: [Mistake; 15] = [
+static STIMULI: [Mistake; 19] = [
     Mistake {
         line: "10ns a 1",
         said: "column 1: found '10ns', expected TICK, a whole number of 0 to 10000000\nticks have no unit: write 10 a 1",
@@ -175,7 +195,7 @@ static STIMULI: [Mistake; 15] = [
     },
     Mistake {
         line: "-5 a 1",
-        said: "column 1: found '-5', expected TICK, a whole number of 0 to 10000000",
+        said: "column 1: found '-5', expected TICK, a whole number of 0 to 10000000\nticks begin at 0 and have no sign",
     },
     Mistake {
         line: "a 10 1",
@@ -225,6 +245,22 @@ static STIMULI: [Mistake; 15] = [
         line: ".5 a 1",
         said: "column 1: found '.5', expected TICK, a whole number of 0 to 10000000",
     },
+    Mistake {
+        line: "+5 a 1",
+        said: "column 1: found '+5', expected TICK, a whole number of 0 to 10000000\nticks begin at 0 and have no sign",
+    },
+    Mistake {
+        line: "5 a -1 x",
+        said: "column 8, after '5 a -1': found 'x', expected the end of the line",
+    },
+    Mistake {
+        line: "%timing",
+        said: "column 1: found '%timing', expected TICK, a whole number of 0 to 10000000\n'%timing' is no marker of a deck; did you mean %delays?",
+    },
+    Mistake {
+        line: "%end",
+        said: "column 1: found '%end', expected TICK, a whole number of 0 to 10000000\na marker of a deck is %bench, %delays, %stimuli or %schedule, alone in its line",
+    },
 ];
 
 #[test]
@@ -236,7 +272,7 @@ fn stimulus_lines(rt: HostRuntime) -> Result<(), Fail> {
 }
 
 // Lines of schedule texts.
-static SCHEDULE: [Mistake; 15] = [
+static SCHEDULE: [Mistake; 17] = [
     Mistake {
         line: "advance a 0 -> 1",
         said: "column 11, after 'advance a': found '0', expected the end of the line\na line of a trace has more than its step: write advance a",
@@ -297,6 +333,14 @@ static SCHEDULE: [Mistake; 15] = [
         line: "deliver a",
         said: "at the end of the line, after 'deliver a': expected PLACE, a whole number",
     },
+    Mistake {
+        line: "%STIMULI",
+        said: "column 1: found '%STIMULI', expected 'advance' or 'deliver'\n'%STIMULI' is no marker of a deck; did you mean %stimuli?",
+    },
+    Mistake {
+        line: "%bench a",
+        said: "column 1: found '%bench', expected 'advance' or 'deliver'\na marker of a deck is %bench, %delays, %stimuli or %schedule, alone in its line",
+    },
 ];
 
 #[test]
@@ -311,7 +355,7 @@ fn schedule_lines(rt: HostRuntime) -> Result<(), Fail> {
 static DECK: [Mistake; 8] = [
     Mistake {
         line: "",
-        said: "at the end of the line: expected '%nullsim'",
+        said: "at the end of the line: expected '%nullsim'\nstandard input is empty: a deck begins with %nullsim and the horizon",
     },
     Mistake {
         line: "%nullsim",
@@ -347,6 +391,43 @@ static DECK: [Mistake; 8] = [
 fn first_lines_of_decks(rt: HostRuntime) -> Result<(), Fail> {
     for mistake in &DECK {
         is_said(&rt, rt.alloc(), Subject::Deck, "", 1, mistake)?;
+    }
+    Ok(())
+}
+
+// Decks whose first line has no words, and all that is printed.
+static LATE: [(&[u8], &str); 6] = [
+    (
+        b"# a deck\n\n%nullsim 20\n%bench\n",
+        "line 1: # a deck\ncolumn 1: found '#', expected '%nullsim'\na deck has no comments or empty lines before %nullsim: leave out the lines before line 3\n",
+    ),
+    (
+        b"\r\n%nullsim 5\r\n%bench\r\n",
+        "line 1:  \nat the end of the line: expected '%nullsim'\na deck has no comments or empty lines before %nullsim: leave out the lines before line 2\n",
+    ),
+    (
+        b"\n%nullsim 5 # a run\n",
+        "line 1: \nat the end of the line: expected '%nullsim'\n",
+    ),
+    (
+        b"\nINPUT(a)\n%nullsim 5\n",
+        "line 1: \nat the end of the line: expected '%nullsim'\n",
+    ),
+    (
+        b"#\n\n",
+        "line 1: #\ncolumn 1: found '#', expected '%nullsim'\n",
+    ),
+    (
+        b" \n\t\n\r\n",
+        "line 1:  \nat the end of the line: expected '%nullsim'\nstandard input is empty: a deck begins with %nullsim and the horizon\n",
+    ),
+];
+
+#[test]
+fn decks_that_begin_late(rt: HostRuntime) -> Result<(), Fail> {
+    for &(text, wanted) in &LATE {
+        let told = told(rt.alloc(), Subject::Deck, 1, text)?;
+        assert!(rt; told.as_slice() == wanted.as_bytes());
     }
     Ok(())
 }

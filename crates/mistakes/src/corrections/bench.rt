@@ -7,6 +7,7 @@ use crate::corrections::correction::Correction;
 use crate::corrections::gates::gate_corrections;
 use crate::corrections::nested::nested_corrections;
 use crate::corrections::ports::port_corrections;
+use crate::corrections::tables::table_corrections;
 use std::alloc::{AllocError, Global};
 
 /// Returns the ways in which a .bench line may be wrong, by its words and marks.
@@ -17,5 +18,6 @@ pub(crate) fn bench_corrections(alloc: Global) -> Result<Vec<Correction>, AllocE
     let mut table = Vec::from_slice(alloc, port_corrections())?;
     table.extend_from_slice(gate_corrections())?;
     table.extend_from_slice(nested_corrections())?;
+    table.extend_from_slice(table_corrections())?;
     Ok(table)
 }

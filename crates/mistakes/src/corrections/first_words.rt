@@ -2,7 +2,7 @@
 ghost use Rattle.std.specs.Prelude.{◌≡◌, ◌++◌, option_map, IfOk, OnOk};
 ghost use Rattle.mistakes.specs.SeenCorrections.{seen_refused, seen_words};
 ghost use Rattle.mistakes.specs.SeenForms.{seen_row, seen_rows};
-ghost use Rattle.mistakes.specs.TimingLines.{first_word, first_words, is_like_marker, marker_rule, marker_told, respelled, respelled_right, respelled_told, with_first};
+ghost use Rattle.mistakes.specs.TimingLines.{first_word, first_words, respelled, respelled_right, respelled_told, with_first};
 
 use crate::corrections::accepted::{Refused, word_of};
 use crate::corrections::applying::from_place;
@@ -101,32 +101,4 @@ fn push_first_word<'a>(words: &mut Vec<&'a [u8]>, row: &'static [Slot]) -> Resul
         words.push(*text)?;
     }
     Ok(())
-}
-
-/// Adds what a marker is, if a word that begins like one is alone in the line.
-#[tactic(auto, unfolding(crate::specs::TimingLines::marker_told))]
-pub(crate) fn push_marker_told(told: &mut Vec<u8>, refused: Refused<'_>) -> Result<(), AllocError>
-    ensures { OnOk result (told.new.items ≡ told.old.items ++ marker_told (seen_refused refused.entry)) }
-{
-    if is_like_marker(refused.words) {
-        told.extend_from_slice(marker_rule())
-    } else {
-        Ok(())
-    }
-}
-
-fn is_like_marker(words: &[&[u8]]) -> bool
-    ensures { result ≡ is_like_marker (seen_words words.now) }
-{
-    match words {
-        [word] => word.first() == Some(&b'%'),
-        _ => false,
-    }
-}
-
-#[tactic(auto, unfolding(crate::specs::TimingLines::marker_rule))]
-fn marker_rule() -> &'static [u8]
-    ensures { result.now ≡ marker_rule }
-{
-    b"a marker of a deck is %bench, %delays, %stimuli or %schedule, alone in its line\n"
 }

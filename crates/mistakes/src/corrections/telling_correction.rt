@@ -2,7 +2,7 @@
 ghost use Rattle.std.specs.Prelude.{◌≡◌, ◌==◌, ◌++◌, option_map, IfOk, OnOk};
 ghost use Rattle.mistakes.specs.BenchCorrections.{bench_corrections};
 ghost use Rattle.mistakes.specs.BenchLines.{is_among};
-ghost use Rattle.mistakes.specs.Corrected.{bench_corrected, circuit_of, code_corrected, corrected, if_short, line_corrected, of_corrections, refused_corrected, refused_line, statement_corrected, timing_corrected, uncommented, without_hashes, words_corrected};
+ghost use Rattle.mistakes.specs.Corrected.{bench_corrected, circuit_of, code_corrected, corrected, if_short, line_corrected, of_corrections, refused_corrected, refused_line, statement_corrected, ticks_told, timing_corrected, uncommented, without_hashes, words_corrected};
 ghost use Rattle.mistakes.specs.Corrections.{told_by};
 ghost use Rattle.mistakes.specs.Lines.{unless_empty};
 ghost use Rattle.mistakes.specs.SeenCorrections.{seen_refused, seen_table, seen_words};
@@ -14,16 +14,15 @@ use crate::corrections::applying::push_told_by;
 use crate::corrections::bench::bench_corrections;
 use crate::corrections::correction::Correction;
 use crate::corrections::delays::delay_corrections;
-use crate::corrections::first_words::{
-    push_marker_told, push_respelled_right, push_respelled_told,
-};
+use crate::corrections::first_words::{push_respelled_right, push_respelled_told};
 use crate::corrections::formulas::push_formula_told;
 use crate::corrections::lists::{push_ended_told, push_list_told};
+use crate::corrections::markers::push_marker_told;
 use crate::corrections::right::push_right_told;
 use crate::corrections::schedule::schedule_corrections;
 use crate::corrections::statements::{push_dollar_told, push_part_told, push_two_told};
 use crate::corrections::stimuli::stimulus_corrections;
-use crate::corrections::ticks::{push_point_told, push_unit_told};
+use crate::corrections::ticks::{push_point_told, push_sign_told, push_unit_told};
 use crate::corrections::traces::{push_pins_told, push_trace_told};
 use crate::corrections::words::{is_shown_whole, marked_words};
 use crate::lines::{LONGEST_CORRECTED, line_at};
@@ -248,7 +247,7 @@ fn words_corrected(alloc: Global, refused: Refused<'_>) -> Result<Vec<u8>, Alloc
         push_respelled_told(alloc, &mut told, refused)?;
     }
     if told.is_empty() {
-        push_marker_told(&mut told, refused)?;
+        push_marker_told(alloc, &mut told, refused)?;
     }
     if told.is_empty() {
         push_from_table(alloc, &mut told, refused)?;
@@ -290,7 +289,7 @@ fn deck_corrected(alloc: Global, refused: Refused<'_>) -> Result<Vec<u8>, AllocE
 }
 
 /// Returns the only correction of a table that applies, or what is said of the units of a line, of its first
-/// word, of a point in its ticks, or of the pins of its net.
+/// word, of its ticks, of markers, or of the pins of its net.
 fn timing_corrected(
     alloc: Global,
     table: &'static [Correction],
@@ -307,10 +306,37 @@ fn timing_corrected(
         push_respelled_right(alloc, &mut told, refused)?;
     }
     if told.is_empty() {
-        push_point_told(&mut told, refused)?;
+        push_ticks_told(alloc, &mut told, refused)?;
     }
     if told.is_empty() {
         push_pins_told(alloc, &mut told, refused)?;
+    }
+    Ok(told)
+}
+
+fn push_ticks_told(
+    alloc: Global,
+    told: &mut Vec<u8>,
+    refused: Refused<'_>,
+) -> Result<(), AllocError>
+    ensures { OnOk result (told.new.items ≡ told.old.items ++ ticks_told (seen_refused refused.entry)) }
+{
+    let ticks = ticks_told(alloc, refused)?;
+    told.extend_from_slice(&ticks)
+}
+
+/// Returns what is said of a point or a sign in the ticks of a line, or of the marker that it may mean.
+#[tactic(auto, unfolding(crate::specs::Corrected::ticks_told))]
+fn ticks_told(alloc: Global, refused: Refused<'_>) -> Result<Vec<u8>, AllocError>
+    ensures { IfOk result (λ told. told.items ≡ ticks_told (seen_refused refused.entry)) }
+{
+    let mut told = Vec::new(alloc);
+    push_point_told(&mut told, refused)?;
+    if told.is_empty() {
+        push_sign_told(&mut told, refused)?;
+    }
+    if told.is_empty() {
+        push_marker_told(alloc, &mut told, refused)?;
     }
     Ok(told)
 }

@@ -1,10 +1,10 @@
-//! Lines with ticks that have a unit or a point.
+//! Lines with ticks that have a unit, a point or a sign.
 ghost use Rattle.std.specs.Prelude.{◌≡◌, ◌≤◌, ◌++◌, length, map, OnOk};
 ghost use Rattle.std.specs.Char.{is_ascii_digit};
 ghost use Rattle.std.specs.List.{prefix_len};
 ghost use Rattle.mistakes.specs.BenchLines.{is_among};
 ghost use Rattle.mistakes.specs.SeenCorrections.{seen_refused, seen_words};
-ghost use Rattle.mistakes.specs.TimingLines.{after_point, digits_after, point_told, scale_rule, scale_told, ticks_word, unit_told, units, without_unit, zeros_line};
+ghost use Rattle.mistakes.specs.TimingLines.{after_point, digits_after, is_signed, point_told, scale_rule, scale_told, sign_rule, sign_told, ticks_word, unit_told, units, without_unit, zeros_line};
 
 use crate::corrections::accepted::{Refused, word_of};
 use crate::corrections::right::push_right_told;
@@ -82,6 +82,37 @@ pub(crate) fn push_point_told(told: &mut Vec<u8>, refused: Refused<'_>) -> Resul
         told,
         after_point(ticks_word(refused.subject, refused.words)),
     )
+}
+
+/// Adds what is said of ticks with a sign, if those of the line have one.
+#[tactic(auto, unfolding(crate::specs::TimingLines::sign_told))]
+pub(crate) fn push_sign_told(told: &mut Vec<u8>, refused: Refused<'_>) -> Result<(), AllocError>
+    ensures { OnOk result (told.new.items ≡ told.old.items ++ sign_told (seen_refused refused.entry)) }
+{
+    if is_signed(ticks_word(refused.subject, refused.words)) {
+        told.extend_from_slice(sign_rule(refused.subject))
+    } else {
+        Ok(())
+    }
+}
+
+/// Returns whether a word is a sign and digits.
+fn is_signed(word: &[u8]) -> bool
+    ensures { result ≡ is_signed word.now }
+{
+    match word.split_first() {
+        Some((mark, digits)) => (*mark == b'-' || *mark == b'+') && number(digits).is_some(),
+        None => false,
+    }
+}
+
+fn sign_rule(subject: Subject) -> &'static [u8]
+    ensures { result.now ≡ sign_rule subject }
+{
+    match subject {
+        Subject::Stimuli => b"ticks begin at 0 and have no sign\n",
+        _ => b"ticks have no sign\n",
+    }
 }
 
 /// Returns the word of a line that is a number of ticks.
