@@ -2,15 +2,16 @@
 use Rattle.std.proofs.Common.{◌≡◌, arith, ℕ, suc, ◌+◌, ◌-◌, ◌<◌, ◌≤◌, List, [], ◌∷◌, ◌++◌, map, flat_map, append_assoc, append-nil}
 use Rattle.std.specs.List.{range_with_len}
 
-pub joined₃ : (l l₁ l₂ l₃ a b c : List ℕ) → l₁ ≡ l ++ a → l₂ ≡ l₁ ++ b → l₃ ≡ l₂ ++ c → l₃ ≡ l ++ (a ++ b ++ c)
-joined₃ l l₁ l₂ l₃ a b c p q r = rw (r, q, p) (simp append_assoc)
-
 pub joined₄ : (l l₁ l₂ l₃ l₄ a b c d : List ℕ) → l₁ ≡ l ++ a → l₂ ≡ l₁ ++ b → l₃ ≡ l₂ ++ c → l₄ ≡ l₃ ++ d → l₄ ≡ l ++ (a ++ b ++ c ++ d)
 joined₄ l l₁ l₂ l₃ l₄ a b c d p q r s = rw (s, r, q, p) (simp append_assoc)
 
 pub joined₅ : (l l₁ l₂ l₃ l₄ l₅ a b c d e : List ℕ) → l₁ ≡ l ++ a → l₂ ≡ l₁ ++ b → l₃ ≡ l₂ ++ c → l₄ ≡ l₃ ++ d → l₅ ≡ l₄ ++ e →
     l₅ ≡ l ++ (a ++ b ++ c ++ d ++ e)
 joined₅ l l₁ l₂ l₃ l₄ l₅ a b c d e p q r s t = rw (t, s, r, q, p) (simp append_assoc)
+
+pub joined₆ : (l l₁ l₂ l₃ l₄ l₅ l₆ a b c d e f : List ℕ) → l₁ ≡ l ++ a → l₂ ≡ l₁ ++ b → l₃ ≡ l₂ ++ c → l₄ ≡ l₃ ++ d → l₅ ≡ l₄ ++ e → l₆ ≡ l₅ ++ f →
+    l₆ ≡ l ++ (a ++ b ++ c ++ d ++ e ++ f)
+joined₆ l l₁ l₂ l₃ l₄ l₅ l₆ a b c d e f p q r s t u = rw (u, t, s, r, q, p) (simp append_assoc)
 
 -- the texts of the numbers from one up to but not including another
 abbrev pub from_on : (ℕ → List ℕ) → ℕ → ℕ → List ℕ

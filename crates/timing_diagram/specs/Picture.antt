@@ -49,11 +49,16 @@ column_path signal ticks column = numbered (codes "M") (10 * column) ++ mark_pat
 abbrev pub signal_path : (ℕ → Value) → Ticks → List ℕ
 signal_path signal ticks = flat_map (column_path signal ticks) (range_with_len 0 (column_count ticks))
 
+-- the head of the picture: its size, which a page may scale, and what a screen reader says of it
 abbrev pub heading : ℕ → ℕ → ℕ → List ℕ
 heading left height columns =
-    numbered (codes "<svg xmlns=\"http://www.w3.org/2000/svg\" width=\"") (left + 10 * columns + 80)
+    let width = left + 10 * columns + 80 in
+    numbered (codes "<svg xmlns=\"http://www.w3.org/2000/svg\" width=\"") width
     ++ numbered (codes "\" height=\"") height
-    ++ codes "\" font-family=\"monospace\" font-size=\"12\">\n<rect width=\"100%\" height=\"100%\" fill=\"white\"/>\n"
+    ++ numbered (codes "\" viewBox=\"0 0 ") width
+    ++ numbered (codes " ") height
+    ++ codes "\" role=\"img\" font-family=\"monospace\" font-size=\"12\">\n<title>Timing diagram by nullsim</title>\n"
+    ++ codes "<rect width=\"100%\" height=\"100%\" fill=\"white\"/>\n"
 
 -- every tenth column: its first tick, and a line of the grid
 abbrev pub grid_line : ℕ → ℕ → Ticks → ℕ → List ℕ

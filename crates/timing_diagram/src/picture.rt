@@ -77,15 +77,19 @@ fn push_heading(text: &mut Vec<u8>, left: u64, height: u64, count: u64) -> Resul
     requires count { count < 2 ^ 32 }
     ensures { OnOk result (text.new.items ≡ text.old.items ++ heading left height count) }
 {
+    let width = left + 10 * count + 80;
     push_numbered(
         text,
         b"<svg xmlns=\"http://www.w3.org/2000/svg\" width=\"",
-        left + 10 * count + 80,
+        width,
     )?;
     push_numbered(text, b"\" height=\"", height)?;
+    push_numbered(text, b"\" viewBox=\"0 0 ", width)?;
+    push_numbered(text, b" ", height)?;
     text.extend_from_slice(
-        b"\" font-family=\"monospace\" font-size=\"12\">\n<rect width=\"100%\" height=\"100%\" fill=\"white\"/>\n",
+        b"\" role=\"img\" font-family=\"monospace\" font-size=\"12\">\n<title>Timing diagram by nullsim</title>\n",
     )?;
+    text.extend_from_slice(b"<rect width=\"100%\" height=\"100%\" fill=\"white\"/>\n")?;
     Ok(())
 }
 

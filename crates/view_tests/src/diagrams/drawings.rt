@@ -13,7 +13,8 @@ use timing_text::Horizon;
 type Row = (Circuit, u64, (u64, u64, u64), Form, &'static [u8]);
 
 const INVERTER_SVG: &[u8] =
-    b"<svg xmlns=\"http://www.w3.org/2000/svg\" width=\"164\" height=\"100\" font-family=\"monospace\" font-size=\"12\">\n\
+    b"<svg xmlns=\"http://www.w3.org/2000/svg\" width=\"164\" height=\"100\" viewBox=\"0 0 164 100\" role=\"img\" font-family=\"monospace\" font-size=\"12\">\n\
+      <title>Timing diagram by nullsim</title>\n\
       <rect width=\"100%\" height=\"100%\" fill=\"white\"/>\n\
       <path d=\"M24 20V100\" stroke=\"#ccc\"/><text y=\"14\" x=\"24\">0</text>\n\
       <text x=\"8\" y=\"44\">a</text><path transform=\"translate(24 30)\" d=\"M0 16h10M10 16h10M20 16h10M30 16v-16h10M40 0h10M50 0h10\" fill=\"none\" stroke=\"black\"/>\n\
@@ -22,7 +23,8 @@ const INVERTER_SVG: &[u8] =
 
 // If a net changes within a column, there is a cross.
 const HAZARD_SVG: &[u8] =
-    b"<svg xmlns=\"http://www.w3.org/2000/svg\" width=\"134\" height=\"130\" font-family=\"monospace\" font-size=\"12\">\n\
+    b"<svg xmlns=\"http://www.w3.org/2000/svg\" width=\"134\" height=\"130\" viewBox=\"0 0 134 130\" role=\"img\" font-family=\"monospace\" font-size=\"12\">\n\
+      <title>Timing diagram by nullsim</title>\n\
       <rect width=\"100%\" height=\"100%\" fill=\"white\"/>\n\
       <path d=\"M24 20V130\" stroke=\"#ccc\"/><text y=\"14\" x=\"24\">4</text>\n\
       <text x=\"8\" y=\"44\">a</text><path transform=\"translate(24 30)\" d=\"M0 0l10 16m-10 0l10-16M10 0h10M20 0h10\" fill=\"none\" stroke=\"black\"/>\n\
@@ -31,7 +33,8 @@ const HAZARD_SVG: &[u8] =
       </svg>\n";
 
 const MARKED_SVG: &[u8] =
-    b"<svg xmlns=\"http://www.w3.org/2000/svg\" width=\"154\" height=\"70\" font-family=\"monospace\" font-size=\"12\">\n\
+    b"<svg xmlns=\"http://www.w3.org/2000/svg\" width=\"154\" height=\"70\" viewBox=\"0 0 154 70\" role=\"img\" font-family=\"monospace\" font-size=\"12\">\n\
+      <title>Timing diagram by nullsim</title>\n\
       <rect width=\"100%\" height=\"100%\" fill=\"white\"/>\n\
       <path d=\"M64 20V70\" stroke=\"#ccc\"/><text y=\"14\" x=\"64\">7</text>\n\
       <text x=\"8\" y=\"44\">a&lt;b&amp;c&gt;</text><path transform=\"translate(64 30)\" d=\"M0 0h10m-10 16h10m-10 0l10-16\" fill=\"none\" stroke=\"black\"/>\n\
@@ -100,7 +103,8 @@ static DRAWN: [Row; 10] = [
 ];
 
 const HAZARD_ENDS_SVG: &[u8] =
-    b"<svg xmlns=\"http://www.w3.org/2000/svg\" width=\"134\" height=\"130\" font-family=\"monospace\" font-size=\"12\">\n\
+    b"<svg xmlns=\"http://www.w3.org/2000/svg\" width=\"134\" height=\"130\" viewBox=\"0 0 134 130\" role=\"img\" font-family=\"monospace\" font-size=\"12\">\n\
+      <title>Timing diagram by nullsim</title>\n\
       <rect width=\"100%\" height=\"100%\" fill=\"white\"/>\n\
       <path d=\"M24 20V130\" stroke=\"#ccc\"/><text y=\"14\" x=\"24\">4</text>\n\
       <text x=\"8\" y=\"44\">a</text><path transform=\"translate(24 30)\" d=\"M0 0h10M10 0h10M20 0h10\" fill=\"none\" stroke=\"black\"/>\n\
