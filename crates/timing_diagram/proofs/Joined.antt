@@ -9,9 +9,9 @@ pub joined₅ : (l l₁ l₂ l₃ l₄ l₅ a b c d e : List ℕ) → l₁ ≡ l
     l₅ ≡ l ++ (a ++ b ++ c ++ d ++ e)
 joined₅ l l₁ l₂ l₃ l₄ l₅ a b c d e p q r s t = rw (t, s, r, q, p) (simp append_assoc)
 
-pub joined₆ : (l l₁ l₂ l₃ l₄ l₅ l₆ a b c d e f : List ℕ) → l₁ ≡ l ++ a → l₂ ≡ l₁ ++ b → l₃ ≡ l₂ ++ c → l₄ ≡ l₃ ++ d → l₅ ≡ l₄ ++ e → l₆ ≡ l₅ ++ f →
-    l₆ ≡ l ++ (a ++ b ++ c ++ d ++ e ++ f)
-joined₆ l l₁ l₂ l₃ l₄ l₅ l₆ a b c d e f p q r s t u = rw (u, t, s, r, q, p) (simp append_assoc)
+pub joined₈ : (l l₁ l₂ l₃ l₄ l₅ l₆ l₇ l₈ a b c d e f g h : List ℕ) → l₁ ≡ l ++ a → l₂ ≡ l₁ ++ b → l₃ ≡ l₂ ++ c → l₄ ≡ l₃ ++ d → l₅ ≡ l₄ ++ e →
+    l₆ ≡ l₅ ++ f → l₇ ≡ l₆ ++ g → l₈ ≡ l₇ ++ h → l₈ ≡ l ++ (a ++ b ++ c ++ d ++ e ++ f ++ g ++ h)
+joined₈ l l₁ l₂ l₃ l₄ l₅ l₆ l₇ l₈ a b c d e f g h p q r s t u v w = rw (w, v, u, t, s, r, q, p) (simp append_assoc)
 
 -- the texts of the numbers from one up to but not including another
 abbrev pub from_on : (ℕ → List ℕ) → ℕ → ℕ → List ℕ

@@ -49,6 +49,11 @@ column_path signal ticks column = numbered (codes "M") (10 * column) ++ mark_pat
 abbrev pub signal_path : (ℕ → Value) → Ticks → List ℕ
 signal_path signal ticks = flat_map (column_path signal ticks) (range_with_len 0 (column_count ticks))
 
+-- on a screen whose user prefers dark pages, light lines on a dark ground; else, on paper too, black ones on white
+abbrev pub dark_style : List ℕ
+dark_style =
+    codes "<style>@media screen and (prefers-color-scheme: dark) { .nullsim { color: #ddd } .nullsim rect { fill: #111 } }</style>\n"
+
 -- the head of the picture: its size, which a page may scale, and what a screen reader says of it
 abbrev pub heading : ℕ → ℕ → ℕ → List ℕ
 heading left height columns =
@@ -57,15 +62,16 @@ heading left height columns =
     ++ numbered (codes "\" height=\"") height
     ++ numbered (codes "\" viewBox=\"0 0 ") width
     ++ numbered (codes " ") height
-    ++ codes "\" role=\"img\" font-family=\"monospace\" font-size=\"12\">\n<title>Timing diagram by nullsim</title>\n"
-    ++ codes "<rect width=\"100%\" height=\"100%\" fill=\"white\"/>\n"
+    ++ codes "\" role=\"img\" class=\"nullsim\" color=\"black\" fill=\"currentColor\" font-family=\"monospace\" font-size=\"12\">\n"
+    ++ codes "<title>Timing diagram by nullsim</title>\n"
+    ++ dark_style ++ codes "<rect width=\"100%\" height=\"100%\" fill=\"white\"/>\n"
 
 -- every tenth column: its first tick, and a line of the grid
 abbrev pub grid_line : ℕ → ℕ → Ticks → ℕ → List ℕ
 grid_line left height ticks place =
     numbered (codes "<path d=\"M") (left + 100 * place)
     ++ numbered (codes " 20V") height
-    ++ numbered (codes "\" stroke=\"#ccc\"/><text y=\"14\" x=\"") (left + 100 * place)
+    ++ numbered (codes "\" stroke=\"currentColor\" stroke-opacity=\"0.2\"/><text y=\"14\" x=\"") (left + 100 * place)
     ++ numbered (codes "\">") (first_tick ticks (10 * place))
     ++ codes "</text>\n"
 
@@ -79,7 +85,7 @@ abbrev pub signal_row : ℕ → Ticks → ℕ → (ℕ → Value) → List ℕ
 signal_row left ticks place signal =
     numbered (codes "<path transform=\"translate(") left
     ++ numbered (codes " ") (30 * place + 30)
-    ++ codes ")\" d=\"" ++ signal_path signal ticks ++ codes "\" fill=\"none\" stroke=\"black\"/>\n"
+    ++ codes ")\" d=\"" ++ signal_path signal ticks ++ codes "\" fill=\"none\" stroke=\"currentColor\"/>\n"
 
 abbrev pub trace_row : ℕ → Ticks → ℕ × Trace → List ℕ
 trace_row left ticks (place, (name, signal)) = name_row place name ++ signal_row left ticks place signal

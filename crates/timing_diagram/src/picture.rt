@@ -87,7 +87,11 @@ fn push_heading(text: &mut Vec<u8>, left: u64, height: u64, count: u64) -> Resul
     push_numbered(text, b"\" viewBox=\"0 0 ", width)?;
     push_numbered(text, b" ", height)?;
     text.extend_from_slice(
-        b"\" role=\"img\" font-family=\"monospace\" font-size=\"12\">\n<title>Timing diagram by nullsim</title>\n",
+        b"\" role=\"img\" class=\"nullsim\" color=\"black\" fill=\"currentColor\" font-family=\"monospace\" font-size=\"12\">\n",
+    )?;
+    text.extend_from_slice(b"<title>Timing diagram by nullsim</title>\n")?;
+    text.extend_from_slice(
+        b"<style>@media screen and (prefers-color-scheme: dark) { .nullsim { color: #ddd } .nullsim rect { fill: #111 } }</style>\n",
     )?;
     text.extend_from_slice(b"<rect width=\"100%\" height=\"100%\" fill=\"white\"/>\n")?;
     Ok(())
@@ -107,7 +111,11 @@ fn push_grid_line(
     let at = left + 100 * place;
     push_numbered(text, b"<path d=\"M", at)?;
     push_numbered(text, b" 20V", height)?;
-    push_numbered(text, b"\" stroke=\"#ccc\"/><text y=\"14\" x=\"", at)?;
+    push_numbered(
+        text,
+        b"\" stroke=\"currentColor\" stroke-opacity=\"0.2\"/><text y=\"14\" x=\"",
+        at,
+    )?;
     push_numbered(text, b"\">", columns.first(10 * place))?;
     text.extend_from_slice(b"</text>\n")?;
     Ok(())
@@ -148,7 +156,7 @@ fn push_signal_row(
     push_numbered(text, b" ", 30 * place + 30)?;
     text.extend_from_slice(b")\" d=\"")?;
     push_signal(text, wave, columns)?;
-    text.extend_from_slice(b"\" fill=\"none\" stroke=\"black\"/>\n")?;
+    text.extend_from_slice(b"\" fill=\"none\" stroke=\"currentColor\"/>\n")?;
     Ok(())
 }
 

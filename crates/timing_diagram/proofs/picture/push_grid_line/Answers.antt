@@ -9,7 +9,7 @@ returns c =
     joined₅ _ _ _ _ _ _
     (numbered (codes "<path d=\"M") (c.args.left + 100 * c.args.place))
     (numbered (codes " 20V") c.args.height)
-    (numbered (codes "\" stroke=\"#ccc\"/><text y=\"14\" x=\"") (c.args.left + 100 * c.args.place))
+    (numbered (codes "\" stroke=\"currentColor\" stroke-opacity=\"0.2\"/><text y=\"14\" x=\"") (c.args.left + 100 * c.args.place))
     (numbered (codes "\">") (first_tick c.args.columns (10 * c.args.place)))
     (codes "</text>\n")
     c.in_ok-push_numbered.ensures c.in_ok-push_numbered-2.ensures c.in_ok-push_numbered-3.ensures
