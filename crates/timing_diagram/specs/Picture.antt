@@ -1,5 +1,5 @@
 -- The text of a drawing as a picture.
-use Rattle.std.specs.Prelude.{ℕ, ◌+◌, ◌*◌, ◌/◌, ◌==◌, if◌then◌else◌, min, max, List, [], ◌∷◌, ◌++◌, length, flat_map, codes}
+use Rattle.std.specs.Prelude.{ℕ, Bool, ◌+◌, ◌*◌, ◌/◌, ◌%◌, ◌==◌, nat_lt, if◌then◌else◌, min, max, List, [], ◌∷◌, ◌++◌, length, flat_map, codes}
 use Rattle.std.specs.List.{enumerate_from, range_with_len}
 use Rattle.logic3.specs.declared.value.Value.{Value}
 use Rattle.texts.specs.Written.{numbered}
@@ -66,13 +66,18 @@ heading left height columns =
     ++ codes "<title>Timing diagram by nullsim</title>\n"
     ++ dark_style ++ codes "<rect width=\"100%\" height=\"100%\" fill=\"white\"/>\n"
 
--- every tenth column: its first tick, and a line of the grid
+-- whether a column has a line of the grid: every tenth one, counted from tick 0, or of fewer than ten the first one
+abbrev pub has_line : Ticks → ℕ → Bool
+has_line ticks column =
+    if nat_lt (column_count ticks) 10 then column == 0 else first_tick ticks column / ticks.step % 10 == 0
+
+-- a line of the grid at a column, and its first tick
 abbrev pub grid_line : ℕ → ℕ → Ticks → ℕ → List ℕ
-grid_line left height ticks place =
-    numbered (codes "<path d=\"M") (left + 100 * place)
+grid_line left height ticks column =
+    numbered (codes "<path d=\"M") (left + 10 * column)
     ++ numbered (codes " 20V") height
-    ++ numbered (codes "\" stroke=\"currentColor\" stroke-opacity=\"0.2\"/><text y=\"14\" x=\"") (left + 100 * place)
-    ++ numbered (codes "\">") (first_tick ticks (10 * place))
+    ++ numbered (codes "\" stroke=\"currentColor\" stroke-opacity=\"0.2\"/><text y=\"14\" x=\"") (left + 10 * column)
+    ++ numbered (codes "\">") (first_tick ticks column)
     ++ codes "</text>\n"
 
 -- the name at a place
@@ -90,9 +95,12 @@ signal_row left ticks place signal =
 abbrev pub trace_row : ℕ → Ticks → ℕ × Trace → List ℕ
 trace_row left ticks (place, (name, signal)) = name_row place name ++ signal_row left ticks place signal
 
+-- what the grid has at a column
+abbrev pub grid_at : ℕ → ℕ → Ticks → ℕ → List ℕ
+grid_at left height ticks column = if has_line ticks column then grid_line left height ticks column else []
+
 abbrev pub grid : ℕ → ℕ → Ticks → List ℕ
-grid left height ticks =
-    flat_map (grid_line left height ticks) (range_with_len 0 ((column_count ticks + 9) / 10))
+grid left height ticks = flat_map (grid_at left height ticks) (range_with_len 0 (column_count ticks))
 
 -- the drawing as SVG
 abbrev pub svg_text : Ticks → List Trace → List ℕ

@@ -3,7 +3,7 @@ ghost use Rattle.std.specs.List.{enumerate_from};
 ghost use Rattle.logic3.specs.Wave.{value_at};
 ghost use Rattle.vcd_dump.specs.Traces.{traces};
 ghost use Rattle.timing_diagram.specs.Columns.{column_count};
-ghost use Rattle.timing_diagram.specs.Picture.{escaped_byte, escaped, mark_path, column_path, signal_path, heading, grid_line, grid, name_row, signal_row, trace_row, svg_text};
+ghost use Rattle.timing_diagram.specs.Picture.{escaped_byte, escaped, mark_path, column_path, signal_path, heading, grid_line, grid_at, grid, name_row, signal_row, trace_row, svg_text};
 
 use crate::columns::Columns;
 use crate::mark::Mark;
@@ -102,13 +102,13 @@ fn push_grid_line(
     left: u64,
     height: u64,
     columns: Columns,
-    place: u64,
+    column: u64,
 ) -> Result<(), AllocError>
     requires left { left < 2 ^ 32 }
-    requires place { 10 * place < column_count columns }
-    ensures { OnOk result (text.new.items ≡ text.old.items ++ grid_line left height columns place) }
+    requires column { column < column_count columns }
+    ensures { OnOk result (text.new.items ≡ text.old.items ++ grid_line left height columns column) }
 {
-    let at = left + 100 * place;
+    let at = left + 10 * column;
     push_numbered(text, b"<path d=\"M", at)?;
     push_numbered(text, b" 20V", height)?;
     push_numbered(
@@ -116,8 +116,25 @@ fn push_grid_line(
         b"\" stroke=\"currentColor\" stroke-opacity=\"0.2\"/><text y=\"14\" x=\"",
         at,
     )?;
-    push_numbered(text, b"\">", columns.first(10 * place))?;
+    push_numbered(text, b"\">", columns.first(column))?;
     text.extend_from_slice(b"</text>\n")?;
+    Ok(())
+}
+
+fn push_grid_at(
+    text: &mut Vec<u8>,
+    left: u64,
+    height: u64,
+    columns: Columns,
+    column: u64,
+) -> Result<(), AllocError>
+    requires left { left < 2 ^ 32 }
+    requires column { column < column_count columns }
+    ensures { OnOk result (text.new.items ≡ text.old.items ++ grid_at left height columns column) }
+{
+    if columns.has_line(column) {
+        push_grid_line(text, left, height, columns, column)?;
+    }
     Ok(())
 }
 
@@ -125,8 +142,8 @@ fn push_grid(text: &mut Vec<u8>, left: u64, height: u64, columns: Columns) -> Re
     requires { left < 2 ^ 32 }
     ensures { OnOk result (text.new.items ≡ text.old.items ++ grid left height columns) }
 {
-    for place in 0..(columns.count() + 9) / 10 {
-        push_grid_line(text, left, height, columns, place)?;
+    for column in 0..columns.count() {
+        push_grid_at(text, left, height, columns, column)?;
     }
     Ok(())
 }
