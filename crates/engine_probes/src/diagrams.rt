@@ -17,11 +17,13 @@ const LINES: &[u8] = b"   2.........\na  _/\ny  --\n";
 
 /// The same as a picture.
 const PICTURE: &[u8] =
-    b"<svg xmlns=\"http://www.w3.org/2000/svg\" width=\"124\" height=\"100\" font-family=\"monospace\" font-size=\"12\">\n\
+    b"<svg xmlns=\"http://www.w3.org/2000/svg\" width=\"124\" height=\"100\" viewBox=\"0 0 124 100\" role=\"img\" class=\"nullsim\" color=\"black\" fill=\"currentColor\" font-family=\"monospace\" font-size=\"12\">\n\
+      <title>Timing diagram by nullsim</title>\n\
+      <style>@media screen and (prefers-color-scheme: dark) { .nullsim { color: #ddd } .nullsim rect { fill: #111 } }</style>\n\
       <rect width=\"100%\" height=\"100%\" fill=\"white\"/>\n\
-      <path d=\"M24 20V100\" stroke=\"#ccc\"/><text y=\"14\" x=\"24\">2</text>\n\
-      <text x=\"8\" y=\"44\">a</text><path transform=\"translate(24 30)\" d=\"M0 16h10M10 16v-16h10\" fill=\"none\" stroke=\"black\"/>\n\
-      <text x=\"8\" y=\"74\">y</text><path transform=\"translate(24 60)\" d=\"M0 0h10M10 0h10\" fill=\"none\" stroke=\"black\"/>\n\
+      <path d=\"M24 20V100\" stroke=\"currentColor\" stroke-opacity=\"0.2\"/><text y=\"14\" x=\"24\">2</text>\n\
+      <text x=\"8\" y=\"44\">a</text><path transform=\"translate(24 30)\" d=\"M0 16h10M10 16v-16h10\" fill=\"none\" stroke=\"currentColor\"/>\n\
+      <text x=\"8\" y=\"74\">y</text><path transform=\"translate(24 60)\" d=\"M0 0h10M10 0h10\" fill=\"none\" stroke=\"currentColor\"/>\n\
       </svg>\n";
 
 /// Probes both forms.

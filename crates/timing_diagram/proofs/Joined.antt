@@ -1,9 +1,6 @@
 -- Pieces of a text that were added one by one.
-use Rattle.std.proofs.Common.{◌≡◌, arith, ℕ, suc, ◌+◌, ◌-◌, ◌<◌, ◌≤◌, List, [], ◌∷◌, ◌++◌, map, flat_map, append_assoc, append-nil}
+use Rattle.std.proofs.Common.{◌≡◌, arith, ℕ, suc, ◌+◌, ◌-◌, ◌<◌, List, [], ◌∷◌, ◌++◌, map, flat_map, append_assoc}
 use Rattle.std.specs.List.{range_with_len}
-
-pub joined₃ : (l l₁ l₂ l₃ a b c : List ℕ) → l₁ ≡ l ++ a → l₂ ≡ l₁ ++ b → l₃ ≡ l₂ ++ c → l₃ ≡ l ++ (a ++ b ++ c)
-joined₃ l l₁ l₂ l₃ a b c p q r = rw (r, q, p) (simp append_assoc)
 
 pub joined₄ : (l l₁ l₂ l₃ l₄ a b c d : List ℕ) → l₁ ≡ l ++ a → l₂ ≡ l₁ ++ b → l₃ ≡ l₂ ++ c → l₄ ≡ l₃ ++ d → l₄ ≡ l ++ (a ++ b ++ c ++ d)
 joined₄ l l₁ l₂ l₃ l₄ a b c d p q r s = rw (s, r, q, p) (simp append_assoc)
@@ -11,6 +8,10 @@ joined₄ l l₁ l₂ l₃ l₄ a b c d p q r s = rw (s, r, q, p) (simp append_a
 pub joined₅ : (l l₁ l₂ l₃ l₄ l₅ a b c d e : List ℕ) → l₁ ≡ l ++ a → l₂ ≡ l₁ ++ b → l₃ ≡ l₂ ++ c → l₄ ≡ l₃ ++ d → l₅ ≡ l₄ ++ e →
     l₅ ≡ l ++ (a ++ b ++ c ++ d ++ e)
 joined₅ l l₁ l₂ l₃ l₄ l₅ a b c d e p q r s t = rw (t, s, r, q, p) (simp append_assoc)
+
+pub joined₈ : (l l₁ l₂ l₃ l₄ l₅ l₆ l₇ l₈ a b c d e f g h : List ℕ) → l₁ ≡ l ++ a → l₂ ≡ l₁ ++ b → l₃ ≡ l₂ ++ c → l₄ ≡ l₃ ++ d → l₅ ≡ l₄ ++ e →
+    l₆ ≡ l₅ ++ f → l₇ ≡ l₆ ++ g → l₈ ≡ l₇ ++ h → l₈ ≡ l ++ (a ++ b ++ c ++ d ++ e ++ f ++ g ++ h)
+joined₈ l l₁ l₂ l₃ l₄ l₅ l₆ l₇ l₈ a b c d e f g h p q r s t u v w = rw (w, v, u, t, s, r, q, p) (simp append_assoc)
 
 -- the texts of the numbers from one up to but not including another
 abbrev pub from_on : (ℕ → List ℕ) → ℕ → ℕ → List ℕ
@@ -22,10 +23,6 @@ pub from_on-more : (text : ℕ → List ℕ) (at end : ℕ) (xs ys : List ℕ) �
 from_on-more text at end xs ys inside is =
     let one : end - at ≡ suc (end - (at + 1)) = omega arith in
     rw (is, one) (append_assoc xs (text at) (from_on text (at + 1) end))
-
--- none is left
-pub from_on-none : (text : ℕ → List ℕ) (at end : ℕ) (xs : List ℕ) → end ≤ at → xs ++ from_on text at end ≡ xs
-from_on-none text at end xs past = let none : end - at ≡ 0 = omega arith in rw none (append-nil xs)
 
 pub map-more : (f : ℕ → ℕ) (at end : ℕ) (xs ys : List ℕ) → at < end → ys ≡ xs ++ (f at ∷ []) →
     ys ++ map f (range_with_len (at + 1) (end - (at + 1))) ≡ xs ++ map f (range_with_len at (end - at))

@@ -2,6 +2,7 @@ mod Alike
 pub mod CallerLemmas
 mod Escapes
 mod Joined
+mod Lines
 mod Nets
 mod Shown
 mod Steady

@@ -1,5 +1,5 @@
 -- The text of a drawing as a picture.
-use Rattle.std.specs.Prelude.{ℕ, ◌+◌, ◌*◌, ◌/◌, ◌==◌, if◌then◌else◌, min, max, List, [], ◌∷◌, ◌++◌, length, flat_map, codes}
+use Rattle.std.specs.Prelude.{ℕ, Bool, ◌+◌, ◌*◌, ◌/◌, ◌%◌, ◌==◌, nat_lt, if◌then◌else◌, min, max, List, [], ◌∷◌, ◌++◌, length, flat_map, codes}
 use Rattle.std.specs.List.{enumerate_from, range_with_len}
 use Rattle.logic3.specs.declared.value.Value.{Value}
 use Rattle.texts.specs.Written.{numbered}
@@ -49,19 +49,35 @@ column_path signal ticks column = numbered (codes "M") (10 * column) ++ mark_pat
 abbrev pub signal_path : (ℕ → Value) → Ticks → List ℕ
 signal_path signal ticks = flat_map (column_path signal ticks) (range_with_len 0 (column_count ticks))
 
+-- on a screen whose user prefers dark pages, light lines on a dark ground; else, on paper too, black ones on white
+abbrev pub dark_style : List ℕ
+dark_style =
+    codes "<style>@media screen and (prefers-color-scheme: dark) { .nullsim { color: #ddd } .nullsim rect { fill: #111 } }</style>\n"
+
+-- the head of the picture: its size, which a page may scale, and what a screen reader says of it
 abbrev pub heading : ℕ → ℕ → ℕ → List ℕ
 heading left height columns =
-    numbered (codes "<svg xmlns=\"http://www.w3.org/2000/svg\" width=\"") (left + 10 * columns + 80)
+    let width = left + 10 * columns + 80 in
+    numbered (codes "<svg xmlns=\"http://www.w3.org/2000/svg\" width=\"") width
     ++ numbered (codes "\" height=\"") height
-    ++ codes "\" font-family=\"monospace\" font-size=\"12\">\n<rect width=\"100%\" height=\"100%\" fill=\"white\"/>\n"
+    ++ numbered (codes "\" viewBox=\"0 0 ") width
+    ++ numbered (codes " ") height
+    ++ codes "\" role=\"img\" class=\"nullsim\" color=\"black\" fill=\"currentColor\" font-family=\"monospace\" font-size=\"12\">\n"
+    ++ codes "<title>Timing diagram by nullsim</title>\n"
+    ++ dark_style ++ codes "<rect width=\"100%\" height=\"100%\" fill=\"white\"/>\n"
 
--- every tenth column: its first tick, and a line of the grid
+-- whether a column has a line of the grid: every tenth one, counted from tick 0, or of fewer than ten the first one
+abbrev pub has_line : Ticks → ℕ → Bool
+has_line ticks column =
+    if nat_lt (column_count ticks) 10 then column == 0 else first_tick ticks column / ticks.step % 10 == 0
+
+-- a line of the grid at a column, and its first tick
 abbrev pub grid_line : ℕ → ℕ → Ticks → ℕ → List ℕ
-grid_line left height ticks place =
-    numbered (codes "<path d=\"M") (left + 100 * place)
+grid_line left height ticks column =
+    numbered (codes "<path d=\"M") (left + 10 * column)
     ++ numbered (codes " 20V") height
-    ++ numbered (codes "\" stroke=\"#ccc\"/><text y=\"14\" x=\"") (left + 100 * place)
-    ++ numbered (codes "\">") (first_tick ticks (10 * place))
+    ++ numbered (codes "\" stroke=\"currentColor\" stroke-opacity=\"0.2\"/><text y=\"14\" x=\"") (left + 10 * column)
+    ++ numbered (codes "\">") (first_tick ticks column)
     ++ codes "</text>\n"
 
 -- the name at a place
@@ -74,14 +90,17 @@ abbrev pub signal_row : ℕ → Ticks → ℕ → (ℕ → Value) → List ℕ
 signal_row left ticks place signal =
     numbered (codes "<path transform=\"translate(") left
     ++ numbered (codes " ") (30 * place + 30)
-    ++ codes ")\" d=\"" ++ signal_path signal ticks ++ codes "\" fill=\"none\" stroke=\"black\"/>\n"
+    ++ codes ")\" d=\"" ++ signal_path signal ticks ++ codes "\" fill=\"none\" stroke=\"currentColor\"/>\n"
 
 abbrev pub trace_row : ℕ → Ticks → ℕ × Trace → List ℕ
 trace_row left ticks (place, (name, signal)) = name_row place name ++ signal_row left ticks place signal
 
+-- what the grid has at a column
+abbrev pub grid_at : ℕ → ℕ → Ticks → ℕ → List ℕ
+grid_at left height ticks column = if has_line ticks column then grid_line left height ticks column else []
+
 abbrev pub grid : ℕ → ℕ → Ticks → List ℕ
-grid left height ticks =
-    flat_map (grid_line left height ticks) (range_with_len 0 ((column_count ticks + 9) / 10))
+grid left height ticks = flat_map (grid_at left height ticks) (range_with_len 0 (column_count ticks))
 
 -- the drawing as SVG
 abbrev pub svg_text : Ticks → List Trace → List ℕ

@@ -35,6 +35,7 @@ impl Model for Columns {
 
 impl Columns {
     ghost use Rattle.timing_diagram.specs.Columns.{IsDrawable, columns_of, column_count, first_tick, last_tick, shown_tick};
+    ghost use Rattle.timing_diagram.specs.Picture.{has_line};
 
     /// Returns the ticks from `from` to `to`, in columns of `step` ticks, of a run up to this horizon. If
     /// `at_end` is set, a column shows the value at its last tick, whatever is before it.
@@ -108,6 +109,18 @@ impl Columns {
             self.last(column)
         } else {
             self.first(column)
+        }
+    }
+
+    /// Returns whether a column of a picture has a line of the grid.
+    pub(crate) fn has_line(self, column: u64) -> bool
+        requires { column < column_count self }
+        ensures { result ≡ has_line self column }
+    {
+        if self.count() < 10 {
+            column == 0
+        } else {
+            self.first(column) / self.step % 10 == 0
         }
     }
 

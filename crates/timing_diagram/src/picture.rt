@@ -3,7 +3,7 @@ ghost use Rattle.std.specs.List.{enumerate_from};
 ghost use Rattle.logic3.specs.Wave.{value_at};
 ghost use Rattle.vcd_dump.specs.Traces.{traces};
 ghost use Rattle.timing_diagram.specs.Columns.{column_count};
-ghost use Rattle.timing_diagram.specs.Picture.{escaped_byte, escaped, mark_path, column_path, signal_path, heading, grid_line, grid, name_row, signal_row, trace_row, svg_text};
+ghost use Rattle.timing_diagram.specs.Picture.{escaped_byte, escaped, mark_path, column_path, signal_path, heading, grid_line, grid_at, grid, name_row, signal_row, trace_row, svg_text};
 
 use crate::columns::Columns;
 use crate::mark::Mark;
@@ -77,15 +77,23 @@ fn push_heading(text: &mut Vec<u8>, left: u64, height: u64, count: u64) -> Resul
     requires count { count < 2 ^ 32 }
     ensures { OnOk result (text.new.items ≡ text.old.items ++ heading left height count) }
 {
+    let width = left + 10 * count + 80;
     push_numbered(
         text,
         b"<svg xmlns=\"http://www.w3.org/2000/svg\" width=\"",
-        left + 10 * count + 80,
+        width,
     )?;
     push_numbered(text, b"\" height=\"", height)?;
+    push_numbered(text, b"\" viewBox=\"0 0 ", width)?;
+    push_numbered(text, b" ", height)?;
     text.extend_from_slice(
-        b"\" font-family=\"monospace\" font-size=\"12\">\n<rect width=\"100%\" height=\"100%\" fill=\"white\"/>\n",
+        b"\" role=\"img\" class=\"nullsim\" color=\"black\" fill=\"currentColor\" font-family=\"monospace\" font-size=\"12\">\n",
     )?;
+    text.extend_from_slice(b"<title>Timing diagram by nullsim</title>\n")?;
+    text.extend_from_slice(
+        b"<style>@media screen and (prefers-color-scheme: dark) { .nullsim { color: #ddd } .nullsim rect { fill: #111 } }</style>\n",
+    )?;
+    text.extend_from_slice(b"<rect width=\"100%\" height=\"100%\" fill=\"white\"/>\n")?;
     Ok(())
 }
 
@@ -94,18 +102,39 @@ fn push_grid_line(
     left: u64,
     height: u64,
     columns: Columns,
-    place: u64,
+    column: u64,
 ) -> Result<(), AllocError>
     requires left { left < 2 ^ 32 }
-    requires place { 10 * place < column_count columns }
-    ensures { OnOk result (text.new.items ≡ text.old.items ++ grid_line left height columns place) }
+    requires column { column < column_count columns }
+    ensures { OnOk result (text.new.items ≡ text.old.items ++ grid_line left height columns column) }
 {
-    let at = left + 100 * place;
+    let at = left + 10 * column;
     push_numbered(text, b"<path d=\"M", at)?;
     push_numbered(text, b" 20V", height)?;
-    push_numbered(text, b"\" stroke=\"#ccc\"/><text y=\"14\" x=\"", at)?;
-    push_numbered(text, b"\">", columns.first(10 * place))?;
+    push_numbered(
+        text,
+        b"\" stroke=\"currentColor\" stroke-opacity=\"0.2\"/><text y=\"14\" x=\"",
+        at,
+    )?;
+    push_numbered(text, b"\">", columns.first(column))?;
     text.extend_from_slice(b"</text>\n")?;
+    Ok(())
+}
+
+fn push_grid_at(
+    text: &mut Vec<u8>,
+    left: u64,
+    height: u64,
+    columns: Columns,
+    column: u64,
+) -> Result<(), AllocError>
+    requires left { left < 2 ^ 32 }
+    requires column { column < column_count columns }
+    ensures { OnOk result (text.new.items ≡ text.old.items ++ grid_at left height columns column) }
+{
+    if columns.has_line(column) {
+        push_grid_line(text, left, height, columns, column)?;
+    }
     Ok(())
 }
 
@@ -113,8 +142,8 @@ fn push_grid(text: &mut Vec<u8>, left: u64, height: u64, columns: Columns) -> Re
     requires { left < 2 ^ 32 }
     ensures { OnOk result (text.new.items ≡ text.old.items ++ grid left height columns) }
 {
-    for place in 0..(columns.count() + 9) / 10 {
-        push_grid_line(text, left, height, columns, place)?;
+    for column in 0..columns.count() {
+        push_grid_at(text, left, height, columns, column)?;
     }
     Ok(())
 }
@@ -144,7 +173,7 @@ fn push_signal_row(
     push_numbered(text, b" ", 30 * place + 30)?;
     text.extend_from_slice(b")\" d=\"")?;
     push_signal(text, wave, columns)?;
-    text.extend_from_slice(b"\" fill=\"none\" stroke=\"black\"/>\n")?;
+    text.extend_from_slice(b"\" fill=\"none\" stroke=\"currentColor\"/>\n")?;
     Ok(())
 }
 

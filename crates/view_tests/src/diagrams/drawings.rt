@@ -13,28 +13,45 @@ use timing_text::Horizon;
 type Row = (Circuit, u64, (u64, u64, u64), Form, &'static [u8]);
 
 const INVERTER_SVG: &[u8] =
-    b"<svg xmlns=\"http://www.w3.org/2000/svg\" width=\"164\" height=\"100\" font-family=\"monospace\" font-size=\"12\">\n\
+    b"<svg xmlns=\"http://www.w3.org/2000/svg\" width=\"164\" height=\"100\" viewBox=\"0 0 164 100\" role=\"img\" class=\"nullsim\" color=\"black\" fill=\"currentColor\" font-family=\"monospace\" font-size=\"12\">\n\
+      <title>Timing diagram by nullsim</title>\n\
+      <style>@media screen and (prefers-color-scheme: dark) { .nullsim { color: #ddd } .nullsim rect { fill: #111 } }</style>\n\
       <rect width=\"100%\" height=\"100%\" fill=\"white\"/>\n\
-      <path d=\"M24 20V100\" stroke=\"#ccc\"/><text y=\"14\" x=\"24\">0</text>\n\
-      <text x=\"8\" y=\"44\">a</text><path transform=\"translate(24 30)\" d=\"M0 16h10M10 16h10M20 16h10M30 16v-16h10M40 0h10M50 0h10\" fill=\"none\" stroke=\"black\"/>\n\
-      <text x=\"8\" y=\"74\">y</text><path transform=\"translate(24 60)\" d=\"M0 0h10m-10 16h10m-10 0l10-16M10 16v-16h10M20 0h10M30 0h10M40 0v16h10M50 16h10\" fill=\"none\" stroke=\"black\"/>\n\
+      <path d=\"M24 20V100\" stroke=\"currentColor\" stroke-opacity=\"0.2\"/><text y=\"14\" x=\"24\">0</text>\n\
+      <text x=\"8\" y=\"44\">a</text><path transform=\"translate(24 30)\" d=\"M0 16h10M10 16h10M20 16h10M30 16v-16h10M40 0h10M50 0h10\" fill=\"none\" stroke=\"currentColor\"/>\n\
+      <text x=\"8\" y=\"74\">y</text><path transform=\"translate(24 60)\" d=\"M0 0h10m-10 16h10m-10 0l10-16M10 16v-16h10M20 0h10M30 0h10M40 0v16h10M50 16h10\" fill=\"none\" stroke=\"currentColor\"/>\n\
+      </svg>\n";
+
+// The line of the grid is at tick 10, not at the first column.
+const ROUND_SVG: &[u8] =
+    b"<svg xmlns=\"http://www.w3.org/2000/svg\" width=\"224\" height=\"100\" viewBox=\"0 0 224 100\" role=\"img\" class=\"nullsim\" color=\"black\" fill=\"currentColor\" font-family=\"monospace\" font-size=\"12\">\n\
+      <title>Timing diagram by nullsim</title>\n\
+      <style>@media screen and (prefers-color-scheme: dark) { .nullsim { color: #ddd } .nullsim rect { fill: #111 } }</style>\n\
+      <rect width=\"100%\" height=\"100%\" fill=\"white\"/>\n\
+      <path d=\"M94 20V100\" stroke=\"currentColor\" stroke-opacity=\"0.2\"/><text y=\"14\" x=\"94\">10</text>\n\
+      <text x=\"8\" y=\"44\">a</text><path transform=\"translate(24 30)\" d=\"M0 0h10M10 0h10M20 0h10M30 0h10M40 0h10M50 0h10M60 0h10M70 0h10M80 0h10M90 0h10M100 0h10M110 0h10\" fill=\"none\" stroke=\"currentColor\"/>\n\
+      <text x=\"8\" y=\"74\">y</text><path transform=\"translate(24 60)\" d=\"M0 0h10M10 0v16h10M20 16h10M30 16h10M40 16h10M50 16h10M60 16h10M70 16h10M80 16h10M90 16h10M100 16h10M110 16h10\" fill=\"none\" stroke=\"currentColor\"/>\n\
       </svg>\n";
 
 // If a net changes within a column, there is a cross.
 const HAZARD_SVG: &[u8] =
-    b"<svg xmlns=\"http://www.w3.org/2000/svg\" width=\"134\" height=\"130\" font-family=\"monospace\" font-size=\"12\">\n\
+    b"<svg xmlns=\"http://www.w3.org/2000/svg\" width=\"134\" height=\"130\" viewBox=\"0 0 134 130\" role=\"img\" class=\"nullsim\" color=\"black\" fill=\"currentColor\" font-family=\"monospace\" font-size=\"12\">\n\
+      <title>Timing diagram by nullsim</title>\n\
+      <style>@media screen and (prefers-color-scheme: dark) { .nullsim { color: #ddd } .nullsim rect { fill: #111 } }</style>\n\
       <rect width=\"100%\" height=\"100%\" fill=\"white\"/>\n\
-      <path d=\"M24 20V130\" stroke=\"#ccc\"/><text y=\"14\" x=\"24\">4</text>\n\
-      <text x=\"8\" y=\"44\">a</text><path transform=\"translate(24 30)\" d=\"M0 0l10 16m-10 0l10-16M10 0h10M20 0h10\" fill=\"none\" stroke=\"black\"/>\n\
-      <text x=\"8\" y=\"74\">b</text><path transform=\"translate(24 60)\" d=\"M0 16h10M10 16v-16h10M20 0h10\" fill=\"none\" stroke=\"black\"/>\n\
-      <text x=\"8\" y=\"104\">y</text><path transform=\"translate(24 90)\" d=\"M0 16h10M10 0l10 16m-10 0l10-16M20 16h10\" fill=\"none\" stroke=\"black\"/>\n\
+      <path d=\"M24 20V130\" stroke=\"currentColor\" stroke-opacity=\"0.2\"/><text y=\"14\" x=\"24\">4</text>\n\
+      <text x=\"8\" y=\"44\">a</text><path transform=\"translate(24 30)\" d=\"M0 0l10 16m-10 0l10-16M10 0h10M20 0h10\" fill=\"none\" stroke=\"currentColor\"/>\n\
+      <text x=\"8\" y=\"74\">b</text><path transform=\"translate(24 60)\" d=\"M0 16h10M10 16v-16h10M20 0h10\" fill=\"none\" stroke=\"currentColor\"/>\n\
+      <text x=\"8\" y=\"104\">y</text><path transform=\"translate(24 90)\" d=\"M0 16h10M10 0l10 16m-10 0l10-16M20 16h10\" fill=\"none\" stroke=\"currentColor\"/>\n\
       </svg>\n";
 
 const MARKED_SVG: &[u8] =
-    b"<svg xmlns=\"http://www.w3.org/2000/svg\" width=\"154\" height=\"70\" font-family=\"monospace\" font-size=\"12\">\n\
+    b"<svg xmlns=\"http://www.w3.org/2000/svg\" width=\"154\" height=\"70\" viewBox=\"0 0 154 70\" role=\"img\" class=\"nullsim\" color=\"black\" fill=\"currentColor\" font-family=\"monospace\" font-size=\"12\">\n\
+      <title>Timing diagram by nullsim</title>\n\
+      <style>@media screen and (prefers-color-scheme: dark) { .nullsim { color: #ddd } .nullsim rect { fill: #111 } }</style>\n\
       <rect width=\"100%\" height=\"100%\" fill=\"white\"/>\n\
-      <path d=\"M64 20V70\" stroke=\"#ccc\"/><text y=\"14\" x=\"64\">7</text>\n\
-      <text x=\"8\" y=\"44\">a&lt;b&amp;c&gt;</text><path transform=\"translate(64 30)\" d=\"M0 0h10m-10 16h10m-10 0l10-16\" fill=\"none\" stroke=\"black\"/>\n\
+      <path d=\"M64 20V70\" stroke=\"currentColor\" stroke-opacity=\"0.2\"/><text y=\"14\" x=\"64\">7</text>\n\
+      <text x=\"8\" y=\"44\">a&lt;b&amp;c&gt;</text><path transform=\"translate(64 30)\" d=\"M0 0h10m-10 16h10m-10 0l10-16\" fill=\"none\" stroke=\"currentColor\"/>\n\
       </svg>\n";
 
 const S27_TEXT: &[u8] = b"     0.........10........20........30........\n\
@@ -56,7 +73,7 @@ const S27_TEXT: &[u8] = b"     0.........10........20........30........\n\
       G12  x\\_____________________/------------\n\
       G13  xx/----------\\______________________\n";
 
-static DRAWN: [Row; 10] = [
+static DRAWN: [Row; 11] = [
     (
         INVERTER,
         5,
@@ -95,17 +112,20 @@ static DRAWN: [Row; 10] = [
     ),
     (S27, 35, (0, 35, 1), Text, S27_TEXT),
     (INVERTER, 5, (0, 5, 1), Svg, INVERTER_SVG),
+    (INVERTER, 14, (3, 14, 1), Svg, ROUND_SVG),
     (HAZARD, 8, (4, 8, 2), Svg, HAZARD_SVG),
     (MARKED, 7, (7, 7, 1), Svg, MARKED_SVG),
 ];
 
 const HAZARD_ENDS_SVG: &[u8] =
-    b"<svg xmlns=\"http://www.w3.org/2000/svg\" width=\"134\" height=\"130\" font-family=\"monospace\" font-size=\"12\">\n\
+    b"<svg xmlns=\"http://www.w3.org/2000/svg\" width=\"134\" height=\"130\" viewBox=\"0 0 134 130\" role=\"img\" class=\"nullsim\" color=\"black\" fill=\"currentColor\" font-family=\"monospace\" font-size=\"12\">\n\
+      <title>Timing diagram by nullsim</title>\n\
+      <style>@media screen and (prefers-color-scheme: dark) { .nullsim { color: #ddd } .nullsim rect { fill: #111 } }</style>\n\
       <rect width=\"100%\" height=\"100%\" fill=\"white\"/>\n\
-      <path d=\"M24 20V130\" stroke=\"#ccc\"/><text y=\"14\" x=\"24\">4</text>\n\
-      <text x=\"8\" y=\"44\">a</text><path transform=\"translate(24 30)\" d=\"M0 0h10M10 0h10M20 0h10\" fill=\"none\" stroke=\"black\"/>\n\
-      <text x=\"8\" y=\"74\">b</text><path transform=\"translate(24 60)\" d=\"M0 16h10M10 16v-16h10M20 0h10\" fill=\"none\" stroke=\"black\"/>\n\
-      <text x=\"8\" y=\"104\">y</text><path transform=\"translate(24 90)\" d=\"M0 16h10M10 16h10M20 16h10\" fill=\"none\" stroke=\"black\"/>\n\
+      <path d=\"M24 20V130\" stroke=\"currentColor\" stroke-opacity=\"0.2\"/><text y=\"14\" x=\"24\">4</text>\n\
+      <text x=\"8\" y=\"44\">a</text><path transform=\"translate(24 30)\" d=\"M0 0h10M10 0h10M20 0h10\" fill=\"none\" stroke=\"currentColor\"/>\n\
+      <text x=\"8\" y=\"74\">b</text><path transform=\"translate(24 60)\" d=\"M0 16h10M10 16v-16h10M20 0h10\" fill=\"none\" stroke=\"currentColor\"/>\n\
+      <text x=\"8\" y=\"104\">y</text><path transform=\"translate(24 90)\" d=\"M0 16h10M10 16h10M20 16h10\" fill=\"none\" stroke=\"currentColor\"/>\n\
       </svg>\n";
 
 // Columns that show the value at their last ticks: no column of theirs has a cross.

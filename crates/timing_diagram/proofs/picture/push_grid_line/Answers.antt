@@ -7,10 +7,10 @@ use Rattle.timing_diagram.proofs.picture.push_grid_line.Goals as goal
 pub returns : goal.returns
 returns c =
     joined₅ _ _ _ _ _ _
-    (numbered (codes "<path d=\"M") (c.args.left + 100 * c.args.place))
+    (numbered (codes "<path d=\"M") (c.args.left + 10 * c.args.column))
     (numbered (codes " 20V") c.args.height)
-    (numbered (codes "\" stroke=\"#ccc\"/><text y=\"14\" x=\"") (c.args.left + 100 * c.args.place))
-    (numbered (codes "\">") (first_tick c.args.columns (10 * c.args.place)))
+    (numbered (codes "\" stroke=\"currentColor\" stroke-opacity=\"0.2\"/><text y=\"14\" x=\"") (c.args.left + 10 * c.args.column))
+    (numbered (codes "\">") (first_tick c.args.columns c.args.column))
     (codes "</text>\n")
     c.in_ok-push_numbered.ensures c.in_ok-push_numbered-2.ensures c.in_ok-push_numbered-3.ensures
     (c.in_ok-push_numbered-4.ensures ∙ ap (λ n. c.push_numbered-3.new.text.items ++ numbered (codes "\">") n) c.first.ensures)

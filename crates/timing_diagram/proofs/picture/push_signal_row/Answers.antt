@@ -12,6 +12,6 @@ returns c =
     (numbered (codes " ") (30 * c.args.place + 30))
     (codes ")\" d=\"")
     (signal_path (value_at c.args.wave.now) c.args.columns)
-    (codes "\" fill=\"none\" stroke=\"black\"/>\n")
+    (codes "\" fill=\"none\" stroke=\"currentColor\"/>\n")
     c.in_ok-push_numbered.ensures c.in_ok-push_numbered-2.ensures c.in_ok-extend_from_slice.ensures.items
     c.in_ok-push_signal.ensures c.in_ok-extend_from_slice-2.ensures.items
