@@ -15,7 +15,7 @@ use std::alloc::{AllocError, Global};
 use texts::push_numbered;
 
 /// Where a path ends.
-#[derive(Clone, Copy, Debug)]
+#[derive(Clone, Copy)]
 pub(crate) enum End {
     /// A flip-flop's pin. The flip-flop is the last net of the path, and its own delay doesn't count.
     Flop,

@@ -6,7 +6,7 @@ use std::alloc::{AllocError, Global};
 const SHORTEST_EDITED: usize = 3;
 
 /// The first tip in the text of a usage error.
-#[derive(Clone, Copy, Debug)]
+#[derive(Clone, Copy)]
 struct FirstTip<'t> {
     /// What comes before the tip. It has the wrong word in quotes.
     before: &'t str,

@@ -5,7 +5,7 @@ use std::alloc::{AllocError, Global};
 const SUGGESTED: &str = "\n  tip: a similar ";
 
 /// What to write in place of wrong arguments.
-#[derive(Clone, Copy, Debug)]
+#[derive(Clone, Copy)]
 enum Tip<'w> {
     /// A command is in capitals.
     LowerCase,

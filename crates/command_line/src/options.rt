@@ -7,7 +7,7 @@ use std::alloc::{AllocError, Global};
 use vcd_dump::TimeUnit;
 
 /// The names of the options of a run.
-#[derive(Clone, Copy, Debug)]
+#[derive(Clone, Copy)]
 pub(super) struct OptionNames {
     pub(super) bench: &'static str,
     pub(super) delays: &'static str,

@@ -54,14 +54,14 @@ fn other_nets(alloc: Global, netlist: &Netlist) -> Result<Vec<bool>, AllocError>
 }
 
 /// A gate on the path, and the place of the first of its pins that may not have been seen.
-#[derive(Clone, Copy, Debug)]
+#[derive(Clone, Copy)]
 struct Step {
     gate: u32,
     place: usize,
 }
 
 /// A walk from gates back over their pins.
-#[derive(Debug, Drop)]
+#[derive(Drop)]
 struct Walk {
     // The nets that it needn't enter: other parts, and gates that it has entered.
     seen: Vec<bool>,

@@ -12,7 +12,7 @@ use std::alloc::{AllocError, Global};
 use texts::{code_of, first_place, has_words, number, split_word, white_len};
 
 /// What is doubtful about a line.
-#[derive(Clone, Copy, Debug)]
+#[derive(Clone, Copy)]
 pub(crate) enum Doubt {
     /// Its comment has a word after a carriage return, which ends no line.
     HiddenWord,

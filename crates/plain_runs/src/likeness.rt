@@ -11,7 +11,7 @@ use std::alloc::{AllocError, Global};
 use texts::{code_lines, first_place, number};
 
 /// What the name of a net looks like, though it is a name as any other.
-#[derive(Clone, Copy, Debug)]
+#[derive(Clone, Copy)]
 pub(crate) enum Likeness {
     /// It begins as a comment of another notation, as in `//y = NOT(a)`.
     Comment,

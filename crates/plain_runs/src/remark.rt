@@ -11,7 +11,7 @@ use logic3::{Change, Waveform};
 use timing_text::Horizon;
 
 /// What is noted of some nets.
-#[derive(Clone, Copy, Debug)]
+#[derive(Clone, Copy)]
 pub(crate) enum Remark {
     /// Inputs that have no stimulus, and so are X throughout.
     Undriven,

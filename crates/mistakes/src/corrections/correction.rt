@@ -23,7 +23,7 @@ pub(crate) const LISTED: Piece = Piece::Own(b",");
 pub(crate) const CLOSED: Piece = Piece::Own(b")");
 
 /// A part of a corrected line.
-#[derive(Clone, Copy, Debug)]
+#[derive(Clone, Copy)]
 pub(crate) enum Piece {
     /// The word or mark at a place of the refused line, from 0.
     At(usize),
@@ -34,7 +34,7 @@ pub(crate) enum Piece {
 }
 
 /// A way in which a line is wrong, and what it may be written as.
-#[derive(Clone, Copy, Debug)]
+#[derive(Clone, Copy)]
 pub(crate) struct Correction {
     /// The refused line, as a row of slots.
     pub(crate) wrong: &'static [Slot],

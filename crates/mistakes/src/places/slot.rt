@@ -8,7 +8,7 @@ ghost use Rattle.mistakes.specs.Tokens.{is_mark, is_mark_word};
 use texts::number;
 
 /// What a form has at one place of its line.
-#[derive(Clone, Copy, Debug)]
+#[derive(Clone, Copy)]
 pub(crate) enum Slot {
     /// This word or mark.
     Fixed(&'static [u8]),
