@@ -17,7 +17,7 @@ pub struct Later<'c> {
 }
 
 /// Where the changes come from.
-#[derive(Clone, Copy)]
+#[derive(Clone, Copy, Debug)]
 enum Source<'c> {
     /// The stimuli of an input.
     Stimuli(&'c [Change]),
