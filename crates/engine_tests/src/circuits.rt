@@ -1,4 +1,7 @@
 //! Worked circuits, each with the texts and the period that it is built with.
+ghost use Rattle.std.specs.Bool.{OnTrue};
+ghost use Rattle.std.specs.Prelude.{◌<◌, All, length};
+
 use bench_text::read;
 use design::Design;
 use std::alloc::Global;
@@ -19,6 +22,14 @@ impl Circuit {
     pub(crate) fn build(&self, alloc: Global) -> Result<Design, Fail> {
         built(alloc, self.bench, self.delays, self.stimuli, self.period)
     }
+}
+
+/// Whether each of these numbers is that of a net of the design.
+pub(crate) fn are_nets(design: &Design, numbers: &[u32]) -> bool
+    ensures { OnTrue result (All (λ net. net < length design.now.circuit) numbers.now) }
+{
+    let nets = design.nets();
+    numbers.iter().all(|net| *net < nets)
 }
 
 /// The design of these texts, for proofs that don't look at them.

@@ -63,7 +63,8 @@ fn designs_agree_so(
     answer: Option<bool>,
 ) -> Result<(), Fail> {
     let horizon = Horizon::new(horizon)?;
-    assert!(rt; agree(alloc, sides.0, sides.1, name, horizon)? == answer);
+    let found = agree(alloc, sides.0, sides.1, name, horizon)?;
+    assert!(rt; found == answer);
     Ok(())
 }
 

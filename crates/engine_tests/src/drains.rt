@@ -105,6 +105,13 @@ impl<'d, F: Fabric> Run<'d, F> {
         }
         Ok(())
     }
+
+    fn follow(&mut self, rt: &impl Abort, steps: &[Step]) -> Result<(), Fail> {
+        for step in steps {
+            self.step(rt, *step)?;
+        }
+        Ok(())
+    }
 }
 
 const LOW: Change = Change {
@@ -168,10 +175,7 @@ fn follows<F: Fabric>(
     steps: &[Step],
 ) -> Result<(), Fail> {
     let mut run: Run<F> = Run::new(alloc, design, Horizon::new(horizon)?)?;
-    for step in steps {
-        run.step(rt, *step)?;
-    }
-    Ok(())
+    run.follow(rt, steps)
 }
 
 fn follow_both(
@@ -320,8 +324,7 @@ fn splits_into(
     left: &[Change],
 ) -> Result<(), AllocError> {
     wave.split_below_into(tick, below)?;
-    assert!(rt; below.as_slice() == split);
-    assert!(rt; wave.changes() == left);
+    assert!(rt; (below.as_slice(), wave.changes()) == (split, left));
     Ok(())
 }
 

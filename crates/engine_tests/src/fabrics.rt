@@ -6,56 +6,63 @@ use cmb_channels::{Fabric, Logs, Queues};
 use cmb_events::Event;
 use cmb_kernel::{Counts, Kernel};
 use design::Design;
+use logic3::Waveform;
 use std::alloc::Global;
 use std::process::Abort;
 use std::test::Fail;
 use timing_text::Horizon;
 
-// Each net is known as far, is kept from the same tick on, and shows the same.
-fn nets_alike<F: Fabric, G: Fabric>(rt: &impl Abort, first: &Kernel<F>, second: &Kernel<G>) {
-    assert!(rt; !first.is_failed());
-    assert!(rt; !second.is_failed());
-    assert!(rt; first.nets() == second.nets());
-    for net in 0..first.nets() {
-        assert!(rt; first.frontier(net) == second.frontier(net));
-        assert!(rt; first.floor(net) == second.floor(net));
-        assert!(rt; first.waveform(net) == second.waveform(net));
-    }
+// How far a net is known, the tick from which on it is kept, and what it shows.
+fn net_of<'k, F: Fabric>(
+    rt: &impl Abort,
+    kernel: &'k Kernel<F>,
+    net: u32,
+) -> (u64, u64, &'k Waveform) {
+    assert!(rt; !kernel.is_failed());
+    assert!(rt; net < kernel.nets());
+    (
+        kernel.frontier(net),
+        kernel.floor(net),
+        kernel.waveform(net),
+    )
 }
 
-// At each pin as many messages wait, and as many ticks of its source have been received.
-fn pins_alike<F: Fabric, G: Fabric>(rt: &impl Abort, first: &Kernel<F>, second: &Kernel<G>) {
-    assert!(rt; !first.is_failed());
-    assert!(rt; !second.is_failed());
-    assert!(rt; first.pins() == second.pins());
-    for pin in 0..first.pins() {
-        assert!(rt; first.waiting(pin) == second.waiting(pin));
-        assert!(rt; first.received(pin) == second.received(pin));
-    }
+// How many messages wait at a pin, and how many ticks of its source it has received.
+fn pin_of<F: Fabric>(rt: &impl Abort, kernel: &Kernel<F>, pin: u32) -> (u64, u64) {
+    assert!(rt; !kernel.is_failed());
+    assert!(rt; pin < kernel.pins());
+    (kernel.waiting(pin), kernel.received(pin))
+}
+
+// What a kernel has counted, and whether it is complete.
+fn counts_of<F: Fabric>(rt: &impl Abort, kernel: &Kernel<F>) -> (Counts, bool) {
+    assert!(rt; !kernel.is_failed());
+    (kernel.counts(), kernel.is_complete())
 }
 
 fn alike<F: Fabric, G: Fabric>(rt: &impl Abort, first: &Kernel<F>, second: &Kernel<G>) {
-    nets_alike(rt, first, second);
-    pins_alike(rt, first, second);
-    assert!(rt; !first.is_failed());
-    assert!(rt; !second.is_failed());
-    assert!(rt; first.counts() == second.counts());
-    assert!(rt; first.is_complete() == second.is_complete());
+    assert!(rt; first.nets() == second.nets());
+    assert!(rt; first.pins() == second.pins());
+    for net in 0..first.nets() {
+        assert!(rt; net_of(rt, first, net) == net_of(rt, second, net));
+    }
+    for pin in 0..first.pins() {
+        assert!(rt; pin_of(rt, first, pin) == pin_of(rt, second, pin));
+    }
+    assert!(rt; counts_of(rt, first) == counts_of(rt, second));
 }
 
 // The frontier of each net; the messages that wait at each pin, and the ticks of its source that it has received.
 type Known = (&'static [u64], &'static [(u64, u64)]);
 
 fn knows<F: Fabric>(rt: &impl Abort, kernel: &Kernel<F>, known: Known) {
-    assert!(rt; !kernel.is_failed());
     assert!(rt; kernel.nets() as usize == known.0.len());
     assert!(rt; kernel.pins() as usize == known.1.len());
     for net in 0..kernel.nets() {
-        assert!(rt; Some(&kernel.frontier(net)) == known.0.get(net as usize));
+        assert!(rt; Some(&net_of(rt, kernel, net).0) == known.0.get(net as usize));
     }
     for pin in 0..kernel.pins() {
-        let pair = (kernel.waiting(pin), kernel.received(pin));
-        assert!(rt; Some(&pair) == known.1.get(pin as usize));
+        assert!(rt; Some(&pin_of(rt, kernel, pin)) == known.1.get(pin as usize));
     }
 }
 
@@ -64,16 +71,13 @@ fn counts_are<F: Fabric>(
     kernel: &Kernel<F>,
     [events, changes, nulls, rounds]: [u64; 4],
 ) {
-    assert!(rt; !kernel.is_failed());
-    assert!(rt;
-        kernel.counts()
-            == Counts {
-                events,
-                changes,
-                nulls,
-                rounds
-            }
-    );
+    let counts = Counts {
+        events,
+        changes,
+        nulls,
+        rounds,
+    };
+    assert!(rt; counts_of(rt, kernel).0 == counts);
 }
 
 // Kernels of one design, over each of the fabrics.
@@ -99,10 +103,19 @@ impl<'d> Pair<'d> {
         Ok(())
     }
 
-    fn apply_all(&mut self, rt: &impl Abort, events: &[Event]) -> Result<(), Fail> {
-        self.queues.apply_all(events)?;
-        self.logs.apply_all(events)?;
+    // A million times this event, which isn't useful, is counted, and changes nothing else.
+    fn idle(
+        &mut self,
+        rt: &impl Abort,
+        alloc: Global,
+        event: Event,
+        counts: [u64; 4],
+    ) -> Result<(), Fail> {
+        let events = vec![in alloc; event; 1_000_000]?;
+        self.queues.apply_all(&events)?;
+        self.logs.apply_all(&events)?;
         alike(rt, &self.queues, &self.logs);
+        self.knows(rt, (&[0, 1], &[(0, 0)]), counts);
         Ok(())
     }
 
@@ -153,18 +166,24 @@ static RUNS: [Run; 4] = [
     ),
 ];
 
+impl Pair<'_> {
+    fn run(&mut self, rt: &impl Abort, run: Run) -> Result<(), Fail> {
+        let (events, after, counted, rounds, total) = run;
+        for event in events {
+            self.apply(rt, *event)?;
+        }
+        self.knows(rt, after, counted);
+        for _round in 0..rounds {
+            self.round(rt)?;
+        }
+        self.knows(rt, (&[9, 9, 9], &[(0, 9), (0, 9), (0, 9)]), total);
+        Ok(())
+    }
+}
+
 fn run(rt: &impl Abort, alloc: Global, design: &Design, run: Run) -> Result<(), Fail> {
-    let (events, after, counted, rounds, total) = run;
     let mut pair = Pair::new(alloc, design, 8)?;
-    for event in events {
-        pair.apply(rt, *event)?;
-    }
-    pair.knows(rt, after, counted);
-    for _round in 0..rounds {
-        pair.round(rt)?;
-    }
-    pair.knows(rt, (&[9, 9, 9], &[(0, 9), (0, 9), (0, 9)]), total);
-    Ok(())
+    pair.run(rt, run)
 }
 
 #[test]
@@ -176,17 +195,11 @@ fn four_schedules(rt: HostRuntime) -> Result<(), Fail> {
     Ok(())
 }
 
-// A million events that are not useful are counted, and change nothing else.
 fn is_idle(rt: &impl Abort, alloc: Global, design: &Design) -> Result<(), Fail> {
     let mut pair = Pair::new(alloc, design, 5)?;
     pair.apply(rt, Advance(1))?;
-    let idle = vec![in alloc; Advance(1); 1_000_000]?;
-    pair.apply_all(rt, &idle)?;
-    pair.knows(rt, (&[0, 1], &[(0, 0)]), [1_000_001, 0, 1, 0]);
-    let idle = vec![in alloc; Deliver(0); 1_000_000]?;
-    pair.apply_all(rt, &idle)?;
-    pair.knows(rt, (&[0, 1], &[(0, 0)]), [2_000_001, 0, 1, 0]);
-    Ok(())
+    pair.idle(rt, alloc, Advance(1), [1_000_001, 0, 1, 0])?;
+    pair.idle(rt, alloc, Deliver(0), [2_000_001, 0, 1, 0])
 }
 
 #[test]

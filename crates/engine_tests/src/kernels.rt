@@ -21,8 +21,7 @@ fn refuses<F: Fabric>(
     let answer = kernel
         .apply_all(events)
         .expect_err(rt, "events are refused");
-    assert!(rt; answer != KernelFault::Memory);
-    assert!(rt; answer == fault);
+    assert!(rt; answer != KernelFault::Memory && answer == fault);
 }
 
 // Ten million events are checked to the last one, which names a net that doesn't exist; a list with one more

@@ -30,7 +30,7 @@ fn has_parts<F: Fabric>(rt: &impl Abort, kernel: &Kernel<F>, wanted: Parts) {
 fn wait_in_fabric<F: Fabric>(rt: &impl Abort, kernel: &Kernel<F>, wanted: &[u64]) {
     assert!(rt; !kernel.is_failed());
     for pin in 0..kernel.pins() {
-        assert!(rt; wanted.get(pin as usize).copied() == Some(kernel.fabric().waiting(pin)));
+        assert!(rt; Some(&kernel.fabric().waiting(pin)) == wanted.get(pin as usize));
     }
 }
 
@@ -100,17 +100,22 @@ fn kernels_tell_their_parts(rt: HostRuntime) -> Result<(), Fail> {
     Ok(())
 }
 
+const PARTS_OF_S27: Parts = Parts {
+    nets: 17,
+    pins: 21,
+    end: 10_000_001,
+};
+
+fn has_parts_of_s27(rt: &impl Abort, alloc: Global, design: &Design) -> Result<(), Fail> {
+    let kernel: Kernel<Logs> = Kernel::new(alloc, design, Horizon::new(10_000_000)?)?;
+    has_parts(rt, &kernel, PARTS_OF_S27);
+    Ok(())
+}
+
 #[test]
 fn parts_of_s27(rt: HostRuntime) -> Result<(), Fail> {
     let design = S27.build(rt.alloc())?;
-    let kernel: Kernel<Logs> = Kernel::new(rt.alloc(), &design, Horizon::new(10_000_000)?)?;
-    let wanted = Parts {
-        nets: 17,
-        pins: 21,
-        end: 10_000_001,
-    };
-    has_parts(&rt, &kernel, wanted);
-    Ok(())
+    has_parts_of_s27(&rt, rt.alloc(), &design)
 }
 
 // A circuit, and the pins that each of its nets feeds.

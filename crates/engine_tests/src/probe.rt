@@ -184,7 +184,14 @@ impl<'d> Probe<'d> {
         assert!(rt; process.waveform().changes() == changes);
     }
 
-    pub(crate) fn step(&mut self, rt: &impl Abort, step: Step) -> Result<(), Fail> {
+    pub(crate) fn follow(&mut self, rt: &impl Abort, steps: &[Step]) -> Result<(), Fail> {
+        for step in steps {
+            self.step(rt, *step)?;
+        }
+        Ok(())
+    }
+
+    fn step(&mut self, rt: &impl Abort, step: Step) -> Result<(), Fail> {
         match step {
             Hears(place, messages) => self.hear(rt, place, messages),
             HearsFar => self.hear_far(rt),

@@ -33,10 +33,7 @@ fn design_follows(
     steps: &[Step],
 ) -> Result<(), Fail> {
     let mut process = Probe::of(rt, alloc, design, name, horizon)?;
-    for step in steps {
-        process.step(rt, *step)?;
-    }
-    Ok(())
+    process.follow(rt, steps)
 }
 
 const LOW_0: Change = Change {
@@ -238,19 +235,21 @@ const RELEASED_FOR_A_TICK: [Step; 3] = [
     Knows(0, 5),
 ];
 
+static LOOKAHEADS: [(Circuit, &[Step]); 8] = [
+    (NOR, &SETTLED_LOW),
+    (OR, &SETTLED_HIGH),
+    (NAND, &SETTLED_HIGH_BY_LOW),
+    (XOR, &WAITS),
+    (AND, &WAITS),
+    (WIDE_AND, &SETTLED_BY_THE_LAST),
+    (AND, &RELEASED),
+    (AND, &RELEASED_FOR_A_TICK),
+];
+
 #[test]
 fn lookahead(rt: HostRuntime) -> Result<(), Fail> {
-    for (circuit, steps) in [
-        (NOR, SETTLED_LOW.as_slice()),
-        (OR, SETTLED_HIGH.as_slice()),
-        (NAND, SETTLED_HIGH_BY_LOW.as_slice()),
-        (XOR, WAITS.as_slice()),
-        (AND, WAITS.as_slice()),
-        (WIDE_AND, SETTLED_BY_THE_LAST.as_slice()),
-        (AND, RELEASED.as_slice()),
-        (AND, RELEASED_FOR_A_TICK.as_slice()),
-    ] {
-        follows(&rt, rt.alloc(), circuit, b"y", 6, steps)?;
+    for (circuit, steps) in &LOOKAHEADS {
+        follows(&rt, rt.alloc(), *circuit, b"y", 6, steps)?;
     }
     Ok(())
 }

@@ -2,7 +2,7 @@
 //! through the fabric, and is taken from it; a kernel whose fabric runs out of memory has failed.
 ghost use Rattle.std.specs.Prelude.{◌≡◌};
 
-use crate::circuits::{Circuit, GATED_OSCILLATOR, INVERTER, RING_COUNTER};
+use crate::circuits::{Circuit, GATED_OSCILLATOR, INVERTER, RING_COUNTER, are_nets};
 use Event::{Advance, Deliver};
 use cmb_channels::{Fabric, Message, Queues};
 use cmb_events::Event;
@@ -57,23 +57,23 @@ impl<const SENT: usize, const TAKEN: usize> Fabric for Rationed<SENT, TAKEN> {
     }
 }
 
-// A run of the design completes if this fabric carries as much as it sends, and otherwise fails.
-fn ends<F: Fabric>(
-    rt: &impl Abort,
+// What a run of the kernel to its end returns, and whether the kernel has failed then.
+fn completed<F: Fabric>(kernel: &mut Kernel<F>) -> (Result<(), KernelFault>, bool) {
+    let answer = kernel.complete();
+    (answer, kernel.is_failed())
+}
+
+// The same for a new kernel of the design.
+fn outcome<F: Fabric>(
     alloc: Global,
     design: &Design,
     horizon: u64,
-    completes: bool,
-) -> Result<(), Fail> {
+) -> Result<(Result<(), KernelFault>, bool), Fail> {
     let mut kernel: Kernel<F> = Kernel::new(alloc, design, Horizon::new(horizon)?)?;
-    let answer = kernel.complete();
-    assert!(rt; (answer == Err(KernelFault::Memory)) == !completes);
-    assert!(rt; (answer == Ok(())) == completes);
-    assert!(rt; kernel.is_failed() == !completes);
-    Ok(())
+    Ok(completed(&mut kernel))
 }
 
-// A run of the circuit completes over the fabric `F`, and fails over `G`.
+// A run of the circuit completes over the fabric `F`, which carries as much as it sends, and fails over `G`.
 fn needs<F: Fabric, G: Fabric>(
     rt: &impl Abort,
     alloc: Global,
@@ -81,8 +81,9 @@ fn needs<F: Fabric, G: Fabric>(
     horizon: u64,
 ) -> Result<(), Fail> {
     let design = circuit.build(alloc)?;
-    ends::<F>(rt, alloc, &design, horizon, true)?;
-    ends::<G>(rt, alloc, &design, horizon, false)
+    assert!(rt; outcome::<F>(alloc, &design, horizon)? == (Ok(()), false));
+    assert!(rt; outcome::<G>(alloc, &design, horizon)? == (Err(KernelFault::Memory), true));
+    Ok(())
 }
 
 // Each of these runs sends this number of changes and of null messages, and takes this number before the last
@@ -121,8 +122,7 @@ fn answer<F: Fabric>(
         Call::Events(events) => kernel.apply_all(events),
         Call::Round => kernel.round(),
         Call::Sweep(order) => {
-            let nets = design.nets();
-            assert!(rt; order.iter().all(|net| *net < nets));
+            assert!(rt; are_nets(design, order));
             kernel.sweep(order, 6)
         }
         Call::Complete => kernel.complete(),
@@ -138,8 +138,8 @@ fn refuses_drains<F: Fabric>(
 ) {
     assert!(rt; kernel.is_failed());
     assert!(rt; 0 < kernel.nets());
-    assert!(rt; kernel.drain_below_into(0, bound, taken) == Err(KernelFault::Failed));
-    assert!(rt; taken.is_empty());
+    let answer = kernel.drain_below_into(0, bound, taken);
+    assert!(rt; answer == Err(KernelFault::Failed) && taken.is_empty());
 }
 
 // The kernel returns for every call that it has failed, whatever is wrong with the call.
@@ -186,13 +186,22 @@ static CALLS: [Call; 5] = [
     Call::Complete,
 ];
 
+fn each_fails_for_good(
+    rt: &impl Abort,
+    alloc: Global,
+    design: &Design,
+    many: &[Event],
+) -> Result<(), Fail> {
+    for call in &CALLS {
+        fails_for_good(rt, alloc, design, *call, many)?;
+    }
+    Ok(())
+}
+
 // This number of events is too large for a kernel that hasn't failed.
 #[test]
 fn refused_at_once(rt: HostRuntime) -> Result<(), Fail> {
     let design = INVERTER.build(rt.alloc())?;
     let many = vec![in rt.alloc(); Advance(0); 10_000_001]?;
-    for call in &CALLS {
-        fails_for_good(&rt, rt.alloc(), &design, *call, &many)?;
-    }
-    Ok(())
+    each_fails_for_good(&rt, rt.alloc(), &design, &many)
 }

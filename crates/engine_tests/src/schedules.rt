@@ -193,15 +193,20 @@ fn all_exist(rt: &impl Abort, alloc: Global, design: &Design) -> Result<(), Fail
     Ok(())
 }
 
+// Ten million events can be picked, and no more.
+fn limit_of_picks(rt: &impl Abort, alloc: Global, design: &Design) -> Result<(), Fail> {
+    let most = Schedule::seeded(alloc, 2026, 10_000_000, design)?;
+    assert!(rt; most.events().len() == 10_000_000);
+    for picks in [10_000_001, u64::MAX] {
+        let answer = Schedule::seeded(alloc, 2026, picks, design);
+        is_refused(rt, answer, ScheduleFault::TooManyEvents);
+    }
+    Ok(())
+}
+
 #[test]
 fn seeded_schedules(rt: HostRuntime) -> Result<(), Fail> {
     let late_pin = LATE_PIN.build(rt.alloc())?;
     all_exist(&rt, rt.alloc(), &late_pin)?;
-    let most = Schedule::seeded(rt.alloc(), 2026, 10_000_000, &late_pin)?;
-    assert!(rt; most.events().len() == 10_000_000);
-    for picks in [10_000_001, u64::MAX] {
-        let answer = Schedule::seeded(rt.alloc(), 2026, picks, &late_pin);
-        is_refused(&rt, answer, ScheduleFault::TooManyEvents);
-    }
-    Ok(())
+    limit_of_picks(&rt, rt.alloc(), &late_pin)
 }

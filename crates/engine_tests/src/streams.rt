@@ -30,8 +30,7 @@ fn part(
     let mut next = from;
     for change in changes {
         let tick = change.tick;
-        assert!(rt; next <= tick);
-        assert!(rt; tick < upto);
+        assert!(rt; next <= tick && tick < upto);
         part.push(*change)?;
         next = tick + 1;
     }
@@ -125,6 +124,22 @@ impl Pair {
         }
     }
 
+    // A span that is written.
+    fn write(
+        &mut self,
+        rt: &impl Abort,
+        alloc: Global,
+        out: &mut Vec<u8>,
+        span: Span,
+    ) -> Result<(), Fail> {
+        let (upto, changes, bytes) = span;
+        let answer = self.span(rt, alloc, out, upto, changes)?;
+        assert!(rt; answer == Ok(()));
+        assert!(rt; self.stream.written() == upto);
+        assert!(rt; out.len() == bytes);
+        Ok(())
+    }
+
     // The result of the end of a stream that wrote all spans.
     fn finish<W: Write>(self, rt: &impl Abort, out: &mut W) -> Result<(), DumpFault> {
         assert!(rt; self.stream.written() == 6);
@@ -152,6 +167,9 @@ const FALL: Change = Change {
     value: Zero,
 };
 
+// The changes of both nets from tick 1 on.
+static REST: [&[Change]; 2] = [&[HIGH], &[RISE, FALL]];
+
 const AT_ONCE: [Span; 1] = [(6, [&[LOW, HIGH], &[RISE, FALL]], 187)];
 
 const IN_TWO: [Span; 2] = [(1, [&[LOW], &[]], 169), (6, [&[HIGH], &[RISE, FALL]], 187)];
@@ -176,11 +194,8 @@ fn writes(
     let mut out = Vec::new(alloc);
     let mut pair = Pair::begin(rt, alloc, &mut out, design, net_by_net)?;
     assert!(rt; out.len() == 145);
-    for (upto, changes, bytes) in spans {
-        let answer = pair.span(rt, alloc, &mut out, *upto, *changes)?;
-        assert!(rt; answer == Ok(()));
-        assert!(rt; pair.stream.written() == *upto);
-        assert!(rt; out.len() == *bytes);
+    for span in spans {
+        pair.write(rt, alloc, &mut out, *span)?;
     }
     assert!(rt; pair.finish(rt, &mut out) == Ok(()));
     assert!(rt; out.as_slice() == INVERTER_DUMP);
@@ -197,19 +212,17 @@ fn streamed_inverter(rt: HostRuntime) -> Result<(), Fail> {
     Ok(())
 }
 
-// A span of all that is left, with this result; the stream has failed then.
-fn stops<W: Write>(
+// The fault of a span of all that is left; the stream has failed then.
+fn fault_of<W: Write>(
     rt: &impl Abort,
     alloc: Global,
     out: &mut W,
     pair: &mut Pair,
-    fault: DumpFault,
-) -> Result<(), Fail>
+) -> Result<DumpFault, Fail>
     ensures { IfOk result (λ _. pair.new.stream.failed ≡ true) }
 {
-    let answer = pair.span(rt, alloc, out, 6, [&[HIGH], &[RISE, FALL]])?;
-    assert!(rt; answer.err().expect(rt, "a fault") == fault);
-    Ok(())
+    let answer = pair.span(rt, alloc, out, 6, REST)?;
+    Ok(answer.expect_err(rt, "a fault"))
 }
 
 // The stream of the design to this writer stops with a fault at its second span; from then on it returns that
@@ -225,27 +238,38 @@ fn fails<W: Write>(
     let mut pair = Pair::begin(rt, alloc, out, design, net_by_net)?;
     let answer = pair.span(rt, alloc, out, 1, [&[LOW], &[]])?;
     assert!(rt; answer == Ok(()));
-    stops(rt, alloc, out, &mut pair, fault)?;
-    stops(rt, alloc, out, &mut pair, DumpFault::Failed)?;
+    assert!(rt; fault_of(rt, alloc, out, &mut pair)? == fault);
+    assert!(rt; fault_of(rt, alloc, out, &mut pair)? == DumpFault::Failed);
     assert!(rt; pair.stream.finish(out) == Err(DumpFault::Failed));
     Ok(())
 }
 
-// The writer isn't called again after a fault, though it would take all that it is given.
+// The stream to a writer that stumbles in this way at its third call; the writer isn't called again, though it
+// would take all that it is given.
+fn stumbles(
+    rt: &impl Abort,
+    alloc: Global,
+    design: &Design,
+    slip: Slip,
+    net_by_net: bool,
+) -> Result<(), Fail> {
+    let fault = match slip {
+        Slip::Fails(_) => DumpFault::Write,
+        Slip::TakesNothing => DumpFault::WroteNothing,
+    };
+    let mut out = Stumbling::new(alloc, 2, slip);
+    fails(rt, alloc, &mut out, design, fault, net_by_net)?;
+    assert!(rt; out.calls == 3);
+    assert!(rt; out.taken.len() == 169 && INVERTER_DUMP.starts_with(&out.taken));
+    Ok(())
+}
+
 #[test]
 fn failed_streams(rt: HostRuntime) -> Result<(), Fail> {
     let design = INVERTER.build(rt.alloc())?;
     for slip in &SLIPS {
-        let fault = match slip {
-            Slip::Fails(_) => DumpFault::Write,
-            Slip::TakesNothing => DumpFault::WroteNothing,
-        };
-        for net_by_net in [false, true] {
-            let mut out = Stumbling::new(rt.alloc(), 2, *slip);
-            fails(&rt, rt.alloc(), &mut out, &design, fault, net_by_net)?;
-            assert!(rt; out.calls == 3);
-            assert!(rt; out.taken.as_slice() == &INVERTER_DUMP[..169]);
-        }
+        stumbles(&rt, rt.alloc(), &design, *slip, false)?;
+        stumbles(&rt, rt.alloc(), &design, *slip, true)?;
     }
     Ok(())
 }

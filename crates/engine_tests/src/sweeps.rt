@@ -5,7 +5,7 @@ ghost use Rattle.std.specs.Prelude.{◌≡◌, OnOk};
 use crate::circuits::{
     CLOCKED, CROSSING, Circuit, EARLY_AND, GATED_OSCILLATOR, INVERTER, LATE_PIN, PRESET_RING,
     PULSE, RING_COUNTER, S27, SAMPLER, SELF_INVERTER, TWO_CLOCKS, WIRED_FLOP, WIRED_INVERTER,
-    WIRED_OSCILLATOR, WIRED_XOR,
+    WIRED_OSCILLATOR, WIRED_XOR, are_nets,
 };
 use cmb_channels::{Fabric, Logs, Queues};
 use cmb_kernel::{Counts, Kernel};
@@ -38,8 +38,7 @@ fn sweep<F: Fabric>(
     requires { kernel.old.circuit ≡ design.now.circuit }
     ensures { OnOk result (kernel.new.circuit ≡ kernel.old.circuit) }
 {
-    let nets = design.nets();
-    assert!(rt; order.iter().all(|net| *net < nets));
+    assert!(rt; are_nets(design, order));
     for tick in ticks {
         kernel.sweep(order, *tick)?;
     }
