@@ -1,13 +1,13 @@
 //! Cones as texts, at full size.
+use crate::numbers::push_number;
 use bench_text::BenchFault;
 use fanin_cone::{ConeTextFault, cone_text};
-use std::alloc::{AllocError, Global};
+use std::alloc::AllocError;
 
 // Adds the name of the gate of this number.
 fn push_name(text: &mut Vec<u8>, number: u32) -> Result<(), AllocError> {
-    let digits = number.to_string(*text.allocator())?;
     text.push(b'g')?;
-    text.extend_from_slice(digits.as_bytes())
+    push_number(text, number)
 }
 
 // Adds the gate of this number with 1,024 pins at the input, which has a name of sixteen bytes.
@@ -21,18 +21,17 @@ fn push_gate(text: &mut Vec<u8>, number: u32) -> Result<(), AllocError> {
 }
 
 // An input, this number of gates that it feeds, and a gate with a pin for each of those.
-fn wide(alloc: Global, gates: u32) -> Result<Vec<u8>, AllocError> {
-    let mut text = Vec::from_slice(alloc, b"INPUT(sixteen-bytes-it)\n")?;
+fn push_wide(text: &mut Vec<u8>, gates: u32) -> Result<(), AllocError> {
+    text.extend_from_slice(b"INPUT(sixteen-bytes-it)\n")?;
     for number in 0..gates {
-        push_gate(&mut text, number)?;
+        push_gate(text, number)?;
     }
     text.extend_from_slice(b"y=AND(g0")?;
     for number in 1..gates {
         text.push(b',')?;
-        push_name(&mut text, number)?;
+        push_name(text, number)?;
     }
-    text.push(b')')?;
-    Ok(text)
+    text.extend_from_slice(b")")
 }
 
 // The text that is read has no spaces; the written text has some, and would be too long.
@@ -40,7 +39,8 @@ fn wide(alloc: Global, gates: u32) -> Result<Vec<u8>, AllocError> {
 fn too_long_to_write(rt: HostRuntime) -> Result<(), AllocError> {
     let too_long = ConeTextFault::Bench(BenchFault::TooLong);
     for (gates, fault) in [(100, None), (960, Some(too_long))] {
-        let bench = wide(rt.alloc(), gates)?;
+        let mut bench = Vec::new(rt.alloc());
+        push_wide(&mut bench, gates)?;
         let answer = cone_text(rt.alloc(), bench.as_slice(), &[b"y".as_slice()]);
         assert!(rt; answer.err() == fault);
     }

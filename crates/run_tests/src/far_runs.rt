@@ -1,5 +1,6 @@
 //! Many nets over ten million ticks, by `simulate` and `twin`, which use the kernel. The plain engine would
 //! have to compute 200,000,000,000 values here, and a test has a minute.
+use crate::numbers::push_number;
 use kernel_runs::{TwinAnswer, TwinFault, simulate, twin};
 use logic3::{Change, Value, Waveform};
 use prepared_runs::{Picks, Show, Source, View};
@@ -18,9 +19,8 @@ fn inverters(alloc: Global, count: u32) -> Result<Vec<u8>, AllocError> {
 }
 
 fn push_inverter(text: &mut Vec<u8>, number: u32) -> Result<(), AllocError> {
-    let digits = number.to_string(*text.allocator())?;
     text.push(b'y')?;
-    text.extend_from_slice(digits.as_bytes())?;
+    push_number(text, number)?;
     text.extend_from_slice(b" = NOT(a)\n")
 }
 

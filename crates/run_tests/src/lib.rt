@@ -4,9 +4,13 @@
 #[cfg(test)]
 mod cones;
 #[cfg(test)]
+mod engines;
+#[cfg(test)]
 mod far_runs;
 #[cfg(test)]
 mod noting;
+#[cfg(test)]
+mod numbers;
 #[cfg(test)]
 mod program;
 #[cfg(test)]

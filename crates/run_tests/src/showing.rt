@@ -1,8 +1,8 @@
 //! Runs that show some nets, by their names or as outputs.
+use crate::engines::{ENGINES, Engine, dumps, dumps_shown};
 use cmb_events::ScheduleFault;
-use kernel_runs::{simulate, simulate_with_progress, sweep, sweep_with_progress};
-use plain_runs::{plain, plain_with_progress};
-use prepared_runs::{DumpView, Percents, Picks, Selection, Show, Silent, SimFault, Source, View};
+use kernel_runs::sweep_with_progress;
+use prepared_runs::{DumpView, Percents, Picks, Selection, Show, SimFault, Source, View};
 use std::alloc::{AllocError, Global};
 use std::process::Abort;
 use vcd_dump::TimeUnit;
@@ -67,31 +67,20 @@ static SHOWN: [Row; 10] = [
 
 // All ways to run it have this dump.
 fn shows(rt: &impl Abort, alloc: Global, source: &Source, view: &DumpView, dump: &[u8]) {
-    let mut out = Vec::new(alloc);
-    let answer = simulate_with_progress(alloc, source, view, &mut out, &mut Silent);
-    assert!(rt; answer.is_ok());
-    assert!(rt; out.as_slice() == dump);
-    let mut swept = Vec::new(alloc);
-    let answer = sweep_with_progress(alloc, source, view, &mut swept, &mut Silent);
-    assert!(rt; answer == Ok(()));
-    assert!(rt; swept.as_slice() == dump);
-    let mut out = Vec::new(alloc);
-    let answer = plain_with_progress(alloc, source, view, &mut out, &mut Silent);
-    assert!(rt; answer == Ok(()));
-    assert!(rt; out.as_slice() == dump);
+    for engine in &ENGINES {
+        let mut out = Vec::new(alloc);
+        let answer = dumps_shown(alloc, *engine, source, view, &mut out);
+        assert!(rt; answer.is_ok() && out.as_slice() == dump);
+    }
 }
 
 // So do the calls that name no nets.
 fn shows_unnamed(rt: &impl Abort, alloc: Global, source: &Source, view: &View, dump: &[u8]) {
-    let mut out = Vec::new(alloc);
-    assert!(rt; simulate(alloc, source, view, &mut out).is_ok());
-    assert!(rt; out.as_slice() == dump);
-    let mut swept = Vec::new(alloc);
-    assert!(rt; sweep(alloc, source, view, &mut swept) == Ok(()));
-    assert!(rt; swept.as_slice() == dump);
-    let mut out = Vec::new(alloc);
-    assert!(rt; plain(alloc, source, view, &mut out) == Ok(()));
-    assert!(rt; out.as_slice() == dump);
+    for engine in &ENGINES {
+        let mut out = Vec::new(alloc);
+        let answer = dumps(alloc, *engine, source, view, &mut out);
+        assert!(rt; answer.is_ok() && out.as_slice() == dump);
+    }
 }
 
 fn view_of(names: Vec<&'static [u8]>, horizon: u64) -> DumpView<'static> {
@@ -146,8 +135,7 @@ fn knows_all_at_once(rt: &impl Abort, alloc: Global, show: Selection<'static>) {
     let mut percents = Percents::new(&mut err);
     let answer = sweep_with_progress(alloc, &INVERTER_BESIDE, &view, &mut out, &mut percents);
     percents.end();
-    assert!(rt; answer == Ok(()));
-    assert!(rt; err.as_slice() == b"\r100%\n".as_slice());
+    assert!(rt; answer.is_ok() && err.as_slice() == b"\r100%\n".as_slice());
 }
 
 // Events that were picked are applied, whatever is shown.
@@ -161,31 +149,34 @@ fn picked_events_are_applied(rt: HostRuntime) -> Result<(), AllocError> {
     Ok(())
 }
 
-// The kernel refuses the run with this fault, by rounds and in sweeps, and nothing is written.
-fn refuses(rt: &impl Abort, alloc: Global, source: &Source, view: &DumpView, fault: SimFault) {
-    let mut out = Vec::new(alloc);
-    let answer = simulate_with_progress(alloc, source, view, &mut out, &mut Silent);
-    assert!(rt; answer == Err(fault));
-    let answer = sweep_with_progress(alloc, source, view, &mut out, &mut Silent);
-    assert!(rt; answer == Err(fault));
-    assert!(rt; out.is_empty());
-}
+const SCHEDULED: Source<'static> = Source {
+    picks: Picks::Text(b"advance zz"),
+    ..EDGE
+};
+
+const UNSCHEDULED_NET: SimFault = SimFault::Schedule(ScheduleFault::UnknownNet { line: 1 });
+
+/// A run by an engine, and its fault.
+type Refused = (Engine, Source<'static>, SimFault);
 
 // A schedule is checked before the names, and by the plain engine not at all.
+static REFUSED: [Refused; 5] = [
+    (Engine::Rounds, EDGE, SimFault::UnknownNet),
+    (Engine::Sweeps, EDGE, SimFault::UnknownNet),
+    (Engine::Rounds, SCHEDULED, UNSCHEDULED_NET),
+    (Engine::Sweeps, SCHEDULED, UNSCHEDULED_NET),
+    (Engine::Plain, SCHEDULED, SimFault::UnknownNet),
+];
+
+// With an unknown name, the runs end with these faults, and nothing is written.
 #[test]
 fn unknown_names(rt: HostRuntime) -> Result<(), AllocError> {
     let names = Vec::from_slice(rt.alloc(), &[b"a".as_slice(), b"zz".as_slice()])?;
     let view = view_of(names, 8);
-    refuses(&rt, rt.alloc(), &EDGE, &view, SimFault::UnknownNet);
-    let scheduled = Source {
-        picks: Picks::Text(b"advance zz"),
-        ..EDGE
-    };
-    let fault = SimFault::Schedule(ScheduleFault::UnknownNet { line: 1 });
-    refuses(&rt, rt.alloc(), &scheduled, &view, fault);
-    let mut out = Vec::new(rt.alloc());
-    let answer = plain_with_progress(rt.alloc(), &scheduled, &view, &mut out, &mut Silent);
-    assert!(rt; answer == Err(SimFault::UnknownNet));
-    assert!(rt; out.is_empty());
+    for (engine, source, fault) in &REFUSED {
+        let mut out = Vec::new(rt.alloc());
+        let answer = dumps_shown(rt.alloc(), *engine, source, &view, &mut out);
+        assert!(rt; answer == Err(*fault) && out.is_empty());
+    }
     Ok(())
 }

@@ -1,7 +1,7 @@
 //! Runs by the kernel: dumps byte for byte, reports, schedules.
+use crate::engines::{Engine, dumps};
 use cmb_kernel::Counts;
-use kernel_runs::{Report, simulate, sweep};
-use plain_runs::plain;
+use kernel_runs::{Report, simulate};
 use prepared_runs::{Picks, Show, Source, View};
 use std::alloc::Global;
 use std::process::Abort;
@@ -123,19 +123,18 @@ fn all_up_to(horizon: u64) -> View {
 
 // In sweeps the run has this dump, and by the plain engine.
 fn dumps_alike(rt: &impl Abort, alloc: Global, source: &Source, view: &View, dump: &[u8]) {
-    let mut swept = Vec::new(alloc);
-    assert!(rt; sweep(alloc, source, view, &mut swept) == Ok(()));
-    assert!(rt; swept.as_slice() == dump);
-    let mut out = Vec::new(alloc);
-    assert!(rt; plain(alloc, source, view, &mut out) == Ok(()));
-    assert!(rt; out.as_slice() == dump);
+    for engine in [Engine::Sweeps, Engine::Plain] {
+        let mut out = Vec::new(alloc);
+        let answer = dumps(alloc, engine, source, view, &mut out);
+        assert!(rt; answer.is_ok() && out.as_slice() == dump);
+    }
 }
 
 // The run ends with this report and this dump, which is that of sweeps and of the plain engine too.
 fn runs(rt: &impl Abort, alloc: Global, source: &Source, view: &View, report: Report, dump: &[u8]) {
     let mut out = Vec::new(alloc);
-    assert!(rt; simulate(alloc, source, view, &mut out) == Ok(report));
-    assert!(rt; out.as_slice() == dump);
+    let answer = simulate(alloc, source, view, &mut out);
+    assert!(rt; answer == Ok(report) && out.as_slice() == dump);
     dumps_alike(rt, alloc, source, view, dump);
 }
 
@@ -257,6 +256,17 @@ fn first_tick(rt: HostRuntime) {
     runs(&rt, rt.alloc(), &INVERTER, &view, report, dump);
 }
 
+// This number of events is picked first, and the dump is the same.
+fn picks_events(rt: &impl Abort, alloc: Global, source: &Source, picks: u64) {
+    let mut out = Vec::new(alloc);
+    let answer = simulate(alloc, source, &all_up_to(8), &mut out);
+    let is_picked = match answer {
+        Ok(report) => report.after.events == picks,
+        Err(_) => false,
+    };
+    assert!(rt; is_picked && out.as_slice() == EDGE_DUMP);
+}
+
 #[test]
 fn random_schedule(rt: HostRuntime) {
     for (seed, picks) in [(0, 1_000), (1, 1_000), (7, 1_000), (u64::MAX, 100_000)] {
@@ -264,10 +274,7 @@ fn random_schedule(rt: HostRuntime) {
             picks: Picks::Seeded { seed, picks },
             ..EDGE
         };
-        let mut out = Vec::new(rt.alloc());
-        let answer = simulate(rt.alloc(), &source, &all_up_to(8), &mut out);
-        assert!(rt; answer.is_ok_and(|report| report.after.events == picks));
-        assert!(rt; out.as_slice() == EDGE_DUMP);
+        picks_events(&rt, rt.alloc(), &source, picks);
         dumps_alike(&rt, rt.alloc(), &source, &all_up_to(8), EDGE_DUMP);
     }
 }

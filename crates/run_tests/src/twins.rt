@@ -258,8 +258,7 @@ fn dumps_of_both(rt: HostRuntime) {
     for (source, dump) in [(ONE, TWIN_DUMP), (OTHER, OTHER_TWIN_DUMP)] {
         let mut out = Vec::new(rt.alloc());
         let answer = simulate(rt.alloc(), &source, &view, &mut out);
-        assert!(rt; answer.is_ok());
-        assert!(rt; out.as_slice() == dump);
+        assert!(rt; answer.is_ok() && out.as_slice() == dump);
     }
 }
 

@@ -1,10 +1,9 @@
 //! Runs by each engine on writers that accept few bytes a call, and on writers that fail: a prefix of the dump
 //! is written, and the run ends with the writer's fault.
-use kernel_runs::{simulate, sweep};
-use plain_runs::plain;
+use crate::engines::{Engine, dumps};
 use prepared_runs::{Picks, Show, SimFault, Source, View};
 use std::alloc::Global;
-use std::io::{ErrorKind, Write};
+use std::io::ErrorKind;
 use std::process::Abort;
 use vcd_dump::{DumpFault, TimeUnit};
 use worked_examples::dumps::INVERTER_DUMP;
@@ -38,44 +37,21 @@ const LONG: View = View {
     ..SHORT
 };
 
-#[derive(Clone, Copy)]
-enum Engine {
-    Rounds,
-    Sweeps,
-    Plain,
-}
-
-// Returns the result of a run by this engine.
-fn dumps<W: Write>(
-    alloc: Global,
-    engine: Engine,
-    source: &Source,
-    view: &View,
-    out: &mut W,
-) -> Result<(), SimFault> {
-    match engine {
-        Engine::Rounds => simulate(alloc, source, view, out).map(|_report| ()),
-        Engine::Sweeps => sweep(alloc, source, view, out),
-        Engine::Plain => plain(alloc, source, view, out),
-    }
-}
-
 // Returns the number of writes of the run to a writer that accepts everything. No write is empty.
 fn calls_of(rt: &impl Abort, alloc: Global, engine: Engine, dump: &[u8]) -> u32 {
     let mut out = Stumbling::new(alloc, u32::MAX, Slip::TakesNothing);
-    assert!(rt; dumps(alloc, engine, &INVERTER, &SHORT, &mut out) == Ok(()));
-    assert!(rt; out.taken.as_slice() == dump);
-    assert!(rt; out.empty == 0);
+    let answer = dumps(alloc, engine, &INVERTER, &SHORT, &mut out);
+    assert!(rt; answer.is_ok() && out.taken.as_slice() == dump && out.empty == 0);
     out.calls
 }
 
 // Each engine, and the number of its writes to a writer that accepts everything: one for the declarations, one
 // for the last time, and one for what is known after each of two rounds, in one sweep, or by the plain engine.
-static ENGINES: [(Engine, u32); 3] = [(Engine::Rounds, 4), (Engine::Sweeps, 3), (Engine::Plain, 3)];
+static CALLS: [(Engine, u32); 3] = [(Engine::Rounds, 4), (Engine::Sweeps, 3), (Engine::Plain, 3)];
 
 #[test]
 fn pieces_of_a_dump(rt: HostRuntime) {
-    for (engine, calls) in &ENGINES {
+    for (engine, calls) in &CALLS {
         assert!(rt; calls_of(&rt, rt.alloc(), *engine, INVERTER_DUMP) == *calls);
     }
 }
@@ -90,14 +66,14 @@ fn takes(
     answer: Result<(), SimFault>,
     took: usize,
 ) {
-    assert!(rt; dumps(alloc, engine, &INVERTER, &SHORT, out) == answer);
-    assert!(rt; out.taken.len() == took);
-    assert!(rt; INVERTER_DUMP.starts_with(out.taken.as_slice()));
+    let got = dumps(alloc, engine, &INVERTER, &SHORT, out);
+    let is_prefix = INVERTER_DUMP.starts_with(out.taken.as_slice());
+    assert!(rt; got == answer && out.taken.len() == took && is_prefix);
 }
 
 #[test]
 fn writers_with_little_room(rt: HostRuntime) {
-    for (engine, _) in &ENGINES {
+    for (engine, _) in &CALLS {
         let mut out = Narrow::new(rt.alloc(), 1000, 1);
         takes(&rt, rt.alloc(), *engine, &mut out, Ok(()), 190);
         assert!(rt; out.calls == 190);
@@ -135,14 +111,13 @@ fn breaks_off(
     let (source, view, dump) = run;
     let mut out = Stumbling::new(alloc, call, slip);
     let answer = dumps(alloc, engine, source, view, &mut out);
-    assert!(rt; answer == Err(fault_of(slip)));
-    assert!(rt; out.calls == call.saturating_add(1));
+    assert!(rt; answer == Err(fault_of(slip)) && out.calls == call.saturating_add(1));
     assert!(rt; dump.starts_with(out.taken.as_slice()));
 }
 
 #[test]
 fn writers_that_stumble_once(rt: HostRuntime) {
-    for (engine, calls) in &ENGINES {
+    for (engine, calls) in &CALLS {
         for slip in &SLIPS {
             for call in 0..*calls {
                 let run = (&INVERTER, &SHORT, INVERTER_DUMP);
@@ -152,20 +127,24 @@ fn writers_that_stumble_once(rt: HostRuntime) {
     }
 }
 
+// The calls stumble in each way in turn.
+fn slip_at(call: u32) -> Slip {
+    match call % 3 {
+        0 => Slip::Fails(ErrorKind::Other),
+        1 => Slip::Fails(ErrorKind::Interrupted),
+        _ => Slip::TakesNothing,
+    }
+}
+
 // A dump of some megabytes is written in pieces, and the writer fails at each of them in turn.
 fn breaks_off_everywhere(rt: &impl Abort, alloc: Global, engine: Engine) {
     let mut out = Stumbling::new(alloc, u32::MAX, Slip::TakesNothing);
-    assert!(rt; dumps(alloc, engine, &OSCILLATOR, &LONG, &mut out) == Ok(()));
-    assert!(rt; out.taken.len() > 2_000_000);
+    let answer = dumps(alloc, engine, &OSCILLATOR, &LONG, &mut out);
+    assert!(rt; answer.is_ok() && out.taken.len() > 2_000_000);
     assert!(rt; 30 < out.calls && out.calls < 100);
+    let run = (&OSCILLATOR, &LONG, out.taken.as_slice());
     for call in 0..out.calls {
-        let slip = match call % 3 {
-            0 => Slip::Fails(ErrorKind::Other),
-            1 => Slip::Fails(ErrorKind::Interrupted),
-            _ => Slip::TakesNothing,
-        };
-        let run = (&OSCILLATOR, &LONG, out.taken.as_slice());
-        breaks_off(rt, alloc, engine, run, call, slip);
+        breaks_off(rt, alloc, engine, run, call, slip_at(call));
     }
 }
 

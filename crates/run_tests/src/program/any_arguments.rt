@@ -4,23 +4,27 @@ use crate::program::failures::{FAILURES, Failure, Short};
 use crate::program::inputs::Source;
 use crate::program::shelf::{Shelf, words_of};
 use nullsim::answer_arguments;
-use std::alloc::{AllocError, Global};
+use std::alloc::Global;
 use std::io::{ErrorKind, Read, Write};
 use std::process::Abort;
 use std::test::Fail;
 use worked_examples::dumps::INVERTER_DUMP;
 
-/// Returns the exit status of a call with these arguments.
+/// Returns the exit status of a call with these arguments, unless there is no memory for them.
 fn status_with<R: Read, W: Write>(
     alloc: Global,
     line: &str,
     input: &mut R,
     out: &mut W,
     err: &mut Vec<u8>,
-) -> Result<u8, AllocError> {
-    let words = words_of(alloc, line)?;
-    let mut shelf = Shelf::new(alloc);
-    Ok(answer_arguments(alloc, words.as_slice(), input, &mut shelf, out, err))
+) -> Option<u8> {
+    match words_of(alloc, line) {
+        Ok(words) => {
+            let mut shelf = Shelf::new(alloc);
+            Some(answer_arguments(alloc, words.as_slice(), input, &mut shelf, out, err))
+        }
+        Err(_) => None,
+    }
 }
 
 /// Arguments for which the inverter's deck is read to its end, or not at all, and the answer.
@@ -37,16 +41,13 @@ static ANSWERS: [(&str, bool, &[u8]); 5] = [
 ];
 
 #[test]
-fn decks_and_commands(rt: HostRuntime) -> Result<(), Fail> {
+fn decks_and_commands(rt: HostRuntime) {
     for &(line, reads, answer) in &ANSWERS {
         let (mut input, mut out, mut err) = (INVERTER, Vec::new(rt.alloc()), Vec::new(rt.alloc()));
-        let status = status_with(rt.alloc(), line, &mut input, &mut out, &mut err)?;
-        assert_eq!(rt; status, 0, "at {line}");
-        assert!(rt; out.as_slice() == answer, "at {line}");
-        assert!(rt; err.is_empty(), "at {line}");
-        assert!(rt; input.is_empty() == reads, "at {line}");
+        let status = status_with(rt.alloc(), line, &mut input, &mut out, &mut err);
+        let is_answered = status == Some(0) && out.as_slice() == answer && err.is_empty();
+        assert!(rt; is_answered && input.is_empty() == reads, "at {line}");
     }
-    Ok(())
 }
 
 /// Refused decks, and what is printed of them first with `-v`.
@@ -63,15 +64,12 @@ static REFUSED: [(&[u8], &[u8]); 3] = [
 ];
 
 #[test]
-fn refused_decks(rt: HostRuntime) -> Result<(), Fail> {
+fn refused_decks(rt: HostRuntime) {
     for &(deck, message) in &REFUSED {
         let (mut input, mut out, mut err) = (deck, Vec::new(rt.alloc()), Vec::new(rt.alloc()));
-        let status = status_with(rt.alloc(), "-v", &mut input, &mut out, &mut err)?;
-        assert_eq!(rt; status, 1);
-        assert!(rt; out.is_empty());
-        assert!(rt; err.as_slice().starts_with(message));
+        let status = status_with(rt.alloc(), "-v", &mut input, &mut out, &mut err);
+        assert!(rt; status == Some(1) && out.is_empty() && err.starts_with(message));
     }
-    Ok(())
 }
 
 /// With such a writer, the status is 3, and the fault is explained.
@@ -86,9 +84,11 @@ fn is_explained(rt: &impl Abort, alloc: Global, failure: &Failure) -> Result<(),
         &mut input,
         &mut Short { room, behind },
         &mut err,
-    )?;
-    assert_eq!(rt; status, 3, "at {room}");
-    assert!(rt; err.as_slice() == message.as_slice(), "at {room}");
+    );
+    assert!(rt;
+        status == Some(3) && err.as_slice() == message.as_slice(),
+        "at {room}"
+    );
     Ok(())
 }
 
@@ -101,20 +101,14 @@ fn failed_writes_of_a_deck(rt: HostRuntime) -> Result<(), Fail> {
 }
 
 #[test]
-fn a_failed_read_of_a_deck(rt: HostRuntime) -> Result<(), Fail> {
+fn a_failed_read_of_a_deck(rt: HostRuntime) {
     let mut input = Source {
         left: Some(10),
         a_call: 4,
         kind: ErrorKind::PermissionDenied,
     };
     let (mut out, mut err) = (Vec::new(rt.alloc()), Vec::new(rt.alloc()));
-    let status = status_with(rt.alloc(), "--verbose", &mut input, &mut out, &mut err)?;
-    assert_eq!(rt; status, 3);
-    assert!(rt; out.is_empty());
-    assert!(rt;
-        err.as_slice().starts_with(
-            b"stdin:0: Read\nsystem error: permission denied\nRead (reading and writing): "
-        )
-    );
-    Ok(())
+    let status = status_with(rt.alloc(), "--verbose", &mut input, &mut out, &mut err);
+    let begin = b"stdin:0: Read\nsystem error: permission denied\nRead (reading and writing): ";
+    assert!(rt; status == Some(3) && out.is_empty() && err.starts_with(begin.as_slice()));
 }

@@ -20,8 +20,7 @@ fn report_of(
     least: u64,
 ) -> Result<Report, Fail> {
     let report = deck(alloc, text, out)?;
-    assert_eq!(rt; report.after.events, events);
-    assert_eq!(rt; report.least, least);
+    assert!(rt; report.after.events == events && report.least == least);
     Ok(report)
 }
 
@@ -30,29 +29,27 @@ fn report_of(
 fn reports(rt: HostRuntime) -> Result<(), Fail> {
     let mut out = Vec::new(rt.alloc());
     let total = report_of(&rt, rt.alloc(), INVERTER, &mut out, 0, 0)?.total;
-    assert!(rt; out.as_slice() == INVERTER_DUMP);
     let counts = [total.events, total.changes, total.nulls, total.rounds];
-    assert_eq!(rt; counts, [7, 4, 3, 2]);
+    assert!(rt; out.as_slice() == INVERTER_DUMP && counts == [7, 4, 3, 2]);
     let scheduled =
         b"%nullsim 5\n%bench\nINPUT(a)\ny = NOT(a)\n%schedule\nadvance a\ndeliver y 0\nadvance y\n";
     let report = report_of(&rt, rt.alloc(), scheduled, &mut out, 3, 6)?;
-    assert_eq!(rt; report.total, report.after);
+    assert!(rt; report.total == report.after);
     Ok(())
 }
 
 // The writer accepted a prefix of this length of the inverter's dump, and was flushed this number of times.
 fn took_part(rt: &impl Abort, out: &Narrow, took: usize, flushes: u32) {
-    assert_eq!(rt; out.taken.len(), took);
+    assert!(rt; out.taken.len() == took && out.flushes == flushes);
     assert!(rt; INVERTER_DUMP.starts_with(out.taken.as_slice()));
-    assert_eq!(rt; out.flushes, flushes);
 }
 
 // The exit status of `tell` for the inverter's deck, and the fault line.
 fn tell_inverter<W: Write>(rt: &impl Abort, alloc: Global, out: &mut W, status: u8, fault: &str) {
     let mut input = INVERTER;
     let mut err = Vec::new(alloc);
-    assert_eq!(rt; tell(alloc, &mut input, out, &mut err), status);
-    assert!(rt; err.as_slice() == fault.as_bytes());
+    let got = tell(alloc, &mut input, out, &mut err);
+    assert!(rt; got == status && err.as_slice() == fault.as_bytes());
 }
 
 // The room of a writer, the most bytes that it accepts in a call, whether it fails without room or accepts
@@ -91,8 +88,8 @@ fn writers_that_stumble_once(rt: HostRuntime) {
         for call in 0..3u32 {
             let mut out = Stumbling::new(rt.alloc(), call, *slip);
             tell_inverter(&rt, rt.alloc(), &mut out, 3, fault);
-            assert!(rt; out.calls == call + 1);
-            assert!(rt; INVERTER_DUMP.starts_with(out.taken.as_slice()));
+            let is_prefix = INVERTER_DUMP.starts_with(out.taken.as_slice());
+            assert!(rt; out.calls == call + 1 && is_prefix);
         }
     }
 }

@@ -6,9 +6,8 @@ ghost use Rattle.run_tests.specs.Shelf.{text_under};
 
 use crate::program::shelf::{Shelf, words_of};
 use nullsim::{ReadFault, Texts, command};
-use std::alloc::Global;
+use std::alloc::{AllocError, Global};
 use std::process::Abort;
-use std::test::Fail;
 
 /// A text that was requested, and why it couldn't be read, if it couldn't.
 type Note = (Vec<u8>, Option<ReadFault>);
@@ -57,9 +56,24 @@ fn noted(
     Some(notes)
 }
 
-// The names that the arguments request, each followed by a space, and with a mark before one that couldn't be
-// read.
-fn names_asked(alloc: Global, line: &str) -> Result<Vec<u8>, Fail> {
+// The requested names, each followed by a space, and with a mark before one that couldn't be read.
+fn names_of(alloc: Global, notes: &[Note]) -> Result<Vec<u8>, AllocError> {
+    let mut names = Vec::new(alloc);
+    for (name, fault) in notes {
+        let mark = if fault.is_some() {
+            b"!".as_slice()
+        } else {
+            b"".as_slice()
+        };
+        for part in [mark, name.as_slice(), b" ".as_slice()] {
+            names.extend_from_slice(part)?;
+        }
+    }
+    Ok(names)
+}
+
+// The names that the arguments request.
+fn names_asked(alloc: Global, line: &str) -> Result<Vec<u8>, AllocError> {
     let words = words_of(alloc, line)?;
     let mut ledger = Ledger {
         alloc,
@@ -68,21 +82,14 @@ fn names_asked(alloc: Global, line: &str) -> Result<Vec<u8>, Fail> {
     };
     let (mut out, mut err) = (Vec::new(alloc), Vec::new(alloc));
     let _ = command(alloc, words.as_slice(), &mut ledger, &mut out, &mut err);
-    let mut names = Vec::new(alloc);
-    if let Some(notes) = &ledger.notes {
-        for (name, fault) in notes {
-            if fault.is_some() {
-                names.push(b'!')?;
-            }
-            names.extend_from_slice(name.as_slice())?;
-            names.push(b' ')?;
-        }
+    match &ledger.notes {
+        Some(notes) => names_of(alloc, notes.as_slice()),
+        None => Ok(Vec::new(alloc)),
     }
-    Ok(names)
 }
 
 #[test]
-fn files_in_their_order(rt: HostRuntime) -> Result<(), Fail> {
+fn files_in_their_order(rt: HostRuntime) -> Result<(), AllocError> {
     for (line, names) in [
         (
             "run --schedule ahead.sched --stimuli inv.stim --delays slow.delays --bench inv.bench --horizon 5",

@@ -3,7 +3,6 @@ use crate::program::shelf::status_of;
 use std::alloc::Global;
 use std::io::Write;
 use std::process::Abort;
-use std::test::Fail;
 use worked_examples::dumps::INVERTER_DUMP;
 use worked_examples::{Narrow, SLIPS, Slip, Stumbling};
 
@@ -95,11 +94,9 @@ static ROWS: [Row; 32] = [
 // The writer accepted what it has room for, unless the text isn't checked, and was flushed this number of
 // times.
 fn took(rt: &impl Abort, out: &Narrow, text: &[u8], room: usize, flushes: u32, line: &str) {
-    if !text.is_empty() {
-        assert_eq!(rt; out.taken.len(), room, "at {line}");
-        assert!(rt; text.starts_with(out.taken.as_slice()), "at {line}, {room}");
-    }
-    assert_eq!(rt; out.flushes, flushes, "at {line}, {room}");
+    let taken = out.taken.as_slice();
+    let is_prefix = text.is_empty() || (taken.len() == room && text.starts_with(taken));
+    assert!(rt; is_prefix && out.flushes == flushes, "at {line}, {room}");
 }
 
 // With this writer of its text, the command ends with this status, and standard error accepted this.
@@ -111,23 +108,21 @@ fn ends<W: Write>(
     err: &mut Narrow,
     status: u8,
     message: &str,
-) -> Result<(), Fail> {
-    let got = status_of(alloc, line, out, err)?;
-    assert_eq!(rt; got, status, "at {line}");
-    assert!(rt; err.taken.as_slice() == message.as_bytes(), "at {line}");
-    Ok(())
+) {
+    let got = status_of(alloc, line, out, err);
+    let is_said = err.taken.as_slice() == message.as_bytes();
+    assert!(rt; got == Some(status) && is_said, "at {line}");
 }
 
 #[test]
-fn faulty_writers(rt: HostRuntime) -> Result<(), Fail> {
+fn faulty_writers(rt: HostRuntime) {
     for &((line, text), (room, flush_fails), (err_room, most), status, message, flushes) in &ROWS {
         let mut out = Narrow::new(rt.alloc(), room, 7);
         out.flush_fails = flush_fails;
         let mut err = Narrow::new(rt.alloc(), err_room, most);
-        ends(&rt, rt.alloc(), line, &mut out, &mut err, status, message)?;
+        ends(&rt, rt.alloc(), line, &mut out, &mut err, status, message);
         took(&rt, &out, text, room, flushes, line);
     }
-    Ok(())
 }
 
 // The other commands, with texts that are shorter than the room for them.
@@ -144,17 +139,16 @@ static OTHERS: [&str; 8] = [
 
 // Each flushes its text once, and reports a flush that fails.
 #[test]
-fn other_commands_flush(rt: HostRuntime) -> Result<(), Fail> {
+fn other_commands_flush(rt: HostRuntime) {
     for &line in &OTHERS {
         for (flush_fails, status, message) in [(false, 0, ""), (true, 3, NOT_WRITTEN)] {
             let mut out = Narrow::new(rt.alloc(), 9999, 999);
             out.flush_fails = flush_fails;
             let mut err = Narrow::new(rt.alloc(), 99, 99);
-            ends(&rt, rt.alloc(), line, &mut out, &mut err, status, message)?;
-            assert_eq!(rt; out.flushes, 1, "at {line}");
+            ends(&rt, rt.alloc(), line, &mut out, &mut err, status, message);
+            assert!(rt; out.flushes == 1, "at {line}");
         }
     }
-    Ok(())
 }
 
 // Each command, and the number of its writes.
@@ -169,47 +163,41 @@ static CALLS: [(Line, u32); 6] = [
 
 // The command on a writer that fails at the call with this number: the fault is reported, and a prefix of the
 // text has been written.
-fn stumbles(
-    rt: &impl Abort,
-    alloc: Global,
-    (line, text): Line,
-    call: u32,
-    slip: Slip,
-) -> Result<(), Fail> {
+fn stumbles(rt: &impl Abort, alloc: Global, (line, text): Line, call: u32, slip: Slip) {
     let message = match slip {
         Slip::Fails(_) => NOT_WRITTEN,
         Slip::TakesNothing => "stdout:0: WroteNothing\n",
     };
     let mut out = Stumbling::new(alloc, call, slip);
     let mut err = Narrow::new(alloc, 99, 7);
-    ends(rt, alloc, line, &mut out, &mut err, 3, message)?;
-    assert_eq!(rt; out.calls, call.saturating_add(1), "at {line}");
-    assert!(rt; text.starts_with(out.taken.as_slice()), "at {line}, {call}");
-    Ok(())
+    ends(rt, alloc, line, &mut out, &mut err, 3, message);
+    let is_prefix = text.starts_with(out.taken.as_slice());
+    assert!(rt;
+        out.calls == call.saturating_add(1) && is_prefix,
+        "at {line}, {call}"
+    );
 }
 
 #[test]
-fn writers_that_stumble_once(rt: HostRuntime) -> Result<(), Fail> {
+fn writers_that_stumble_once(rt: HostRuntime) {
     for &(line, calls) in &CALLS {
         for slip in &SLIPS {
             for call in 0..calls {
-                stumbles(&rt, rt.alloc(), line, call, *slip)?;
+                stumbles(&rt, rt.alloc(), line, call, *slip);
             }
         }
     }
-    Ok(())
 }
 
 // One byte in each call, and as many calls as the text has bytes.
 #[test]
-fn writers_of_a_byte_a_call(rt: HostRuntime) -> Result<(), Fail> {
+fn writers_of_a_byte_a_call(rt: HostRuntime) {
     for &((line, text), _) in &CALLS {
         let mut out = Narrow::new(rt.alloc(), 9999, 1);
         let mut err = Narrow::new(rt.alloc(), 99, 7);
         let message = if line == COUNTED.0 { COUNTS } else { "" };
-        ends(&rt, rt.alloc(), line, &mut out, &mut err, 0, message)?;
+        ends(&rt, rt.alloc(), line, &mut out, &mut err, 0, message);
         took(&rt, &out, text, text.len(), 1, line);
-        assert_eq!(&rt; out.calls as usize, text.len(), "at {line}");
+        assert!(rt; out.calls as usize == text.len(), "at {line}");
     }
-    Ok(())
 }
