@@ -7,32 +7,53 @@ mod reasons;
 use crate::reasons::{WithReason, said_of};
 use nullsim::{ReadFault, Texts, answer_arguments, read_text};
 use std::fs::File;
-use std::io::{self, ErrorKind, Write};
+use std::io::{self, ErrorKind, Read, Write};
 use std::process::ExitCode;
-use std::rt::Files;
 
-/// The texts of files, by their paths.
+/// The texts of files, by their paths. One of them may be standard input, by the name `-`.
 #[derive(Drop)]
-struct Folder<'a, R> {
-    rt: &'a R,
+struct Folder<'a> {
+    rt: &'a HostRuntime,
+    /// Whether standard input has been read.
+    is_input_read: bool,
     /// The system's message on the file that was read last, if any.
     said: Option<String>,
 }
 
-impl<R: Files + AllocGlobal> Texts for Folder<'_, R> {
+impl Folder<'_> {
+    /// Reads a text to its end, and keeps what the system says if that fails.
+    fn read<R: Read + Drop>(&mut self, reader: R) -> Result<Vec<u8>, ReadFault> {
+        let mut reader = WithReason::new(self.rt.alloc(), reader);
+        let text = read_text(self.rt.alloc(), &mut reader);
+        self.said = reader.into_said();
+        text
+    }
+
+    /// Keeps what is said of a text that can't be read.
+    fn unread(&mut self, said: Option<String>) -> Result<Vec<u8>, ReadFault> {
+        self.said = said;
+        Err(ReadFault::Read)
+    }
+
+    /// Reads standard input, which can be one text alone.
+    fn standard_input(&mut self) -> Result<Vec<u8>, ReadFault> {
+        if self.is_input_read {
+            return self.unread(None);
+        }
+        self.is_input_read = true;
+        let input = self.rt.stdin();
+        self.read(input)
+    }
+}
+
+impl Texts for Folder<'_> {
     fn text(&mut self, name: &str) -> Result<Vec<u8>, ReadFault> {
-        let alloc = self.rt.alloc();
+        if name == "-" {
+            return self.standard_input();
+        }
         match File::open(self.rt, name) {
-            Ok(file) => {
-                let mut file = WithReason::new(alloc, file);
-                let text = read_text(alloc, &mut file);
-                self.said = file.into_said();
-                text
-            }
-            Err(error) => {
-                self.said = said_of(alloc, error);
-                Err(ReadFault::Read)
-            }
+            Ok(file) => self.read(file),
+            Err(error) => self.unread(said_of(self.rt.alloc(), error)),
         }
     }
 
@@ -54,6 +75,7 @@ fn main(rt: HostRuntime) -> ExitCode {
         Ok(words) => {
             let mut files = Folder {
                 rt: &rt,
+                is_input_read: false,
                 said: None,
             };
             answer_arguments(
