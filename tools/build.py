@@ -121,7 +121,7 @@ def build(name: str) -> None:
     program, begun = out / name, out / "begun"
     if crates.is_current(program, name):
         return
-    tell("proving each library, then building the program; from nothing this takes about half an hour on four processors")
+    tell("proving each library, then building the program; from nothing this takes about twenty minutes on four processors")
     out.mkdir(exist_ok=True)
     begun.touch()
     program.unlink(missing_ok=True)
