@@ -5,7 +5,7 @@ ghost use Rattle.causes.specs.declared.cause.Cause.{Cause};
 ghost use Rattle.causes.specs.Causes.{cause_behind, causes_of, explained_at, ShowUpTo};
 ghost use Rattle.causes.specs.Marks.{mark_place, ForMarked};
 
-use crate::cause::{Cause, Reason};
+use crate::cause::Cause;
 use crate::pins::since;
 use crate::reasons::{leads_to, reason_at};
 use crate::swings::unless_swing;

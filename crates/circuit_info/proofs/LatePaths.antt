@@ -1,5 +1,5 @@
 -- The test for loops decides, and so does that for paths that take longer than a period.
-use Rattle.std.proofs.Common.{◌≡◌, ℕ, zero, suc, ◌+◌, ◌<◌, ◌≤◌, ◌||◌, ◌&&◌, not, nat_lt, Bool, true, false, true≢false, IsTrue, List, length, get_or, refl, sym, ap, ◌∙◌, subst, arith, Contains, ⊎_elim}
+use Rattle.std.proofs.Common.{◌≡◌, ℕ, zero, suc, ◌<◌, ◌≤◌, ◌||◌, ◌&&◌, not, nat_lt, Bool, true, false, true≢false, IsTrue, List, length, get_or, refl, sym, ap, ◌∙◌, subst, arith, ⊎_elim}
 use Rattle.std.specs.List.{list_all, range_with_len}
 use Rattle.std.proofs.lemmas.Bool.{and_parts, cases_Bool, cases_lt, ltb-true, lt-ltb}
 use Rattle.std.proofs.lemmas.List.{get_or_default, get_or_past}
@@ -9,9 +9,9 @@ use Rattle.netlist.specs.Netlist.{NetView, NetlistView}
 use Rattle.netlist.specs.Part.{is_flop, is_gate}
 use Rattle.netlist.proofs.CallerLemmas.{no_net}
 use Rattle.design.specs.Design.{DesignView, IsDesign}
-use Rattle.circuit_info.specs.Levels.{is_gate_at, level_at, pins_at, IsGateLoop, IsLevelling}
+use Rattle.circuit_info.specs.Levels.{is_gate_at, level_at, pins_at, IsLevelling}
 use Rattle.circuit_info.specs.Loops.{HasLevel, at_source, above_pins}
-use Rattle.circuit_info.specs.Paths.{last_seen, longest_to, wires_at, HasLoop, HasNoLoop, IsPath}
+use Rattle.circuit_info.specs.Paths.{last_seen, longest_to, wires_at, HasLoop, HasNoLoop}
 use Rattle.circuit_info.specs.PathText.{is_flop_at}
 use Rattle.circuit_info.specs.Periods.{has_level_within, is_late, is_loop_free, period_at, IsLatePath}
 use Rattle.circuit_info.proofs.Heights.{levels_where_each_has_one}

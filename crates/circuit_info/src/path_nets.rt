@@ -4,7 +4,7 @@ ghost use Rattle.netlist.specs.Netlist.{most_nets};
 ghost use Rattle.design.specs.Design.{IsDesign};
 ghost use Rattle.circuit_info.specs.Counts.{IsFirstGreatest};
 ghost use Rattle.circuit_info.specs.Levels.{pins_at};
-ghost use Rattle.circuit_info.specs.Paths.{longest_to, AreLongest, HasNoLoop};
+ghost use Rattle.circuit_info.specs.Paths.{AreLongest, HasNoLoop};
 ghost use Rattle.circuit_info.specs.PathText.{ends, seen, EndsAt, IsLatestSource, IsLongestPath};
 
 use crate::path_lines::End;

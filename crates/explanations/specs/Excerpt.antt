@@ -1,5 +1,5 @@
 -- Lines of a text, as they are shown.
-use Rattle.std.specs.Prelude.{ℕ, ◌-◌, ◌==◌, ◌||◌, ◌&&◌, nat_lt, if◌then◌else◌, List, [], ◌++◌, map, take, length, codes, decimal, Option, None, Some}
+use Rattle.std.specs.Prelude.{ℕ, ◌==◌, ◌||◌, ◌&&◌, nat_lt, if◌then◌else◌, List, [], ◌++◌, map, take, length, codes, decimal, Option, None, Some}
 
 -- white space as a space, and what isn't printable as ?
 abbrev pub shown_byte : ℕ → ℕ

@@ -3,7 +3,7 @@ ghost use Rattle.std.specs.Prelude.{◌≡◌, ◌++◌, ◌∷◌, [], codes, f
 ghost use Rattle.std.specs.List.{list_any};
 ghost use Rattle.std.specs.Option.{option_map_or};
 ghost use Rattle.mistakes.specs.BenchLines.{is_among};
-ghost use Rattle.explanations.specs.Missing.{alike_hint, alike_told, bracketed, constant_value, cut_at, for_inverse, has_bit, has_kin, inside_of, inverse_told, its_input, its_stimulus, is_alike, is_between, is_bit_of, is_followed, is_in_range, is_inverse_of, is_number, is_preceded, marks_after, missing_constant, missing_told, no_constant_told, no_constants, not_text, only_alike, up_to_bracket};
+ghost use Rattle.explanations.specs.Missing.{alike_hint, alike_told, bracketed, constant_value, cut_at, for_inverse, has_kin, inside_of, inverse_told, its_input, its_stimulus, is_alike, is_between, is_bit_of, is_followed, is_in_range, is_inverse_of, is_number, is_preceded, marks_after, missing_constant, missing_told, no_constant_told, no_constants, not_text, only_alike};
 
 use crate::at_fault::push_quoted;
 use crate::excerpt::push_shown;

@@ -1,5 +1,5 @@
 //! A name that no fault has.
-ghost use Rattle.std.specs.Prelude.{◌≡◌, ◌++◌, ◌∷◌, [], flat_map, map, option_map, IfOk, OnOk};
+ghost use Rattle.std.specs.Prelude.{◌≡◌, ◌++◌, ◌∷◌, [], map, option_map, IfOk, OnOk};
 ghost use Rattle.mistakes.specs.Near.{near_among};
 ghost use Rattle.explanations.specs.UnknownFault.{fault_names, hint_told, names_in, unknown_fault};
 

@@ -1,5 +1,5 @@
 -- The tokens of a line, taken from its front.
-use Rattle.std.proofs.Common.{◌≡◌, ℕ, suc, ◌+◌, ◌<◌, ◌≤◌, ◌||◌, ◌&&◌, not, max, Bool, true, false, cond, List, [], ◌∷◌, length, take, drop, refl, ap, sym, subst, ◌∙◌, arith, one-add, add-zero}
+use Rattle.std.proofs.Common.{◌≡◌, ℕ, suc, ◌+◌, ◌<◌, ◌≤◌, ◌||◌, ◌&&◌, not, max, Bool, true, false, cond, List, [], ◌∷◌, length, take, drop, refl, ap, sym, subst, ◌∙◌, arith, one-add}
 use Rattle.std.specs.List.{prefix_len}
 use Rattle.mistakes.specs.Tokens.{Token, is_word_byte, is_word_end, lengthened, tokens_from}
 use Rattle.texts.specs.Text.{is_white}

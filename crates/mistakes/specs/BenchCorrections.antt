@@ -54,6 +54,12 @@ three_ports =
     (codes "one name a line: ")
     (of_one (at_place 0) (at_place 2) ∷ of_one (at_place 0) (at_place 4) ∷ of_one (at_place 0) (at_place 6) ∷ [])
 
+-- OUTPUT y = AND(a, b)
+abbrev pub defined_output : Correction
+defined_output =
+    correction (keyword (codes "OUTPUT") ∷ net_name ∷ equals ∷ gate_word ∷ opening ∷ net_name ∷ more_names ∷ [])
+    (codes "one statement a line: ") (of_one (at_place 0) (at_place 1) ∷ (from_place 1 ∷ []) ∷ [])
+
 -- ---- gates
 
 -- AND(y, a, b)
@@ -161,7 +167,7 @@ table_corrections =
 -- ---- all of them
 
 unfoldable pub port_corrections : List Correction
-port_corrections = bare_port ∷ two_ports ∷ three_ports ∷ []
+port_corrections = bare_port ∷ two_ports ∷ three_ports ∷ defined_output ∷ []
 
 unfoldable pub gate_corrections : List Correction
 gate_corrections =

@@ -1,5 +1,5 @@
 -- .bench lines with too few or too many commas, or with more after the end.
-use Rattle.std.specs.Prelude.{ℕ, ◌-◌, ◌||◌, ◌&&◌, not, Bool, if◌then◌else◌, List, [], ◌∷◌, ◌++◌, filter, length, take, codes, bytes_eq}
+use Rattle.std.specs.Prelude.{ℕ, ◌-◌, ◌||◌, ◌&&◌, not, Bool, false, if◌then◌else◌, List, [], ◌∷◌, ◌++◌, filter, length, take, codes, bytes_eq}
 use Rattle.mistakes.specs.Corrections.{Refused, is_accepted, word_of, written_line}
 use Rattle.mistakes.specs.Tokens.{is_mark_word}
 
@@ -9,10 +9,13 @@ is_comma word = bytes_eq word (codes ",")
 abbrev pub without_commas : List (List ℕ) → List (List ℕ)
 without_commas words = filter (λ word. not (is_comma word)) words
 
--- a comma after a word that another word comes after
+-- another word, and no mark, comes right after a word
+abbrev pub meets_word : List ℕ → List (List ℕ) → Bool
+meets_word word [] = false
+meets_word word (after ∷ words) = not (is_mark_word word || is_mark_word after)
+
 abbrev pub comma_between : List ℕ → List (List ℕ) → List (List ℕ)
-comma_between word [] = []
-comma_between word (after ∷ words) = if is_mark_word word || is_mark_word after then [] else codes "," ∷ []
+comma_between word words = if meets_word word words then codes "," ∷ [] else []
 
 abbrev pub with_commas : List (List ℕ) → List (List ℕ)
 with_commas [] = []

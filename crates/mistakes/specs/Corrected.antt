@@ -7,12 +7,13 @@ use Rattle.mistakes.specs.BenchCorrections.{bench_corrections}
 use Rattle.mistakes.specs.BenchFormulas.{formula_told}
 use Rattle.mistakes.specs.BenchLines.{is_among}
 use Rattle.mistakes.specs.BenchLists.{ended_told, list_told}
+use Rattle.mistakes.specs.BenchNames.{spaced_told}
 use Rattle.mistakes.specs.BenchStatements.{dollar_told, part_told, two_told}
 use Rattle.mistakes.specs.Corrections.{Correction, Refused, is_shown_whole, told_by}
 use Rattle.mistakes.specs.Lines.{line_at, unless_empty}
 use Rattle.mistakes.specs.Forms.{forms_of}
 use Rattle.mistakes.specs.TimingCorrections.{delay_corrections, schedule_corrections, stimulus_corrections}
-use Rattle.mistakes.specs.TimingLines.{marker_told, pins_told, point_told, respelled_right, respelled_told, right_told, sign_told, trace_told, unit_told}
+use Rattle.mistakes.specs.TimingLines.{deck_marker_told, marker_told, pins_told, point_told, respelled_right, respelled_told, right_told, sign_told, trace_told, unit_told}
 use Rattle.mistakes.specs.Tokens.{bytes_of, tokens_of}
 use Rattle.texts.specs.Text.{code_of}
 
@@ -26,10 +27,11 @@ abbrev pub statement_corrected : Refused → List ℕ
 statement_corrected refused =
     first_told (list_told refused ∷ ended_told refused ∷ two_told refused ∷ part_told refused ∷ dollar_told refused ∷ [])
 
--- or else its marks, its first word, what a marker is, or the only correction that applies
+-- or else its marks, its first word, what a marker is, the only correction that applies, or its names
 abbrev pub words_corrected : Refused → List ℕ
 words_corrected refused =
-    first_told (formula_told refused ∷ respelled_told refused ∷ marker_told refused ∷ told_by bench_corrections refused ∷ [])
+    first_told
+    (formula_told refused ∷ respelled_told refused ∷ marker_told refused ∷ told_by bench_corrections refused ∷ spaced_told refused ∷ [])
 
 abbrev pub bench_corrected : Refused → List ℕ
 bench_corrected refused = unless_empty (statement_corrected refused) (words_corrected refused)
@@ -51,7 +53,7 @@ refused_corrected refused = by refused.subject
     by Delays = timing_corrected delay_corrections refused
     by Stimuli = timing_corrected stimulus_corrections refused
     by Schedule = unless_empty (trace_told refused) (timing_corrected schedule_corrections refused)
-    by Deck = respelled_told refused
+    by Deck = unless_empty (respelled_told refused) (deck_marker_told refused)
     by other = []
 
 -- the text that defines the nets

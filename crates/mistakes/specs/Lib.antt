@@ -10,6 +10,7 @@ pub mod Tokens
 pub mod BenchCorrections
 pub mod BenchFormulas
 pub mod BenchLists
+pub mod BenchNames
 pub mod BenchStatements
 pub mod Corrected
 pub mod Corrections

@@ -41,7 +41,7 @@ version_line = (own (codes "timing") ∷ own (codes "version") ∷ own (codes "2
 
 -- a line of version 2, in the first line of a text without the line that says so
 abbrev pub second_in_first : List ℕ → List Slot → Correction
-second_in_first form row = correction (fixed form ∷ word ∷ row) (codes "add the first line ") version_line
+second_in_first form row = correction (keyword form ∷ word ∷ row) (codes "add the first line ") version_line
 
 -- timing version 3
 abbrev pub other_version : Correction

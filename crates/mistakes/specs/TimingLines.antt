@@ -168,17 +168,17 @@ pins_told refused = if lacks_place refused then pins_listed (pins_of (word_of 1 
 abbrev pub markers : List (List ℕ)
 markers = codes "%bench" ∷ codes "%delays" ∷ codes "%stimuli" ∷ codes "%schedule" ∷ []
 
-abbrev pub begins_with_sign : List ℕ → Bool
-begins_with_sign word = slice_index word 0 == 37
+abbrev pub begins_with_percent : List ℕ → Bool
+begins_with_percent word = slice_index word 0 == 37
 
 -- a .bench line is one word that begins with %; another line begins with one that is no net which the text may name
 abbrev pub is_like_marker : Refused → Bool
 is_like_marker refused = by refused.subject refused.words
   where
     by : Subject → List (List ℕ) → Bool
-    by Bench (word ∷ []) = begins_with_sign word
+    by Bench (word ∷ []) = begins_with_percent word
     by Bench words = false
-    by other words = begins_with_sign (word_of 0 words) && not (has_net refused (word_of 0 words))
+    by other words = begins_with_percent (word_of 0 words) && not (has_net refused (word_of 0 words))
 
 -- the marker that a word may mean: by its subject, or the only one near to it
 abbrev pub meant_marker : List ℕ → Option (List ℕ)
@@ -204,3 +204,8 @@ unfoldable pub marker_told : Refused → List ℕ
 marker_told refused =
     let word = word_of 0 refused.words in
     if is_like_marker refused then marker_hint word (meant_marker word) else []
+
+-- a line of a deck before its first section, which is no marker
+unfoldable pub deck_marker_told : Refused → List ℕ
+deck_marker_told refused =
+    if refused.line == 1 || is_among markers (word_of 0 refused.words) then [] else marker_told refused

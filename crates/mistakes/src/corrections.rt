@@ -9,6 +9,7 @@ mod formulas;
 mod gates;
 mod lists;
 mod markers;
+mod names;
 mod nested;
 mod ports;
 mod right;

@@ -6,17 +6,12 @@ use Rattle.netlist.specs.Names.{seen_names}
 use Rattle.netlist.specs.Netlist.{NetlistView, net_named}
 use Rattle.bench_text.specs.declared.fault.BenchFault.{BenchFault}
 use Rattle.bench_text.specs.NetlistOf.{netlist_of}
-use Rattle.timing_text.specs.declared.fault.OptionFault.{OptionFault}
 use Rattle.timing_text.specs.declared.fault.OptionFault.TheVariants as setting
 use Rattle.drawn_stimuli.specs.declared.drive.Draws.{Draws}
 use Rattle.drawn_stimuli.specs.declared.drive.Driven.{Driven}
-use Rattle.drawn_stimuli.specs.declared.fault.DriveFault.{DriveFault}
 use Rattle.drawn_stimuli.specs.declared.fault.DriveFault.TheVariants as drive
-use Rattle.timing_diagram.specs.declared.fault.ColumnsFault.{ColumnsFault}
 use Rattle.timing_diagram.specs.declared.fault.ColumnsFault.TheVariants as columns
-use Rattle.wave_diff.specs.declared.fault.ComparedFault.{ComparedFault}
 use Rattle.wave_diff.specs.declared.fault.ComparedFault.TheVariants as compared
-use Rattle.prepared_runs.specs.declared.fault.SimFault.{SimFault}
 use Rattle.prepared_runs.specs.declared.fault.SimFault.TheVariants as sim
 use Rattle.prepared_runs.specs.declared.view.DiagramView.{DiagramView}
 use Rattle.wave_diff.specs.declared.diff_ticks.DiffTicks.{DiffTicks}

@@ -1,5 +1,5 @@
 -- What arguments ask the program for: a deck from standard input, or a command.
-use Rattle.std.specs.Prelude.{◌≡◌, ◌==◌, ◌&&◌, not, Bool, List, [], ◌∷◌, ℕ, length, bytes_eq, codes, Option, String, string_bytes}
+use Rattle.std.specs.Prelude.{◌==◌, ◌&&◌, not, Bool, List, [], ◌∷◌, ℕ, length, bytes_eq, codes, Option, String, string_bytes}
 use Rattle.std.specs.List.{list_any}
 use Rattle.std.specs.declared.alloc.Global.{Global}
 use Rattle.explanations.specs.declared.table.Table.{Table}

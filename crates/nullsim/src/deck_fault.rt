@@ -1,5 +1,5 @@
 //! What is printed for the fault of a deck.
-ghost use Rattle.std.specs.Prelude.{◌≡◌, ◌==◌, ◌++◌, not, option_and_then, option_map, IfOk, OnOk};
+ghost use Rattle.std.specs.Prelude.{◌≡◌, ◌==◌, ◌++◌, option_map, IfOk, OnOk};
 ghost use Rattle.explanations.specs.Seen.{seen_fault};
 ghost use Rattle.prepared_runs.specs.Seen.{seen_sections};
 ghost use Rattle.nullsim.specs.Decks.{are_just, circuit_in_deck, deck_explanation, deck_fault, deck_line, deck_line_told, horizon_in_run, line_after, line_told, marker_at_fault, marker_in_run, number_in_deck, place_of_marker, section_in_run, section_line, section_line_told, sections_in, text_in_deck};

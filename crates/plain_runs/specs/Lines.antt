@@ -4,9 +4,11 @@ use Rattle.std.specs.List.{after_first, list_any, prefix_len, range_with_len}
 use Rattle.std.specs.Option.{is_some, option_map_or}
 use Rattle.texts.specs.Text.{code_of, is_empty, is_white, lines_of, number_of, words_of}
 use Rattle.netlist.specs.Netlist.{net_named}
+use Rattle.netlist.specs.Part.{is_input}
+use Rattle.design.specs.Circuit.{Net}
 use Rattle.design.specs.Design.{DesignView}
 use Rattle.plain_runs.specs.declared.doubt.Doubt.{Doubt}
-use Rattle.plain_runs.specs.declared.doubt.Doubt.TheVariants.{HiddenWord, Stimulus}
+use Rattle.plain_runs.specs.declared.doubt.Doubt.TheVariants.{Delay, HiddenWord, Stimulus}
 use Rattle.plain_runs.specs.Remarks.{is_undriven, net_is}
 
 -- what follows the first such byte of a line
@@ -58,15 +60,50 @@ name_in_comment line = if is_comment line then stimulus_name (words_of (comment_
 abbrev pub is_undriven_name : DesignView → List ℕ → Bool
 is_undriven_name design name = option_map_or (net_is is_undriven design.circuit) (net_named design.netlist name) false
 
+-- ---- comments with delays
+
+-- the name in `delay NAME` or `NAME =`
+abbrev pub name_beside : List ℕ → List ℕ → Option (List ℕ)
+name_beside first second =
+    if bytes_eq first (codes "delay") then Some second
+    else if bytes_eq second (codes "=") then Some first
+    else None
+
+-- the name in `NAME TICKS`, `delay NAME TICKS` or `NAME = TICKS`
+abbrev pub delay_name : List (List ℕ) → Option (List ℕ)
+delay_name (name ∷ ticks ∷ []) = if is_some (number_of ticks) then Some name else None
+delay_name (first ∷ second ∷ ticks ∷ []) = if is_some (number_of ticks) then name_beside first second else None
+delay_name words = None
+
+-- the name in the delay that is the comment of a line
+abbrev pub delayed_in_comment : List ℕ → Option (List ℕ)
+delayed_in_comment line = if is_comment line then delay_name (words_of (comment_of line)) else None
+
+abbrev pub is_delayed : Net → Bool
+is_delayed net = not (is_input net.part)
+
+-- the name is that of a gate or a flip-flop
+abbrev pub is_delayed_name : DesignView → List ℕ → Bool
+is_delayed_name design name = option_map_or (net_is is_delayed design.circuit) (net_named design.netlist name) false
+
+-- a line gives the net a delay
+abbrev pub is_delay_of : List ℕ → List ℕ → Bool
+is_delay_of name line = option_map_or (bytes_eq name) (delay_name (words_of (code_of line))) false
+
+-- the name is that of a gate or a flip-flop to which none of these lines gives a delay
+abbrev pub lacks_delay : DesignView → List (List ℕ) → List ℕ → Bool
+lacks_delay design lines name = is_delayed_name design name && not (list_any (is_delay_of name) lines)
+
 -- ---- lines
 
--- a line hides a word, or is a comment with a stimulus for an input that has none
-abbrev pub is_doubtful : Doubt → DesignView → List ℕ → Bool
-is_doubtful HiddenWord design line = hides_word line
-is_doubtful Stimulus design line = option_map_or (is_undriven_name design) (name_in_comment line) false
+-- a line hides a word, or is a comment with a stimulus for an input that has none, or with a delay for a net that has none
+abbrev pub is_doubtful : Doubt → DesignView → List (List ℕ) → List ℕ → Bool
+is_doubtful HiddenWord design lines line = hides_word line
+is_doubtful Stimulus design lines line = option_map_or (is_undriven_name design) (name_in_comment line) false
+is_doubtful Delay design lines line = option_map_or (lacks_delay design lines) (delayed_in_comment line) false
 
 abbrev pub is_doubtful_at : Doubt → DesignView → List (List ℕ) → ℕ → Bool
-is_doubtful_at doubt design lines place = is_doubtful doubt design (slice_index_or lines place [])
+is_doubtful_at doubt design lines place = is_doubtful doubt design lines (slice_index_or lines place [])
 
 -- the numbers of these lines, from 1
 abbrev pub doubtful_numbers : Doubt → DesignView → List (List ℕ) → List ℕ

@@ -8,7 +8,7 @@ use Rattle.prepared_runs.specs.Source.{SourceView}
 use Rattle.plain_runs.specs.declared.remark.Remark.{Remark}
 use Rattle.plain_runs.specs.declared.remark.Remark.TheVariants.{Undriven, Late, Unknown}
 use Rattle.plain_runs.specs.declared.doubt.Doubt.{Doubt}
-use Rattle.plain_runs.specs.declared.doubt.Doubt.TheVariants.{HiddenWord, Stimulus}
+use Rattle.plain_runs.specs.declared.doubt.Doubt.TheVariants.{Delay, HiddenWord, Stimulus}
 use Rattle.plain_runs.specs.declared.likeness.Likeness.{Likeness}
 use Rattle.plain_runs.specs.declared.likeness.Likeness.TheVariants.{Bus, Comment, Marked}
 use Rattle.plain_runs.specs.Likenesses.{lines_like, nets_like, said_of}
@@ -113,4 +113,5 @@ notes_of_texts source design =
     ++ doubt_note (codes "lines of the .bench text whose comments hide words after a carriage return") HiddenWord design source.bench
     ++ doubt_note (codes "lines of the delay text whose comments hide words after a carriage return") HiddenWord design source.delays
     ++ doubt_note (codes "lines of the stimulus text whose comments hide words after a carriage return") HiddenWord design source.stimuli
+    ++ doubt_note (codes "lines of the delay text that # makes comments, with delays for nets that have no delay line") Delay design source.delays
     ++ doubt_note (codes "lines of the stimulus text that # makes comments, with stimuli for inputs that have none") Stimulus design source.stimuli

@@ -1,8 +1,8 @@
 //! Lines of texts that are accepted and look like mistakes.
-ghost use Rattle.std.specs.Prelude.{◌≡◌, ◌++◌, map, option_map, IfOk, OnOk};
-ghost use Rattle.design.specs.Design.{IsDesign};
+ghost use Rattle.std.specs.Prelude.{◌≡◌, ◌++◌, [], map, option_map, IfOk, OnOk};
+ghost use Rattle.std.specs.List.{list_any};
 ghost use Rattle.texts.specs.Text.{lines_of, words_of};
-ghost use Rattle.plain_runs.specs.Lines.{after_byte, are_value, closed_values, comment_of, doubtful_numbers, hides_word, is_among, is_comment, is_doubtful, is_undriven_name, is_value, name_in_comment, stimulus_name, values};
+ghost use Rattle.plain_runs.specs.Lines.{after_byte, are_value, closed_values, comment_of, delay_name, delayed_in_comment, doubtful_numbers, hides_word, is_among, is_comment, is_delay_of, is_delayed_name, is_doubtful, is_undriven_name, is_value, lacks_delay, name_beside, name_in_comment, stimulus_name, values};
 ghost use Rattle.plain_runs.specs.Text.{doubt_note};
 
 use crate::remark::is_undriven;
@@ -18,6 +18,8 @@ pub(crate) enum Doubt {
     HiddenWord,
     /// It is a comment, and would be a stimulus for an input that has none.
     Stimulus,
+    /// It is a comment, and would be a delay for a gate or a flip-flop to which no line gives one.
+    Delay,
 }
 
 /// Adds the line that says this of the doubtful lines of a text.
@@ -55,7 +57,7 @@ fn doubtful_numbers(
 {
     let mut numbers = Vec::new(alloc);
     for place in 0..lines.len() {
-        if doubt.is_about(design, lines[place]) {
+        if doubt.is_about(design, lines, lines[place]) {
             numbers.push(place as u64 + 1)?;
         }
     }
@@ -63,13 +65,14 @@ fn doubtful_numbers(
 }
 
 impl Doubt {
-    /// Returns whether a line is doubtful for this.
-    fn is_about(self, design: &Design, line: &[u8]) -> bool
-        ensures { result ≡ is_doubtful self design.now line.now }
+    /// Returns whether one of these lines is doubtful for this.
+    fn is_about(self, design: &Design, lines: &[&[u8]], line: &[u8]) -> bool
+        ensures { result ≡ is_doubtful self design.now (map (λ line. line.now) lines.now) line.now }
     {
         match self {
             Doubt::HiddenWord => hides_word(line),
             Doubt::Stimulus => is_missing_stimulus(design, line),
+            Doubt::Delay => is_missing_delay(design, lines, line),
         }
     }
 }
@@ -83,11 +86,102 @@ fn hides_word(line: &[u8]) -> bool
 
 /// Returns whether a line is a comment, and would be a stimulus for an input that has none.
 fn is_missing_stimulus(design: &Design, line: &[u8]) -> bool
-    ensures { result ≡ is_doubtful Doubt.Stimulus design.now line.now }
+    ensures { result ≡ is_doubtful Doubt.Stimulus design.now [] line.now }
 {
     match name_in_comment(line) {
         Some(name) => is_undriven_name(design, name),
         None => false,
+    }
+}
+
+/// Returns whether a line is a comment, and would be a delay for a gate or a flip-flop to which no line gives one.
+fn is_missing_delay(design: &Design, lines: &[&[u8]], line: &[u8]) -> bool
+    ensures { result ≡ is_doubtful Doubt.Delay design.now (map (λ line. line.now) lines.now) line.now }
+{
+    match delayed_in_comment(line) {
+        Some(name) => lacks_delay(design, lines, name),
+        None => false,
+    }
+}
+
+/// Returns whether a name is that of a gate or a flip-flop to which none of these lines gives a delay.
+fn lacks_delay(design: &Design, lines: &[&[u8]], name: &[u8]) -> bool
+    ensures { result ≡ lacks_delay design.now (map (λ line. line.now) lines.now) name.now }
+{
+    is_delayed_name(design, name) && !has_delay_line(lines, name)
+}
+
+fn has_delay_line(lines: &[&[u8]], name: &[u8]) -> bool
+    ensures { result ≡ list_any (is_delay_of name.now) (map (λ line. line.now) lines.now) }
+{
+    match lines.split_first() {
+        Some((line, rest)) => is_delay_of(name, line) || has_delay_line(rest, name),
+        None => false,
+    }
+}
+
+/// Returns whether a line gives a net a delay.
+fn is_delay_of(name: &[u8], line: &[u8]) -> bool
+    ensures { result ≡ is_delay_of name.now line.now }
+{
+    match delay_name(code_of(line)) {
+        Some(net) => name == net,
+        None => false,
+    }
+}
+
+/// Returns whether a name is that of a gate or a flip-flop.
+fn is_delayed_name(design: &Design, name: &[u8]) -> bool
+    ensures { result ≡ is_delayed_name design.now name.now }
+{
+    prove!(design.nets() > 0);
+    match design.find(name) {
+        Some(net) => !design.part(net).is_input(),
+        None => false,
+    }
+}
+
+/// Returns the name in the delay that is the comment of a line, if it is one.
+fn delayed_in_comment(line: &[u8]) -> Option<&[u8]>
+    ensures { option_map (λ name. name.now) result ≡ delayed_in_comment line.now }
+{
+    if is_comment(line) {
+        delay_name(comment_of(line))
+    } else {
+        None
+    }
+}
+
+/// Returns the name in `NAME TICKS`, `delay NAME TICKS` or `NAME = TICKS`.
+fn delay_name(text: &[u8]) -> Option<&[u8]>
+    ensures { option_map (λ name. name.now) result ≡ delay_name (words_of text.now) }
+{
+    let (first, after) = split_word(text)?;
+    let (second, after) = split_word(after)?;
+    match split_word(after) {
+        None => if number(second).is_some() {
+            Some(first)
+        } else {
+            None
+        },
+        Some((third, after)) => if number(third).is_some() && !has_words(after) {
+            name_beside(first, second)
+        } else {
+            None
+        },
+    }
+}
+
+/// Returns the name in `delay NAME` or `NAME =`.
+fn name_beside<'a>(first: &'a [u8], second: &'a [u8]) -> Option<&'a [u8]>
+    ensures { option_map (λ name. name.now) result ≡ name_beside first.now second.now }
+{
+    if first == b"delay".as_slice() {
+        Some(second)
+    } else if second == b"=".as_slice() {
+        Some(first)
+    } else {
+        None
     }
 }
 

@@ -36,6 +36,7 @@ use timing_text::Horizon;
 /// - `note: nets named like buses, each of one bit: a[7:0], in line 1 of the .bench text`
 /// - `note: lines of the .bench text whose comments hide words after a carriage return: 3`, and so of the delay text and
 ///   of the stimulus text
+/// - `note: lines of the delay text that # makes comments, with delays for nets that have no delay line: 1 2`
 /// - `note: lines of the stimulus text that # makes comments, with stimuli for inputs that have none: 1 2`
 ///
 /// Names are in the order in which the netlist defines their nets, at most twelve in a line. If there are more, the
@@ -110,6 +111,14 @@ fn push_text_notes(
         "lines of the stimulus text whose comments hide words after a carriage return",
         source.stimuli,
         Doubt::HiddenWord,
+    )?;
+    push_doubt(
+        alloc,
+        notes,
+        design,
+        "lines of the delay text that # makes comments, with delays for nets that have no delay line",
+        source.delays,
+        Doubt::Delay,
     )?;
     push_doubt(
         alloc,

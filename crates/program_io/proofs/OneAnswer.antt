@@ -23,7 +23,7 @@ use Rattle.kernel_runs.specs.declared.diff_fault.DiffFault.{DiffFault}
 use Rattle.kernel_runs.specs.declared.twin_run.TwinAnswer.{TwinAnswer}
 use Rattle.kernel_runs.specs.declared.twin_run.TwinFault.{TwinFault}
 use Rattle.kernel_runs.specs.AnswerText.{twin_text}
-use Rattle.program_io.specs.ProgramFaults.{fault_of_cone, fault_of_run}
+use Rattle.program_io.specs.ProgramFaults.{fault_of_cone}
 use Rattle.program_io.specs.Answers.{Answer, IsDiffAnswer, IsInfoAnswer, IsTwinAnswer, compared, just, stimuli_answer}
 use Rattle.program_io.specs.OrderAnswer.{ForSource, IsAnswer}
 use Rattle.fanin_cone.specs.declared.fault.ConeTextFault.{ConeTextFault}

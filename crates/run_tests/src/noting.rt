@@ -316,6 +316,31 @@ static NOTED: [Row; 32] = [
         b"note: inputs without a stimulus, X throughout: a\n\
           note: lines of the stimulus text that # makes comments, with stimuli for inputs that have none: 1 4\n",
     ),
+    // Delays in comments, for nets without a delay line: neither for an input, nor for a net that has one.
+    (
+        Source {
+            delays: b"#y 3\n#delay y 3\n# y 3\n#y = 3\n#a 3\n#y 3ns\n#y fast\n#wire y 3\n",
+            ..BOTH
+        },
+        9,
+        b"note: lines of the delay text that # makes comments, with delays for nets that have no delay line: 1 2 4\n",
+    ),
+    (
+        Source {
+            delays: b"#y 3\ny 1 # fast\n",
+            ..BOTH
+        },
+        9,
+        b"",
+    ),
+    (
+        Source {
+            delays: b"timing version 2\n#y 3\ndelay y 1\n",
+            ..BOTH
+        },
+        9,
+        b"",
+    ),
     // Both inputs have one.
     (
         Source {

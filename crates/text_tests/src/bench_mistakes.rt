@@ -4,7 +4,7 @@ use explanations::Subject;
 use std::test::Fail;
 
 // Lines of .bench texts.
-static BENCH: [Mistake; 46] = [
+static BENCH: [Mistake; 49] = [
     Mistake {
         line: "INPUT a",
         said: "column 7, after 'INPUT': found 'a', expected '(' or '='\nwrite INPUT(a)",
@@ -91,11 +91,23 @@ static BENCH: [Mistake; 46] = [
     },
     Mistake {
         line: "INPUT(my net)",
-        said: "column 10, after 'INPUT(my': found 'net', expected ')'",
+        said: "column 10, after 'INPUT(my': found 'net', expected ')'\na name has no white space: write INPUT(my_net)",
     },
     Mistake {
         line: "my net = NOT(a)",
-        said: "column 4, after 'my': found 'net', expected '='",
+        said: "column 4, after 'my': found 'net', expected '='\na name has no white space: write my_net = NOT(a)",
+    },
+    Mistake {
+        line: "my own net = AND( a, b )",
+        said: "column 4, after 'my': found 'own', expected '='\na name has no white space: write my_own_net = AND(a, b)",
+    },
+    Mistake {
+        line: "OUTPUT y = AND(a, b)",
+        said: "column 8, after 'OUTPUT': found 'y', expected '(' or '='\none statement a line: OUTPUT(y) and y = AND(a, b)",
+    },
+    Mistake {
+        line: "input y = AND(a, b)",
+        said: "column 7, after 'input': found 'y', expected '(' or '='",
     },
     Mistake {
         line: "$n1 = NOT(a)",
@@ -192,7 +204,7 @@ static BENCH: [Mistake; 46] = [
 ];
 
 // Lines after those that define the nets a and b.
-static AFTER_NETS: [Mistake; 33] = [
+static AFTER_NETS: [Mistake; 34] = [
     Mistake {
         line: "y = a",
         said: "at the end of the line, after 'y = a': expected '('\na BUF has the value of its pin: y = BUF(a)",
@@ -263,6 +275,10 @@ static AFTER_NETS: [Mistake; 33] = [
     Mistake {
         line: "y = NOT(a); z = NOT(b);",
         said: "column 11, after 'a)': found ';', expected the end of the line\none statement a line: y = NOT(a) and z = NOT(b)",
+    },
+    Mistake {
+        line: "y = NOT(a b)",
+        said: "column 11, after 'NOT(a': found 'b', expected ',' or ')'",
     },
     Mistake {
         line: "y = NOT(a) too",

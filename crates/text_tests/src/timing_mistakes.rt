@@ -5,7 +5,7 @@ use explanations::Subject;
 use std::test::Fail;
 
 // First lines of delay texts.
-static FIRST: [Mistake; 16] = [
+static FIRST: [Mistake; 17] = [
     Mistake {
         line: "y 3ns",
         said: "column 3, after 'y': found '3ns', expected TICKS, a whole number of 1 to 1000000\nticks have no unit: write y 3",
@@ -25,6 +25,10 @@ static FIRST: [Mistake; 16] = [
     Mistake {
         line: "delay y 3",
         said: "column 7, after 'delay': found 'y', expected TICKS, a whole number of 1 to 1000000\nadd the first line timing version 2",
+    },
+    Mistake {
+        line: "DELAY y 3",
+        said: "column 7, after 'DELAY': found 'y', expected TICKS, a whole number of 1 to 1000000\nadd the first line timing version 2",
     },
     Mistake {
         line: "timing version 3",
@@ -391,6 +395,30 @@ static DECK: [Mistake; 8] = [
 fn first_lines_of_decks(rt: HostRuntime) -> Result<(), Fail> {
     for mistake in &DECK {
         is_said(&rt, rt.alloc(), Subject::Deck, "", 1, mistake)?;
+    }
+    Ok(())
+}
+
+// Lines of decks before the first section.
+static BEFORE_SECTIONS: [Mistake; 3] = [
+    Mistake {
+        line: "%BENCH",
+        said: "'%BENCH' is no marker of a deck; did you mean %bench?",
+    },
+    Mistake {
+        line: " %stimulus # of a",
+        said: "'%stimulus' is no marker of a deck; did you mean %stimuli?",
+    },
+    Mistake {
+        line: "%end",
+        said: "a marker of a deck is %bench, %delays, %stimuli or %schedule, alone in its line",
+    },
+];
+
+#[test]
+fn lines_before_sections_of_decks(rt: HostRuntime) -> Result<(), Fail> {
+    for mistake in &BEFORE_SECTIONS {
+        is_said(&rt, rt.alloc(), Subject::Deck, "%nullsim 5\n", 2, mistake)?;
     }
     Ok(())
 }

@@ -1,4 +1,4 @@
-ghost use Rattle.std.specs.Prelude.{◌≡◌, ◌<◌, ◌++◌, ◌*◌, ◌+◌, ◌^◌, length, All, flat_map, OnOk};
+ghost use Rattle.std.specs.Prelude.{◌≡◌, ◌<◌, ◌++◌, ◌+◌, ◌^◌, length, All, flat_map, OnOk};
 ghost use Rattle.std.specs.List.{enumerate_from};
 ghost use Rattle.logic3.specs.Wave.{value_at};
 ghost use Rattle.vcd_dump.specs.Traces.{traces};

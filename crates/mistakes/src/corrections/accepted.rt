@@ -74,7 +74,7 @@ fn is_statement(words: &[&[u8]]) -> bool
 }
 
 /// Returns whether a word is that of a gate with one pin.
-fn has_one_pin(word: &[u8]) -> bool
+pub(crate) fn has_one_pin(word: &[u8]) -> bool
     ensures { result ≡ is_called one_pin_gates word.now }
 {
     word.eq_ignore_ascii_case(b"NOT")
@@ -85,7 +85,7 @@ fn has_one_pin(word: &[u8]) -> bool
 }
 
 /// Returns whether a word is that of a gate with one pin or more.
-fn has_pins(word: &[u8]) -> bool
+pub(crate) fn has_pins(word: &[u8]) -> bool
     ensures { result ≡ is_called pins_gates word.now }
 {
     word.eq_ignore_ascii_case(b"AND")

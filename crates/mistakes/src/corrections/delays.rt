@@ -49,7 +49,7 @@ static DELAYS: [Correction; 10] = [
     },
     // a line of version 2, in a text of version 1
     Correction {
-        wrong: &[Slot::Fixed(b"delay"), WORD, COUNT, Slot::End],
+        wrong: &[Slot::Keyword(b"delay"), WORD, COUNT, Slot::End],
         nets: &[],
         unused: &[],
         said: b"add the first line ",
@@ -57,7 +57,7 @@ static DELAYS: [Correction; 10] = [
     },
     // a line of version 2, in a text of version 1
     Correction {
-        wrong: &[Slot::Fixed(b"clock"), WORD, COUNT, COUNT, Slot::End],
+        wrong: &[Slot::Keyword(b"clock"), WORD, COUNT, COUNT, Slot::End],
         nets: &[],
         unused: &[],
         said: b"add the first line ",
@@ -65,7 +65,7 @@ static DELAYS: [Correction; 10] = [
     },
     // a line of version 2, in a text of version 1
     Correction {
-        wrong: &[Slot::Fixed(b"init"), WORD, WORD, Slot::End],
+        wrong: &[Slot::Keyword(b"init"), WORD, WORD, Slot::End],
         nets: &[],
         unused: &[],
         said: b"add the first line ",
@@ -73,7 +73,7 @@ static DELAYS: [Correction; 10] = [
     },
     // a line of version 2, in a text of version 1
     Correction {
-        wrong: &[Slot::Fixed(b"wire"), WORD, COUNT, COUNT, Slot::End],
+        wrong: &[Slot::Keyword(b"wire"), WORD, COUNT, COUNT, Slot::End],
         nets: &[],
         unused: &[],
         said: b"add the first line ",

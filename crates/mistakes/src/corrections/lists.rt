@@ -1,6 +1,6 @@
 //! .bench lines with too few or too many commas, or with more after the end.
 ghost use Rattle.std.specs.Prelude.{◌≡◌, ◌++◌, IfOk, OnOk};
-ghost use Rattle.mistakes.specs.BenchLists.{comma_between, end_told, ended_told, is_comma, line_told, list_told, relisted, with_commas, without_commas};
+ghost use Rattle.mistakes.specs.BenchLists.{comma_between, end_told, ended_told, is_comma, line_told, list_told, meets_word, relisted, with_commas, without_commas};
 ghost use Rattle.mistakes.specs.SeenCorrections.{seen_refused, seen_words};
 
 use crate::corrections::accepted::{Refused, word_of};
@@ -77,12 +77,19 @@ pub(crate) fn push_with_commas<'a>(
 fn push_comma(line: &mut Vec<&[u8]>, word: &[u8], rest: &[&[u8]]) -> Result<(), AllocError>
     ensures { OnOk result (seen_words line.new.items ≡ seen_words line.old.items ++ comma_between word.now (seen_words rest.now)) }
 {
+    if meets_word(word, rest) {
+        line.push(b",")?;
+    }
+    Ok(())
+}
+
+/// Returns whether another word, and no mark, comes right after a word.
+pub(crate) fn meets_word(word: &[u8], rest: &[&[u8]]) -> bool
+    ensures { result ≡ meets_word word.now (seen_words rest.now) }
+{
     match rest.first() {
-        Some(after) if !begins_with_mark(word) && !begins_with_mark(after) => {
-            line.push(b",")?;
-            Ok(())
-        }
-        _ => Ok(()),
+        Some(after) => !begins_with_mark(word) && !begins_with_mark(after),
+        None => false,
     }
 }
 

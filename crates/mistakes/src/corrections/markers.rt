@@ -1,8 +1,9 @@
 //! Lines that are like a marker of a deck.
 ghost use Rattle.std.specs.Prelude.{◌≡◌, ◌++◌, option_map, IfOk, OnOk};
 ghost use Rattle.mistakes.specs.SeenCorrections.{seen_refused, seen_words};
+ghost use Rattle.mistakes.specs.BenchLines.{is_among};
 ghost use Rattle.mistakes.specs.Near.{near_among};
-ghost use Rattle.mistakes.specs.TimingLines.{begins_with_sign, is_like_marker, marker_hint, marker_rule, marker_told, markers, meant_marker, meant_told, no_marker};
+ghost use Rattle.mistakes.specs.TimingLines.{begins_with_percent, deck_marker_told, is_like_marker, marker_hint, marker_rule, marker_told, markers, meant_marker, meant_told, no_marker};
 
 use crate::corrections::accepted::{Refused, word_of};
 use crate::near::near_among;
@@ -33,20 +34,44 @@ pub(crate) fn push_marker_told(
     push_marker_hint(told, word, meant_marker(alloc, word)?)
 }
 
+/// Adds the same for a line of a deck before its first section, unless it is a marker.
+#[tactic(auto, unfolding(crate::specs::TimingLines::deck_marker_told))]
+pub(crate) fn push_deck_marker_told(
+    alloc: Global,
+    told: &mut Vec<u8>,
+    refused: Refused<'_>,
+) -> Result<(), AllocError>
+    ensures { OnOk result (told.new.items ≡ told.old.items ++ deck_marker_told (seen_refused refused.entry)) }
+{
+    if refused.line == 1 || is_marker(word_of(refused.words, 0)) {
+        return Ok(());
+    }
+    push_marker_told(alloc, told, refused)
+}
+
+fn is_marker(word: &[u8]) -> bool
+    ensures { result ≡ is_among markers word.now }
+{
+    word == b"%bench".as_slice()
+        || word == b"%delays".as_slice()
+        || word == b"%stimuli".as_slice()
+        || word == b"%schedule".as_slice()
+}
+
 /// Returns whether a line begins with `%`, and not with a net. A .bench line also has no second word then, since any
 /// net of its own may have such a name.
 fn is_like_marker(refused: Refused<'_>) -> bool
     ensures { result ≡ is_like_marker (seen_refused refused.entry) }
 {
     match (refused.subject, refused.words) {
-        (Subject::Bench, [word]) => begins_with_sign(word),
+        (Subject::Bench, [word]) => begins_with_percent(word),
         (Subject::Bench, _) => false,
-        (_, words) => begins_with_sign(word_of(words, 0)) && !refused.has_net(word_of(words, 0)),
+        (_, words) => begins_with_percent(word_of(words, 0)) && !refused.has_net(word_of(words, 0)),
     }
 }
 
-fn begins_with_sign(word: &[u8]) -> bool
-    ensures { result ≡ begins_with_sign word.now }
+fn begins_with_percent(word: &[u8]) -> bool
+    ensures { result ≡ begins_with_percent word.now }
 {
     word.first() == Some(&b'%')
 }

@@ -3,12 +3,14 @@ ghost use Rattle.std.specs.Prelude.{◌≡◌};
 ghost use Rattle.mistakes.specs.BenchCorrections.{port_corrections};
 ghost use Rattle.mistakes.specs.SeenCorrections.{seen_table};
 
-use crate::corrections::correction::{CLOSE, CLOSED, COMMA, Correction, OPEN, OPENED, Piece};
+use crate::corrections::correction::{
+    CLOSE, CLOSED, COMMA, Correction, EQUALS, OPEN, OPENED, Piece,
+};
 use crate::places::slot::Slot;
 
 const ONE_NAME: &[u8] = b"one name a line: ";
 
-static PORTS: [Correction; 3] = [
+static PORTS: [Correction; 4] = [
     // INPUT a
     Correction {
         wrong: &[Slot::Gate, Slot::Name, Slot::End],
@@ -56,6 +58,25 @@ static PORTS: [Correction; 3] = [
             &[Piece::At(0), OPENED, Piece::At(2), CLOSED],
             &[Piece::At(0), OPENED, Piece::At(4), CLOSED],
             &[Piece::At(0), OPENED, Piece::At(6), CLOSED],
+        ],
+    },
+    // OUTPUT y = AND(a, b)
+    Correction {
+        wrong: &[
+            Slot::Keyword(b"OUTPUT"),
+            Slot::Name,
+            EQUALS,
+            Slot::Gate,
+            OPEN,
+            Slot::Name,
+            Slot::More,
+        ],
+        nets: &[],
+        unused: &[],
+        said: b"one statement a line: ",
+        lines: &[
+            &[Piece::At(0), OPENED, Piece::At(1), CLOSED],
+            &[Piece::Since(1)],
         ],
     },
 ];

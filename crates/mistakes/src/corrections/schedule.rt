@@ -3,7 +3,7 @@ ghost use Rattle.std.specs.Prelude.{◌≡◌};
 ghost use Rattle.mistakes.specs.SeenCorrections.{seen_table};
 ghost use Rattle.mistakes.specs.TimingCorrections.{schedule_corrections};
 
-use crate::corrections::correction::{COUNT, Correction, Piece, WORD};
+use crate::corrections::correction::{Correction, Piece, WORD};
 use crate::places::slot::Slot;
 
 static SCHEDULE: [Correction; 1] = [

@@ -7,7 +7,7 @@ ghost use Rattle.mistakes.specs.Corrections.{told_by};
 ghost use Rattle.mistakes.specs.Lines.{unless_empty};
 ghost use Rattle.mistakes.specs.SeenCorrections.{seen_refused, seen_table, seen_words};
 ghost use Rattle.mistakes.specs.TimingCorrections.{schedule_corrections};
-ghost use Rattle.mistakes.specs.TimingLines.{respelled_told, trace_told};
+ghost use Rattle.mistakes.specs.TimingLines.{deck_marker_told, respelled_told, trace_told};
 
 use crate::corrections::accepted::Refused;
 use crate::corrections::applying::push_told_by;
@@ -17,7 +17,8 @@ use crate::corrections::delays::delay_corrections;
 use crate::corrections::first_words::{push_respelled_right, push_respelled_told};
 use crate::corrections::formulas::push_formula_told;
 use crate::corrections::lists::{push_ended_told, push_list_told};
-use crate::corrections::markers::push_marker_told;
+use crate::corrections::markers::{push_deck_marker_told, push_marker_told};
+use crate::corrections::names::push_spaced_told;
 use crate::corrections::right::push_right_told;
 use crate::corrections::schedule::schedule_corrections;
 use crate::corrections::statements::{push_dollar_told, push_part_told, push_two_told};
@@ -236,8 +237,8 @@ fn statement_corrected(alloc: Global, refused: Refused<'_>) -> Result<Vec<u8>, A
     Ok(told)
 }
 
-/// Returns the suggestion for the marks of a .bench line, for its first word, what a marker is, or the only one in
-/// the table.
+/// Returns the suggestion for the marks of a .bench line, for its first word, what a marker is, the only one in the
+/// table, or the one for its names.
 fn words_corrected(alloc: Global, refused: Refused<'_>) -> Result<Vec<u8>, AllocError>
     ensures { IfOk result (λ told. told.items ≡ words_corrected (seen_refused refused.entry)) }
 {
@@ -251,6 +252,9 @@ fn words_corrected(alloc: Global, refused: Refused<'_>) -> Result<Vec<u8>, Alloc
     }
     if told.is_empty() {
         push_from_table(alloc, &mut told, refused)?;
+    }
+    if told.is_empty() {
+        push_spaced_told(alloc, &mut told, refused)?;
     }
     Ok(told)
 }
@@ -281,10 +285,14 @@ fn schedule_corrected(alloc: Global, refused: Refused<'_>) -> Result<Vec<u8>, Al
 }
 
 fn deck_corrected(alloc: Global, refused: Refused<'_>) -> Result<Vec<u8>, AllocError>
-    ensures { IfOk result (λ told. told.items ≡ respelled_told (seen_refused refused.entry)) }
+    ensures { IfOk result (λ told. told.items ≡ unless_empty (respelled_told (seen_refused refused.entry))
+        (deck_marker_told (seen_refused refused.entry))) }
 {
     let mut told = Vec::new(alloc);
     push_respelled_told(alloc, &mut told, refused)?;
+    if told.is_empty() {
+        push_deck_marker_told(alloc, &mut told, refused)?;
+    }
     Ok(told)
 }
 

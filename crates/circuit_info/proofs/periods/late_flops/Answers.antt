@@ -1,4 +1,4 @@
-use Rattle.std.proofs.Common.{rules, sym, ap, ◌∙◌}
+use Rattle.std.proofs.Common.{rules}
 use Rattle.circuit_info.specs.Paths.{HasLoop, HasNoLoop}
 use Rattle.circuit_info.proofs.LatePaths.{loop_found, loop_free}
 use Rattle.circuit_info.proofs.periods.late_flops.Goals as goal

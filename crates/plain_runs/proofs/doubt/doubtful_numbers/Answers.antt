@@ -14,14 +14,14 @@ loop-place-preserved c =
           rw (w.numbers-is, w.in_ok-push.ensures.items)
           (numbered_more (is_doubtful_at c.args.doubt c.args.design.now (seen c.args.lines.now)) c.loop-place.place c.loop-place.numbers.items
           c.loop-place.invariant
-          (ap (is_doubtful c.args.doubt c.args.design.now)
+          (ap (is_doubtful c.args.doubt c.args.design.now (seen c.args.lines.now))
           (get_or-map (λ (line : Bor (List ℕ)). line.now) c.args.lines.now c.loop-place.place _ [] c.loop-place-test.true)
           ∙ sym c.is_about.ensures ∙ w.if-is_about.true))
       | else-is_about w ↦
           rw w.numbers-is
           (numbered_same (is_doubtful_at c.args.doubt c.args.design.now (seen c.args.lines.now)) c.loop-place.place c.loop-place.numbers.items
           c.loop-place.invariant
-          (ap (is_doubtful c.args.doubt c.args.design.now)
+          (ap (is_doubtful c.args.doubt c.args.design.now (seen c.args.lines.now))
           (get_or-map (λ (line : Bor (List ℕ)). line.now) c.args.lines.now c.loop-place.place _ [] c.loop-place-test.true)
           ∙ sym c.is_about.ensures ∙ w.if-is_about.false))
     ]

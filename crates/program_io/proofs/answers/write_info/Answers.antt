@@ -1,5 +1,4 @@
 use Rattle.std.proofs.lemmas.Result.{err_from_is_err_and}
-use Rattle.std.proofs.Common.{refl}
 use Rattle.prepared_runs.specs.Source.{design_of_source, seen_source}
 use Rattle.program_io.specs.Answers.{IsAnswerOfInfo, just}
 use Rattle.program_io.proofs.AnswerEnds.{AnswerEndsBy-source, AnswerEndsBy-text, GoesOut-text, IsInfoAnswer-done, IsInfoAnswer-refused, WriteEndsBy-no_read, fault_of_run-no_read}
