@@ -68,20 +68,43 @@ fn with_table<'a>(
     Ok(command)
 }
 
+/// Returns the command with the options of a table, each of which may be absent and then has no value.
+pub(super) fn with_optional_table<'a>(
+    alloc: Global,
+    command: Command<'a>,
+    table: &'static [Described],
+) -> Result<Command<'a>, AllocError> {
+    let mut command = command;
+    for option in table {
+        let Described(name, takes, _, help) = *option;
+        command = command.arg(valued(alloc, name, takes, help)?)?;
+    }
+    Ok(command)
+}
+
 fn arg<'a>(alloc: Global, option: &'static Described) -> Result<Arg<'a>, AllocError> {
     let Described(name, takes, absent, help) = *option;
+    let arg = valued(alloc, name, takes, help)?;
+    Ok(match absent {
+        Absent::Refused => arg.required(true),
+        Absent::Nothing => arg,
+        Absent::Default(value) => arg.default_value(value),
+    })
+}
+
+fn valued<'a>(
+    alloc: Global,
+    name: &'static str,
+    takes: Takes,
+    help: &'static str,
+) -> Result<Arg<'a>, AllocError> {
     let arg = Arg::new(alloc, name).help(help);
     let arg = match takes {
         Takes::Nets => arg.num_args(1..),
         Takes::Fault => arg.num_args(1..=2),
         _ => arg.long(name),
     };
-    let arg = taking(arg, takes)?;
-    Ok(match absent {
-        Absent::Refused => arg.required(true),
-        Absent::Nothing => arg,
-        Absent::Default(value) => arg.default_value(value),
-    })
+    taking(arg, takes)
 }
 
 fn taking<'a>(arg: Arg<'a>, takes: Takes) -> Result<Arg<'a>, AllocError> {

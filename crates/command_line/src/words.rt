@@ -123,7 +123,7 @@ fn order_matched<'a>(alloc: Global, matches: &ArgMatches<'a>) -> Result<Order<'a
         Some(("stimuli", options)) => stimuli::order_given(alloc, options),
         Some(("info", options)) => Ok(info::order_given(options)),
         Some(("cone", options)) => Ok(cone::order_given(alloc, options)?),
-        Some(("diff", options)) => Ok(diff::order_given(alloc, options)?),
+        Some(("diff", options)) => diff::order_given(alloc, options),
         Some(("twin", options)) => Ok(twin::order_given(options)),
         Some(("check", options)) => Ok(check::order_given(options)),
         _ => Err(mistake(alloc, ErrorKind::MissingSubcommand, "a command is missing")?),
