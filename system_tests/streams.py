@@ -17,7 +17,7 @@ STIMULI = "stimuli --bench s27.bench --horizon 90 --clock G0=10 --hold G1=1 --pu
 CHECK = ["check", *RUN[1:]]
 INFO = "info --bench s27.bench".split()
 CONE = "cone --bench s27.bench G12 G14".split()
-DIFF = ("diff --net p --horizon 12 --first parity.bench --first-stimuli parity.stimuli "
+DIFF = ("diff --nets p --horizon 12 --first parity.bench --first-stimuli parity.stimuli "
         "--second bigger.bench --second-stimuli bigger.stimuli").split()
 TWIN = ("twin --net p --horizon 12 --first parity.bench --first-stimuli parity.stimuli "
         "--second bigger.bench --second-stimuli bigger.stimuli --second-schedule bigger.schedule").split()

@@ -20,10 +20,10 @@ const USAGE: &str = "nullsim diff --first <FILE> --second <FILE> --horizon <N> [
      nullsim diff --bench <FILE> --horizon <N> [OPTIONS]";
 
 const ENDS: &str = ends!(
-    "nullsim diff --horizon 12 --net p --first examples/parity.bench --first-stimuli examples/parity.stimuli --second examples/bigger.bench --second-stimuli examples/bigger.stimuli"
+    "nullsim diff --horizon 12 --nets p --first examples/parity.bench --first-stimuli examples/parity.stimuli --second examples/bigger.bench --second-stimuli examples/bigger.stimuli"
 );
 
-const NET: &str = "The nets to compare, by their names in both circuits, such as y,q;\n\
+const NETS: &str = "The nets to compare, by their names in both circuits, such as y,q;\n\
      without this option the outputs of both";
 
 const FROM: &str = "The first tick to compare: 0 up to the horizon";
@@ -31,7 +31,7 @@ const FROM: &str = "The first tick to compare: 0 up to the horizon";
 const EVERY: &str = "Compare only at multiples of this number of ticks: at least 1";
 
 static OPTIONS: [Described; 3] = [
-    Described("net", Takes::NetList, Absent::Nothing, NET),
+    Described("nets", Takes::NetList, Absent::Nothing, NETS),
     Described("from", Takes::Number, Absent::Default("0"), FROM),
     Described("every", Takes::Number, Absent::Default("1"), EVERY),
 ];
@@ -78,7 +78,7 @@ pub(super) fn order_given<'a>(alloc: Global, options: &ArgMatches<'a>) -> Result
     Ok(Order::Diff {
         first: side_given(alloc, options, &FIRST)?,
         second: side_given(alloc, options, &SECOND)?,
-        names: names_given(alloc, options, "net")?,
+        names: names_given(alloc, options, "nets")?,
         ticks: DiffTicks {
             horizon: number_given(options, "horizon"),
             from: number_given(options, "from"),

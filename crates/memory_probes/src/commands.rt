@@ -57,7 +57,7 @@ static LINES: [Line; 7] = [
     ),
     ("info --bench e.bench", INFO),
     (
-        "diff --net y,e --horizon 12 --first e.bench --first-delays e.delays --first-stimuli e.stimuli \
+        "diff --nets y,e --horizon 12 --first e.bench --first-delays e.delays --first-stimuli e.stimuli \
           --second e.bench --second-delays e.delays --second-stimuli e.stimuli",
         NO_DIFFERENCE,
     ),
