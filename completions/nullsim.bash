@@ -24,7 +24,7 @@ _nullsim_options() {
             --schedule=FILE --seed=N --picks=N --help) ;;
         why) options=(--bench=FILE --verbose --delays=FILE --stimuli=FILE --delay=N --period=N --net=NAME --at=N --help) ;;
         stimuli) options=(--bench=FILE --verbose --horizon=N --clock=NAME --hold=NAME --pulse=NAME --every=N --seed=N
-            --help) ;;
+            --only --help) ;;
         info) options=(--bench=FILE --verbose --delays=FILE --delay=N --period=N --help) ;;
         cone) options=(--bench=FILE --verbose --help) ;;
         diff) options=(--horizon=N --verbose --net=NAMES --from=N --every=N --first=FILE --first-delays=FILE

@@ -13,7 +13,7 @@ PLAIN = ["plain", *RUN[1:]]
 DRAW = ["draw", *RUN[1:], "--svg"]
 TRACE = ["trace", *RUN[1:]]
 WHY = "why --bench s27.bench --stimuli s27.stimuli --net G17 --at 30".split()
-STIMULI = "stimuli --bench s27.bench --horizon 90 --clock G0=10 --hold G1=1 --pulse G2=0..12".split()
+STIMULI = "stimuli --bench s27.bench --horizon 90 --clock G0=10 --hold G1=1 --pulse G2=0..12 --pulse G2=40..50".split()
 CHECK = ["check", *RUN[1:]]
 INFO = "info --bench s27.bench".split()
 CONE = "cone --bench s27.bench G12 G14".split()

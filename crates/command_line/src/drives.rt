@@ -8,21 +8,28 @@ use logic3::Value;
 use std::alloc::{AllocError, Global};
 
 const CLOCK: &str = "An input that is 0 at tick 0 and then changes every HALF ticks, at\n\
-     least 1, such as clk=5; may be given for several inputs";
+     least 1, such as clk=5. With a tick FIRST, as in clk=5,2, it is 0\n\
+     before that and changes there, and then every HALF ticks. May be\n\
+     given for several inputs";
 
 const HOLD: &str = "An input that has one value throughout: 0, 1 or x, such as en=1;\n\
      may be given for several inputs";
 
 const PULSE: &str = "An input that is 1 from tick FROM up to but not including a later\n\
      tick TO, and 0 otherwise, such as reset=0..12; may be given for\n\
-     several inputs";
+     several inputs, and for one input again: it is 1 in each pulse";
 
 const NO_DRIVE: &str =
-    "what drives an input must have the form '--clock <NAME=HALF>', '--hold <NAME=VALUE>' or\n\
-     '--pulse <NAME=FROM..TO>', such as --clock clk=5 --hold en=1 --pulse reset=0..12";
+    "what drives an input must have the form '--clock <NAME=HALF>', '--clock <NAME=HALF,FIRST>',\n\
+     '--hold <NAME=VALUE>' or '--pulse <NAME=FROM..TO>', such as --clock clk=5 --hold en=1 --pulse reset=0..12";
 
 pub(super) static DRIVES: [Described; 3] = [
-    Described("clock", Takes::Drives("NAME=HALF"), Absent::Nothing, CLOCK),
+    Described(
+        "clock",
+        Takes::Drives("NAME=HALF[,FIRST]"),
+        Absent::Nothing,
+        CLOCK,
+    ),
     Described("hold", Takes::Drives("NAME=VALUE"), Absent::Nothing, HOLD),
     Described(
         "pulse",
@@ -63,9 +70,7 @@ fn all_given<'a>(
 fn driven_by<'a>(option: &str, given: &'a str) -> Option<Driven<'a>> {
     let (name, rest) = given.split_once('=')?;
     let drive = match option {
-        "clock" => Drive::Clock {
-            half: rest.parse().ok()?,
-        },
+        "clock" => clock_of(rest)?,
         "hold" => Drive::Hold(value_of(rest)?),
         _ => pulse_of(rest)?,
     };
@@ -73,6 +78,18 @@ fn driven_by<'a>(option: &str, given: &'a str) -> Option<Driven<'a>> {
         name: name.as_bytes(),
         drive,
     })
+}
+
+fn clock_of(word: &str) -> Option<Drive> {
+    match word.split_once(',') {
+        Some((half, first)) => Some(Drive::ClockFrom {
+            half: half.parse().ok()?,
+            first: first.parse().ok()?,
+        }),
+        None => Some(Drive::Clock {
+            half: word.parse().ok()?,
+        }),
+    }
 }
 
 fn value_of(word: &str) -> Option<Value> {

@@ -62,11 +62,12 @@ static OPTIONS: [(&str, &str); 3] = [
 ];
 
 /// The options of one command alone.
-static ELSEWHERE: [(&str, &str); 8] = [
+static ELSEWHERE: [(&str, &str); 9] = [
     ("counts", "run"),
     ("clock", "stimuli"),
     ("hold", "stimuli"),
     ("pulse", "stimuli"),
+    ("only", "stimuli"),
     ("at", "why"),
     ("step", "draw"),
     ("svg", "draw"),

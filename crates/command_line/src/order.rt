@@ -48,7 +48,7 @@ pub enum Order<'a> {
     /// Write a stimulus text for the inputs of a netlist.
     Stimuli {
         bench: &'a str,
-        /// What drives inputs by name. The values of all others are drawn.
+        /// What drives inputs by name. The values of all others are drawn, if any are.
         drives: Vec<Driven<'a>>,
         draws: Draws,
         /// The last tick of the text: at most 10,000,000.

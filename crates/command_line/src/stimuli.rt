@@ -20,13 +20,17 @@ const ENDS: &str = ends!(
 
 const EVERY: &str = "The number of ticks between drawn values: at least 1";
 
+const ONLY: &str = "Give values only to inputs that --clock, --hold or --pulse names: no\n\
+     values are drawn, and the other inputs have no lines, so they are X";
+
 const SEED: &str = "The seed of the drawn values: 0 to 18446744073709551615";
 
 static CIRCUIT: [Described; 1] = [Described("bench", Takes::File, Absent::Refused, BENCH)];
 
-static DRAWS: [Described; 2] = [
+static DRAWS: [Described; 3] = [
     Described("every", Takes::Number, Absent::Default("10"), EVERY),
     Described("seed", Takes::Number, Absent::Default("0"), SEED),
+    Described("only", Takes::Nothing, Absent::Nothing, ONLY),
 ];
 
 /// Returns the subcommand with its options.
@@ -54,6 +58,7 @@ pub(super) fn order_given<'a>(alloc: Global, options: &ArgMatches<'a>) -> Result
         draws: Draws {
             seed: number_given(options, "seed"),
             every: number_given(options, "every"),
+            only: options.get_flag("only"),
         },
         horizon: number_given(options, "horizon"),
     })

@@ -8,7 +8,7 @@ use Rattle.netlist.specs.Netlist.{IsNetlist, NetView, NetlistView, net_at, net_n
 use Rattle.netlist.proofs.CallerLemmas.{All-from_no_position, AllPairs-tail, HasDistinctNames, bytes_eq-other, bytes_eq-same, names-differ, net_at-named, no_net}
 use Rattle.netlist.specs.Part.{is_input}
 use Rattle.timing_text.specs.Words.{find_net}
-use Rattle.drawn_stimuli.specs.Inputs.{DriveView, InputView, drive_named, inputs_from, inputs_of, is_drawn, source_of}
+use Rattle.drawn_stimuli.specs.Inputs.{DriveView, InputView, drives_named, inputs_from, inputs_of, is_drawn}
 
 -- no two inputs have one name
 abbrev pub HasOwnName : InputView → InputView → Type 0
@@ -26,10 +26,10 @@ inputs-All P drives place (net ∷ nets) each =
     go (is_input net.part) refl (λ next. inputs-All P drives next nets (All-tail (λ (net : NetView). is_input net.part ≡ true → P net.name) net nets each))
   where
     next : ℕ
-    next = cond (is_drawn (source_of (drive_named drives net.name) place)) (place + 1) place
+    next = cond (is_drawn (drives_named drives net.name)) (place + 1) place
 
     own : InputView
-    own = record { name = net.name; source = source_of (drive_named drives net.name) place }
+    own = record { name = net.name; drives = drives_named drives net.name; place = place }
 
     go : (b : Bool) → is_input net.part ≡ b →
         ((next : ℕ) → All (λ (input : InputView). P input.name) (inputs_from drives next nets)) →
@@ -46,10 +46,10 @@ distinct_from drives place (net ∷ nets) distinct =
     go (is_input net.part) (λ next. distinct_from drives next nets (AllPairs-tail (λ (earlier later : NetView). earlier.name ≢ later.name) net nets distinct))
   where
     next : ℕ
-    next = cond (is_drawn (source_of (drive_named drives net.name) place)) (place + 1) place
+    next = cond (is_drawn (drives_named drives net.name)) (place + 1) place
 
     own : InputView
-    own = record { name = net.name; source = source_of (drive_named drives net.name) place }
+    own = record { name = net.name; drives = drives_named drives net.name; place = place }
 
     others : All (λ (other : NetView). is_input other.part ≡ true → bytes_eq net.name other.name ≡ false) nets
     others = λ k d within _. bytes_eq-other net.name (get_or nets k d).name (distinct 0 (suc k) d (omega arith) (omega arith))
@@ -108,10 +108,10 @@ names_of_inputs drives place [] = refl
 names_of_inputs drives place (net ∷ nets) = go (is_input net.part) (λ next. names_of_inputs drives next nets)
   where
     next : ℕ
-    next = cond (is_drawn (source_of (drive_named drives net.name) place)) (place + 1) place
+    next = cond (is_drawn (drives_named drives net.name)) (place + 1) place
 
     own : InputView
-    own = record { name = net.name; source = source_of (drive_named drives net.name) place }
+    own = record { name = net.name; drives = drives_named drives net.name; place = place }
 
     go : (b : Bool) →
         ((next : ℕ) → map (λ (input : InputView). input.name) (inputs_from drives next nets)

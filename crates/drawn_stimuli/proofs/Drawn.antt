@@ -12,7 +12,7 @@ use Rattle.drawn_stimuli.specs.Inputs.{DriveView, InputView, drawn_count, first_
 use Rattle.drawn_stimuli.specs.StimulusText.{stimuli_text, lines_text, rounds_of}
 
 -- drives that were all kept have no fault
-pub all_kept : (found : Option DriveFault) (kept held : List (Option Drive)) → Ok kept ≡ option_map_or Err found (Ok held) → (found ≡ None) × (kept ≡ held)
+pub all_kept : (found : Option DriveFault) (kept held : List (List Drive)) → Ok kept ≡ option_map_or Err found (Ok held) → (found ≡ None) × (kept ≡ held)
 all_kept None kept held same = let inside : kept ≡ held = (cc) in (refl, inside)
 all_kept (Some fault) kept held same = (cc)
 

@@ -87,7 +87,7 @@ read_changes netlist changes can order = read_from netlist [] 1 changes can orde
 
 module _ (rounds : Rounds) where
   abbrev signal : InputView → ℕ → Value
-  signal input = signal_of rounds input.source
+  signal input = signal_of rounds input.drives input.place
 
   abbrev named : InputView → Change → NamedChange
   named input change = record { name = input.name; change = change }

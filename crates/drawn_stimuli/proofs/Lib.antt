@@ -9,3 +9,4 @@ mod ReadBack
 mod DrivesCount
 mod Words
 mod StimuliTexts
+mod OnlyNamed

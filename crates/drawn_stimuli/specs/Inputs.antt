@@ -1,19 +1,16 @@
 -- What drives each input of a netlist, and the faults of drives.
-use Rattle.std.specs.Prelude.{◌≡◌, ℕ, ◌+◌, ◌<◌, ◌==◌, nat_lt, not, Bool, true, false, if◌then◌else◌, List, [], ◌∷◌, ◌++◌, length, filter, map, count_by, Option, None, Some, Result, Ok, Err, MatchResult, bytes_eq}
-use Rattle.std.specs.List.{fold}
-use Rattle.std.specs.Option.{is_some, option_map_or, option_or}
-use Rattle.netlist.specs.Netlist.{NetView, NetlistView, net_at}
+use Rattle.std.specs.Prelude.{◌≡◌, ℕ, ◌+◌, ◌<◌, ◌==◌, ◌&&◌, nat_lt, not, All, Bool, true, false, if◌then◌else◌, List, [], ◌∷◌, ◌++◌, length, filter, map, count_by, Option, None, Some, Result, Ok, Err, MatchResult, bytes_eq}
+use Rattle.std.specs.Option.{option_map_or, option_or}
+use Rattle.netlist.specs.Netlist.{NetView, NetlistView, most_nets, net_at}
 use Rattle.netlist.specs.Part.{is_input}
 use Rattle.timing_text.specs.Words.{find_net}
 use Rattle.drawn_stimuli.specs.declared.drive.Drive.{Drive}
-use Rattle.drawn_stimuli.specs.declared.drive.Drive.TheVariants.{Clock, Hold, Pulse}
+use Rattle.drawn_stimuli.specs.declared.drive.Drive.TheVariants.{Clock, ClockFrom, Hold, Pulse}
 use Rattle.drawn_stimuli.specs.declared.drive.Driven.{Driven}
 use Rattle.drawn_stimuli.specs.declared.fault.DriveFault.{DriveFault}
 use Rattle.drawn_stimuli.specs.declared.fault.DriveFault.TheVariants.{NotAnInput, Twice, BadHalf, BadPulse}
 use Rattle.drawn_stimuli.specs.declared.input.InputNet.{InputNet}
-use Rattle.drawn_stimuli.specs.declared.input.Source.{Source}
-use Rattle.drawn_stimuli.specs.declared.input.Source.TheVariants.{Named, Drawn}
-use Rattle.drawn_stimuli.specs.Signals.{IsSource}
+use Rattle.drawn_stimuli.specs.Signals.{IsDrive, is_pulse}
 
 -- ---- drives
 
@@ -25,14 +22,13 @@ pub record DriveView : Type 0 where
 abbrev pub seen_drive : Driven → DriveView
 seen_drive driven = record { name = driven.name.now; drive = driven.drive }
 
--- what drives give the input with this name
-abbrev pub drive_named : List DriveView → List ℕ → Option Drive
-drive_named drives name =
-    fold (λ (found : Option Drive) (driven : DriveView). if bytes_eq driven.name name then Some driven.drive else found) None drives
+-- the drives of the input with this name, in order
+abbrev pub drives_named : List DriveView → List ℕ → List Drive
+drives_named drives name = map (λ (driven : DriveView). driven.drive) (filter (λ (driven : DriveView). bytes_eq driven.name name) drives)
 
--- the drive of each net
-abbrev pub drives_of_nets : List DriveView → List NetView → List (Option Drive)
-drives_of_nets drives nets = map (λ (net : NetView). drive_named drives net.name) nets
+-- the drives of each net
+abbrev pub drives_of_nets : List DriveView → List NetView → List (List Drive)
+drives_of_nets drives nets = map (λ (net : NetView). drives_named drives net.name) nets
 
 -- whether an input has this name
 abbrev pub names_input : NetlistView → List ℕ → Bool
@@ -41,18 +37,20 @@ names_input netlist name = option_map_or (λ (net : NetView). is_input net.part)
 -- the fault of a drive at a place, regardless of the others: half a clock period, and a pulse, are at least one tick long
 abbrev pub form_fault : ℕ → Drive → Option DriveFault
 form_fault place (Clock half) = if half == 0 then Some (BadHalf place) else None
+form_fault place (ClockFrom half first) = if half == 0 then Some (BadHalf place) else None
 form_fault place (Hold value) = None
 form_fault place (Pulse from to) = if nat_lt from to then None else Some (BadPulse place)
 
--- half a clock period is at least one tick
-abbrev pub IsDrive : Drive → Type 0
-IsDrive drive = IsSource (Named drive)
+-- whether an input that has these drives may have this one too: a pulse may follow pulses
+abbrev pub can_follow : List Drive → Drive → Bool
+can_follow [] drive = true
+can_follow (first ∷ others) drive = is_pulse first && is_pulse drive
 
 -- the fault of a drive that comes after these earlier ones, if any
 abbrev pub fault_behind : NetlistView → List DriveView → DriveView → Option DriveFault
 fault_behind netlist earlier driven =
     if not (names_input netlist driven.name) then Some (NotAnInput (length earlier))
-    else if is_some (drive_named earlier driven.name) then Some (Twice (length earlier))
+    else if not (can_follow (drives_named earlier driven.name) driven.drive) then Some (Twice (length earlier))
     else form_fault (length earlier) driven.drive
 
 -- the first fault of drives that come after these earlier ones
@@ -65,33 +63,34 @@ first_fault netlist earlier (driven ∷ drives) =
 abbrev pub FailsBy : {A : Type 0} → Option DriveFault → Result A DriveFault → Type 0
 FailsBy fault result = MatchResult result (λ _. fault ≡ None) (λ other. fault ≡ Some other)
 
--- the drive of each net, or the first fault
-abbrev pub drives_or_fault : NetlistView → List DriveView → Result (List (Option Drive)) DriveFault
+-- the drives of each net, or the first fault
+abbrev pub drives_or_fault : NetlistView → List DriveView → Result (List (List Drive)) DriveFault
 drives_or_fault netlist drives = option_map_or Err (first_fault netlist [] drives) (Ok (drives_of_nets drives netlist.nets))
 
 -- ---- inputs
 
--- an input by its name, and where its values come from
+-- an input: its name, its drives, and the number of inputs before it that are drawn
 pub record InputView : Type 0 where
   pub name : List ℕ
-  pub source : Source
+  pub drives : List Drive
+  pub place : ℕ
 
-abbrev pub is_drawn : Source → Bool
-is_drawn (Named drive) = false
-is_drawn (Drawn place) = true
+-- an input that no drive names is drawn
+abbrev pub is_drawn : List Drive → Bool
+is_drawn [] = true
+is_drawn (first ∷ others) = false
 
--- an input that no drive names is drawn, and has a place among those that are drawn
-abbrev pub source_of : Option Drive → ℕ → Source
-source_of None place = Drawn place
-source_of (Some drive) place = Named drive
+-- the place after that of an input with these drives
+abbrev pub next_place : ℕ → List Drive → ℕ
+next_place place drives = if is_drawn drives then place + 1 else place
 
--- the inputs among nets with their drives, in order; the first that is drawn has this place
+-- the inputs among nets with their drives, in order; the first has this place
 abbrev pub inputs_from : List DriveView → ℕ → List NetView → List InputView
 inputs_from drives place [] = []
 inputs_from drives place (net ∷ nets) =
-    let source = source_of (drive_named drives net.name) place in
+    let own = drives_named drives net.name in
     if not (is_input net.part) then inputs_from drives place nets
-    else record { name = net.name; source = source } ∷ inputs_from drives (if is_drawn source then place + 1 else place) nets
+    else record { name = net.name; drives = own; place = place } ∷ inputs_from drives (next_place place own) nets
 
 -- the names of the inputs of a netlist, in order
 abbrev pub input_names : NetlistView → List (List ℕ)
@@ -103,14 +102,15 @@ inputs_of netlist drives = inputs_from drives 0 netlist.nets
 
 -- the number of them that are drawn
 abbrev pub drawn_count : List InputView → ℕ
-drawn_count inputs = count_by (λ (input : InputView). is_drawn input.source) inputs
+drawn_count inputs = count_by (λ (input : InputView). is_drawn input.drives) inputs
 
 -- ---- inputs by net number
 
 abbrev pub seen_input : NetlistView → InputNet → InputView
-seen_input netlist input = record { name = (net_at netlist input.net).name; source = input.source }
+seen_input netlist input = record { name = (net_at netlist input.net).name; drives = input.drives.now; place = input.place }
 
--- the net exists, and the source is valid
+-- the net exists, and so do the drives and the place
 pub record IsInputNet (netlist : NetlistView) (input : InputNet) : Type 0 where
   pub within : input.net < length netlist.nets
-  pub source : IsSource input.source
+  pub drives : All IsDrive input.drives.now
+  pub place : input.place < most_nets

@@ -1,49 +1,74 @@
--- The value that an input has at each tick: by a drive of its own, or drawn.
-use Rattle.std.specs.Prelude.{ℕ, ◌+◌, ◌*◌, ◌/◌, ◌%◌, ◌<◌, ◌≤◌, ◌==◌, ◌&&◌, nat_le, nat_lt, Bool, true, false}
+-- The value that an input has at each tick: by drives of its own, or drawn.
+use Rattle.std.specs.Prelude.{ℕ, ◌+◌, ◌-◌, ◌*◌, ◌/◌, ◌%◌, ◌<◌, ◌≤◌, ◌==◌, ◌&&◌, nat_le, nat_lt, if◌then◌else◌, Bool, true, false, List, [], ◌∷◌}
+use Rattle.std.specs.List.{list_any}
 use Rattle.logic3.specs.declared.value.Value.{Value}
-use Rattle.logic3.specs.declared.value.Value.TheVariants.{Zero, One}
+use Rattle.logic3.specs.declared.value.Value.TheVariants.{Zero, One, Unknown}
 use Rattle.rand_core.specs.Pcg32Seed.{pcg32_seed}
 use Rattle.rand_pcg.specs.Lcg.{advance}
 use Rattle.rand_pcg.specs.Pcg.{multiplier_64, pcg32, pcg32_of_seed}
 use Rattle.netlist.specs.Netlist.{most_nets}
 use Rattle.drawn_stimuli.specs.declared.drive.Drive.{Drive}
-use Rattle.drawn_stimuli.specs.declared.drive.Drive.TheVariants.{Clock, Hold, Pulse}
+use Rattle.drawn_stimuli.specs.declared.drive.Drive.TheVariants.{Clock, ClockFrom, Hold, Pulse}
 use Rattle.drawn_stimuli.specs.declared.drive.Rounds.{Rounds}
-use Rattle.drawn_stimuli.specs.declared.input.Source.{Source}
-use Rattle.drawn_stimuli.specs.declared.input.Source.TheVariants.{Named, Drawn}
+
+-- ---- drives
 
 abbrev pub bit : Bool → Value
 bit true = One
 bit false = Zero
 
--- a clock is 0 in its first half period, then 1 in every second one; a pulse is 1 from its first tick up to but not including its
--- last
+-- whether a tick is in a pulse: from its first tick up to but not including its last
+abbrev pub in_pulse : Drive → ℕ → Bool
+in_pulse (Clock half) tick = false
+in_pulse (ClockFrom half first) tick = false
+in_pulse (Hold value) tick = false
+in_pulse (Pulse from to) tick = nat_le from tick && nat_lt tick to
+
+-- a clock is 0 in its first half period, then 1 in every second one; with a first change it is 0 before that, then 1 for the next
+-- half period and for every second one after that; a pulse is 1 at its ticks
 abbrev pub drive_value : Drive → ℕ → Value
 drive_value (Clock half) tick = bit (tick / half % 2 == 1)
+drive_value (ClockFrom half first) tick = bit (nat_le first tick && (tick - first) / half % 2 == 0)
 drive_value (Hold value) tick = value
-drive_value (Pulse from to) tick = bit (nat_le from tick && nat_lt tick to)
+drive_value (Pulse from to) tick = bit (in_pulse (Pulse from to) tick)
+
+-- the value of the first drive of an input, but 1 at the ticks of the other ones, which are pulses
+abbrev pub drives_value : Drive → List Drive → ℕ → Value
+drives_value first others tick = if list_any (λ other. in_pulse other tick) others then One else drive_value first tick
+
+abbrev pub is_pulse : Drive → Bool
+is_pulse (Clock half) = false
+is_pulse (ClockFrom half first) = false
+is_pulse (Hold value) = false
+is_pulse (Pulse from to) = true
+
+-- half a clock period is at least one tick
+abbrev pub IsDrive : Drive → Type 0
+IsDrive (Clock half) = 0 < half
+IsDrive (ClockFrom half first) = 0 < half
+IsDrive _ = Unit {0}
+
+-- ---- draws
 
 -- the word that the generator of this seed gives after a number of others
 abbrev pub word_after : ℕ → ℕ → ℕ
 word_after seed others = (pcg32 (advance 64 multiplier_64 others (pcg32_of_seed (pcg32_seed 16 seed)))).0
 
--- at each multiple there is a round of words: the drawn input at this place takes the word at its place, and an odd word means 1
+-- at each multiple there is a round of words: the drawn input at this place takes the word at its place, and an odd word means 1;
+-- where only the named inputs have values, it is X throughout
 abbrev pub drawn_value : Rounds → ℕ → ℕ → Value
 drawn_value rounds place tick =
-    bit (word_after rounds.draws.seed (tick / rounds.draws.every * rounds.inputs + place) % 2 == 1)
-
--- the signal of a source
-abbrev pub signal_of : Rounds → Source → ℕ → Value
-signal_of rounds (Named drive) = drive_value drive
-signal_of rounds (Drawn place) = drawn_value rounds place
+    if rounds.draws.only then Unknown
+    else bit (word_after rounds.draws.seed (tick / rounds.draws.every * rounds.inputs + place) % 2 == 1)
 
 -- rounds of at most as many inputs as a netlist may have, at least one tick apart
 pub record AreRounds (rounds : Rounds) : Type 0 where
   pub apart : 0 < rounds.draws.every
   pub few : rounds.inputs ≤ most_nets
 
--- half a clock period is at least one tick, and a place is less than the number of inputs that a netlist may have
-abbrev pub IsSource : Source → Type 0
-IsSource (Named (Clock half)) = 0 < half
-IsSource (Named _) = Unit {0}
-IsSource (Drawn place) = place < most_nets
+-- ---- inputs
+
+-- the signal of an input with these drives, or without any the one that is drawn at this place
+abbrev pub signal_of : Rounds → List Drive → ℕ → ℕ → Value
+signal_of rounds [] place = drawn_value rounds place
+signal_of rounds (first ∷ others) place = drives_value first others

@@ -22,7 +22,7 @@ use Rattle.drawn_stimuli.specs.Inputs.{DriveView, InputView, drawn_count, first_
 -- the change of an input at a tick, if it changes there
 abbrev pub input_changes : Rounds → ℕ → InputView → List NamedChange
 input_changes rounds tick input =
-    map (λ change. record { name = input.name; change = change }) (change_at (signal_of rounds input.source) tick)
+    map (λ change. record { name = input.name; change = change }) (change_at (signal_of rounds input.drives input.place) tick)
 
 -- the changes at a tick, in the order of inputs
 abbrev pub tick_changes : Rounds → List InputView → ℕ → List NamedChange
@@ -58,7 +58,7 @@ rounds_of netlist drives draws = record { draws = draws; inputs = drawn_count (i
 
 -- the value of an input at a tick
 abbrev pub driven_value : NetlistView → List DriveView → Draws → InputView → ℕ → Value
-driven_value netlist drives draws input = signal_of (rounds_of netlist drives draws) input.source
+driven_value netlist drives draws input = signal_of (rounds_of netlist drives draws) input.drives input.place
 
 -- the changes of the inputs of a netlist that the text contains
 abbrev pub drawn_stimuli : NetlistView → List DriveView → Draws → ℕ → List NamedChange

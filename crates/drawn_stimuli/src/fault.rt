@@ -17,7 +17,7 @@ pub enum DriveFault {
     BadEvery,
     /// No input has the name.
     NotAnInput { place: usize },
-    /// An earlier drive names the same input.
+    /// An earlier drive names the same input, and not both are pulses.
     Twice { place: usize },
     /// The clock would change every 0 ticks.
     BadHalf { place: usize },

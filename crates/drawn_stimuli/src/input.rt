@@ -1,29 +1,23 @@
 //! The inputs of a netlist, and what drives each.
-ghost use Rattle.std.specs.Prelude.{◌≡◌, ◌≢◌, ◌<◌, ◌≤◌, List, length, map, replicate, All, MatchOption, None, Some, Ok, Err, IfOk, IfSome, true, false};
+ghost use Rattle.std.specs.Prelude.{◌≡◌, ◌≢◌, ◌<◌, ◌≤◌, List, [], length, map, replicate, All, MatchOption, None, Some, Ok, Err, IfOk, true, false};
 ghost use Rattle.std.specs.Result.{result_map_both};
 ghost use Rattle.netlist.specs.Netlist.{net_named, most_nets};
-ghost use Rattle.drawn_stimuli.specs.Signals.{IsSource};
-ghost use Rattle.drawn_stimuli.specs.Inputs.{DriveView, FailsBy, IsDrive, IsInputNet, drives_of_nets, drives_or_fault, fault_behind, form_fault, inputs_of, is_drawn, names_input, seen_drive, seen_input, source_of};
+ghost use Rattle.drawn_stimuli.specs.Signals.{IsDrive, is_pulse};
+ghost use Rattle.drawn_stimuli.specs.Inputs.{DriveView, FailsBy, IsInputNet, can_follow, drives_of_nets, drives_or_fault, fault_behind, form_fault, inputs_of, is_drawn, names_input, next_place, seen_drive, seen_input};
 
 use crate::drive::{Drive, Driven};
 use crate::fault::DriveFault;
 use netlist::Netlist;
 use std::alloc::{AllocError, Global};
 
-/// Where the values of an input come from.
-#[derive(Clone, Copy)]
-pub(crate) enum Source {
-    /// A drive of its own.
-    Named(Drive),
-    /// The draws; the input has this place among those that are drawn.
-    Drawn { place: u32 },
-}
-
 /// An input by its net number, and where its values come from.
 #[derive(Clone, Copy)]
-pub(crate) struct InputNet {
+pub(crate) struct InputNet<'d> {
     pub net: u32,
-    pub source: Source,
+    /// Its drives: none if it is drawn, and several only if all are pulses.
+    pub drives: &'d [Drive],
+    /// The number of inputs before it that are drawn.
+    pub place: u32,
 }
 
 /// Returns the number of the input with this name, if any.
@@ -46,18 +40,37 @@ fn form_fault(place: usize, drive: Drive) -> Option<DriveFault>
 {
     match drive {
         Drive::Clock { half } if half == 0 => Some(DriveFault::BadHalf { place }),
+        Drive::ClockFrom { half, .. } if half == 0 => Some(DriveFault::BadHalf { place }),
         Drive::Pulse { from, to } if from >= to => Some(DriveFault::BadPulse { place }),
-        Drive::Clock { .. } | Drive::Hold(_) | Drive::Pulse { .. } => None,
+        Drive::Clock { .. } | Drive::ClockFrom { .. } | Drive::Hold(_) | Drive::Pulse { .. } =>
+            None,
     }
 }
 
-/// Returns `None` for each of `nets` nets.
-fn no_drives(alloc: Global, nets: u32) -> Result<Vec<Option<Drive>>, AllocError>
-    ensures { IfOk result (λ kept. kept.items ≡ replicate nets None) }
+/// Returns whether a drive is a pulse.
+fn is_pulse(drive: Drive) -> bool
+    ensures { result ≡ is_pulse drive }
+{
+    matches!(drive, Drive::Pulse { .. })
+}
+
+/// Returns whether an input that has these drives may have this one too.
+fn can_follow(earlier: &[Drive], drive: Drive) -> bool
+    ensures { result ≡ can_follow earlier.now drive }
+{
+    match earlier.first() {
+        Some(first) => is_pulse(*first) && is_pulse(drive),
+        None => true,
+    }
+}
+
+/// Returns no drives for each of `nets` nets.
+fn no_drives(alloc: Global, nets: u32) -> Result<Vec<Vec<Drive>>, AllocError>
+    ensures { IfOk result (λ kept. map (λ drives. drives.items) kept.items ≡ replicate nets []) }
 {
     let mut kept = Vec::new(alloc);
     for _net in 0..nets {
-        kept.push(None)?;
+        kept.push(Vec::new(alloc))?;
     }
     Ok(kept)
 }
@@ -65,21 +78,22 @@ fn no_drives(alloc: Global, nets: u32) -> Result<Vec<Option<Drive>>, AllocError>
 /// Returns the net of the drive at a place, or its fault, given the earlier drives by net number.
 fn net_to_drive(
     netlist: &Netlist,
-    kept: &[Option<Drive>],
+    kept: &[Vec<Drive>],
     place: usize,
     driven: &Driven<'_>,
 ) -> Result<u32, DriveFault>
     requires one_each { length kept.now ≡ length netlist.now.nets }
     ensures net { IfOk result (λ net. net_named netlist.now driven.now.name.now ≡ Some net) }
     ensures drive { IfOk result (λ _. IsDrive driven.now.drive) }
-    ensures fault { (earlier : List DriveView) → kept.now ≡ drives_of_nets earlier netlist.now.nets →
+    ensures fault { (earlier : List DriveView) → map (λ drives. drives.items) kept.now ≡ drives_of_nets earlier netlist.now.nets →
         length earlier ≡ place →
         FailsBy (fault_behind netlist.now earlier (seen_drive driven.now)) result }
 {
     let Some(net) = input_named(netlist, driven.name) else {
         return Err(DriveFault::NotAnInput { place });
     };
-    if kept[net as usize].is_some() {
+    let had = kept[net as usize].as_slice();
+    if !can_follow(had, driven.drive) {
         return Err(DriveFault::Twice { place });
     }
     if let Some(fault) = form_fault(place, driven.drive) {
@@ -88,57 +102,52 @@ fn net_to_drive(
     Ok(net)
 }
 
-/// Returns the drive of each net, by net number: `None` except for an input that one of the drives
-/// names.
+/// Returns the drives of each net, by net number: none except for an input that one of the drives names.
 pub(crate) fn drives_by_net(
     alloc: Global,
     netlist: &Netlist,
     drives: &[Driven<'_>],
-) -> Result<Vec<Option<Drive>>, DriveFault>
+) -> Result<Vec<Vec<Drive>>, DriveFault>
     ensures exact { result ≢ Err DriveFault.Memory →
-        result_map_both (λ kept. kept.items) (λ fault. fault) result
+        result_map_both (λ kept. map (λ drives. drives.items) kept.items) (λ fault. fault) result
         ≡ drives_or_fault netlist.now (map seen_drive drives.now) }
-    ensures drives { IfOk result (λ kept. All (λ drive. IfSome drive IsDrive) kept.items) }
+    ensures drives { IfOk result (λ kept. All (All IsDrive) (map (λ drives. drives.items) kept.items)) }
 {
     let mut kept = no_drives(alloc, netlist.nets())?;
     for (place, driven) in drives.iter().enumerate() {
         let net = net_to_drive(netlist, kept.as_slice(), place, driven)?;
-        kept[net as usize] = Some(driven.drive);
+        let own = &mut kept[net as usize];
+        own.push(driven.drive)?;
     }
     Ok(kept)
 }
 
-/// Returns the source of an input with this drive, or with this place among the drawn ones.
-fn source_of(drive: Option<Drive>, place: u32) -> Source
-    requires drive { IfSome drive IsDrive }
-    requires place { place < most_nets }
-    ensures source { result ≡ source_of drive place }
-    ensures is_source { IsSource result }
+/// Returns whether an input with these drives is drawn.
+pub(crate) fn is_drawn(drives: &[Drive]) -> bool
+    ensures { result ≡ is_drawn drives.now }
 {
-    match drive {
-        Some(drive) => Source::Named(drive),
-        None => Source::Drawn { place },
-    }
+    drives.is_empty()
 }
 
-/// Returns whether a source is drawn.
-pub(crate) fn is_drawn(source: Source) -> bool
-    ensures { result ≡ is_drawn source }
+/// Returns the place after that of an input with these drives.
+fn next_place(place: u32, drives: &[Drive]) -> u32
+    requires { place < most_nets }
+    ensures { result ≡ next_place place drives.now }
 {
-    matches!(source, Source::Drawn { .. })
+    if is_drawn(drives) { place + 1 } else { place }
 }
 
-/// Returns the inputs in order, each with its drive or its place among the drawn ones, given the
-/// drive of each net by number.
-pub(crate) fn inputs_of(
+/// Returns the inputs in order, each with its drives and its place among the drawn ones, given the
+/// drives of each net by number.
+pub(crate) fn inputs_of<'d>(
     alloc: Global,
     netlist: &Netlist,
-    drives: &[Option<Drive>],
-) -> Result<Vec<InputNet>, AllocError>
+    drives: &'d [Vec<Drive>],
+) -> Result<Vec<InputNet<'d>>, AllocError>
     requires one_each { length drives.now ≡ length netlist.now.nets }
-    requires drives { All (λ drive. IfSome drive IsDrive) drives.now }
+    requires drives { All (All IsDrive) (map (λ drives. drives.items) drives.now) }
     ensures inputs { IfOk result (λ inputs. (given : List DriveView) →
-        drives.now ≡ drives_of_nets given netlist.now.nets →
+        map (λ drives. drives.items) drives.now ≡ drives_of_nets given netlist.now.nets →
         map (seen_input netlist.now) inputs.items ≡ inputs_of netlist.now given) }
     ensures exist { IfOk result (λ inputs. All (IsInputNet netlist.now) inputs.items) }
     ensures few { IfOk result (λ inputs. length inputs.items ≤ most_nets) }
@@ -149,11 +158,13 @@ pub(crate) fn inputs_of(
         if !netlist.part(net).is_input() {
             continue;
         }
-        let source = source_of(drives[net as usize], drawn);
-        if is_drawn(source) {
-            drawn += 1;
-        }
-        inputs.push(InputNet { net, source })?;
+        let own = drives[net as usize].as_slice();
+        inputs.push(InputNet {
+            net,
+            drives: own,
+            place: drawn,
+        })?;
+        drawn = next_place(drawn, own);
     }
     Ok(inputs)
 }

@@ -1,6 +1,6 @@
 //! Facts about the definitions alone.
-ghost use Rattle.std.specs.Prelude.{◌≡◌, ℕ, ◌+◌, ◌≤◌, List, [], All, None, Some, Ok, map};
-ghost use Rattle.std.specs.List.{range_with_len};
+ghost use Rattle.std.specs.Prelude.{◌≡◌, ℕ, ◌+◌, ◌≤◌, List, [], ◌∷◌, All, None, Ok, map, true, false};
+ghost use Rattle.std.specs.List.{list_any, range_with_len};
 ghost use Rattle.rand_core.specs.Pcg32Seed.{pcg32_seed};
 ghost use Rattle.rand_core.specs.Steps.{first_words};
 ghost use Rattle.rand_pcg.specs.Pcg.{pcg32, pcg32_of_seed};
@@ -8,8 +8,9 @@ ghost use Rattle.logic3.specs.Wave.{changes_between};
 ghost use Rattle.netlist.specs.Netlist.{NetlistView};
 ghost use Rattle.timing_text.specs.Ranges.{most_ticks};
 ghost use Rattle.timing_text.specs.Stimuli.{stimuli_of};
-ghost use Rattle.drawn_stimuli.specs.Inputs.{DriveView, InputView, drive_named, first_fault, input_names, inputs_of};
-ghost use Rattle.drawn_stimuli.specs.Signals.{word_after};
+ghost use Rattle.drawn_stimuli.specs.declared.drive.Rounds.{Rounds};
+ghost use Rattle.drawn_stimuli.specs.Inputs.{DriveView, InputView, drives_named, first_fault, input_names, inputs_of, is_drawn};
+ghost use Rattle.drawn_stimuli.specs.Signals.{bit, in_pulse, is_pulse, signal_of, word_after};
 ghost use Rattle.drawn_stimuli.specs.StimulusText.{Drawing, changes_drawn, inputs_drawn, stimuli_drawn, text_drawn, value_drawn, value_read};
 
 /// The reader of stimuli accepts the text for its netlist, and reads from it the changes that it was
@@ -28,10 +29,23 @@ pub fn texts_read_back()
         value_read drawing input tick ≡ value_drawn drawing input tick) (inputs_drawn drawing) }
 {}
 
-/// If no drive is faulty, each takes effect: the input with its name has exactly this drive.
+/// If no drive is faulty, each takes effect. The input with the name of a clock or of a held value has
+/// exactly this drive. The input with the name of a pulse is 1 in each pulse with this name, and 0 elsewhere.
 pub fn drives_count()
-    ensures { (netlist : NetlistView) (drives : List DriveView) → first_fault netlist [] drives ≡ None →
-        All (λ (driven : DriveView). drive_named drives driven.name ≡ Some driven.drive) drives }
+    ensures alone { (netlist : NetlistView) (drives : List DriveView) → first_fault netlist [] drives ≡ None →
+        All (λ (driven : DriveView). is_pulse driven.drive ≡ false →
+        drives_named drives driven.name ≡ driven.drive ∷ []) drives }
+    ensures pulses { (netlist : NetlistView) (drives : List DriveView) → first_fault netlist [] drives ≡ None →
+        (rounds : Rounds) (place tick : ℕ) → All (λ (driven : DriveView). is_pulse driven.drive ≡ true →
+        signal_of rounds (drives_named drives driven.name) place tick
+        ≡ bit (list_any (λ drive. in_pulse drive tick) (drives_named drives driven.name))) drives }
+{}
+
+/// Where only the inputs that drives name have values, the text has no change of another input, which
+/// therefore is X.
+pub fn only_named()
+    ensures { (drawing : Drawing) → drawing.draws.only ≡ true → All (λ (input : InputView).
+        is_drawn input.drives ≡ true → changes_drawn drawing input ≡ []) (inputs_drawn drawing) }
 {}
 
 /// The words that are drawn are those of the generator, in order.

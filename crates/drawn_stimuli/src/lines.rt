@@ -31,18 +31,18 @@ fn push_change(text: &mut Vec<u8>, tick: u64, name: &[u8], value: Value) -> Resu
 fn push_input(
     text: &mut Vec<u8>,
     netlist: &Netlist,
-    input: InputNet,
+    input: &InputNet<'_>,
     rounds: Rounds,
     tick: u64,
 ) -> Result<(), AllocError>
     requires rounds { AreRounds rounds }
-    requires input { IsInputNet netlist.now input }
+    requires input { IsInputNet netlist.now input.now }
     requires tick { tick ≤ most_ticks }
     ensures { OnOk result (text.new.items
-        ≡ text.old.items ++ input_text rounds tick (seen_input netlist.now input)) }
+        ≡ text.old.items ++ input_text rounds tick (seen_input netlist.now input.now)) }
 {
-    let value = value_of(rounds, input.source, tick);
-    if value == value_before(rounds, input.source, tick) {
+    let value = value_of(rounds, input.drives, input.place, tick);
+    if value == value_before(rounds, input.drives, input.place, tick) {
         return Ok(());
     }
     push_change(text, tick, netlist.name(input.net), value)
@@ -52,7 +52,7 @@ fn push_input(
 pub(crate) fn push_tick(
     text: &mut Vec<u8>,
     netlist: &Netlist,
-    inputs: &[InputNet],
+    inputs: &[InputNet<'_>],
     rounds: Rounds,
     tick: u64,
 ) -> Result<(), AllocError>
@@ -63,7 +63,7 @@ pub(crate) fn push_tick(
         ≡ text.old.items ++ tick_text rounds (map (seen_input netlist.now) inputs.now) tick) }
 {
     for input in inputs {
-        push_input(text, netlist, *input, rounds, tick)?;
+        push_input(text, netlist, input, rounds, tick)?;
     }
     Ok(())
 }

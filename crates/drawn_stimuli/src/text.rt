@@ -25,14 +25,14 @@ use timing_text::Horizon;
 fn push_due(
     text: &mut Vec<u8>,
     netlist: &Netlist,
-    inputs: &[InputNet],
-    moving: &[InputNet],
+    inputs: &[InputNet<'_>],
+    moving: &[InputNet<'_>],
     rounds: Rounds,
     tick: u64,
 ) -> Result<(), AllocError>
     requires rounds { AreRounds rounds }
     requires inputs { All (IsInputNet netlist.now) inputs.now }
-    requires moving { moving.now ≡ filter (λ (input : TheInputNet). is_moving input.source) inputs.now }
+    requires moving { moving.now ≡ filter (λ (input : TheInputNet). is_moving input.drives.now) inputs.now }
     requires tick { tick ≤ most_ticks }
     ensures { OnOk result (text.new.items
         ≡ text.old.items ++ tick_text rounds (map (seen_input netlist.now) inputs.now) tick) }
@@ -48,7 +48,7 @@ fn push_due(
 fn lines_text(
     alloc: Global,
     netlist: &Netlist,
-    inputs: &[InputNet],
+    inputs: &[InputNet<'_>],
     rounds: Rounds,
     horizon: u64,
 ) -> Result<Vec<u8>, DriveFault>
@@ -74,20 +74,20 @@ fn lines_text(
 }
 
 /// Returns the number of drawn inputs.
-fn drawn_count(inputs: &[InputNet]) -> u64
+fn drawn_count(inputs: &[InputNet<'_>]) -> u64
     ensures count { (netlist : NetlistView) → result ≡ drawn_count (map (seen_input netlist) inputs.now) }
     ensures few { result ≤ length inputs.now }
 {
-    inputs.iter().filter(|input| is_drawn(input.source)).count() as u64
+    inputs.iter().filter(|input| is_drawn(input.drives)).count() as u64
 }
 
-/// Returns the stimulus text of a netlist: for each input that a drive names, the changes of that
-/// drive, and for each other input the drawn values. There is a line `TICK NAME VALUE` only where a
+/// Returns the stimulus text of a netlist: for each input that drives name, the changes that they
+/// give it, and for each other input the drawn values, if any are to be drawn. There is a line `TICK NAME VALUE` only where a
 /// value changes, from tick 0, before which each input is X, up to the horizon, in the order of ticks
 /// and then of inputs.
 ///
-/// Visits only the ticks at which a value may change. At each it takes a step for each input with a
-/// clock or a pulse, and at ticks of draws also for each other input.
+/// Visits only the ticks at which a value may change. At each it takes a step for each clock and each
+/// pulse, and at ticks of draws also for each other input.
 ///
 /// # Errors
 /// The first fault, in the order of [`DriveFault`], or [`DriveFault::Memory`] if an allocation fails.

@@ -101,7 +101,7 @@ pub(crate) static DRIVES: [Explanation; 6] = [
     },
     Explanation {
         name: "Twice",
-        meaning: "an earlier option is for the same input.",
+        meaning: "an earlier option is for the same input, and they aren't both pulses.",
         wanted: "only one of the two options",
         example: Some(Example {
             line: 0,

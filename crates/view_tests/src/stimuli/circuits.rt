@@ -36,6 +36,10 @@ pub(crate) fn text_of(
             drive: *drive,
         })?;
     }
-    let draws = Draws { seed, every };
+    let draws = Draws {
+        seed,
+        every,
+        only: false,
+    };
     Ok(stimuli_text(alloc, &netlist, drives.as_slice(), draws, horizon))
 }

@@ -3,7 +3,7 @@
 //! repository: an odd word is a 1. For the first seeds the words are, by their last bits, 0: 1110 1100 0010
 //! .., 1: 0010 1000 0010 1010 .., 7: 10100 .., 42: 0000 0101 1111 ...
 use crate::stimuli::circuits::{COUNTER, Drawn, INVERTER, NONE, THREE, text_of};
-use Drive::{Clock, Hold, Pulse};
+use Drive::{Clock, ClockFrom, Hold, Pulse};
 use Value::{One, Unknown, Zero};
 use drawn_stimuli::Drive;
 use logic3::Value;
@@ -21,7 +21,7 @@ type Row = (
     &'static [u8],
 );
 
-static DRIVEN: [Row; 14] = [
+static DRIVEN: [Row; 17] = [
     (
         INVERTER,
         &[(b"a", Clock { half: 3 })],
@@ -89,6 +89,39 @@ static DRIVEN: [Row; 14] = [
         )],
         NONE,
         4,
+        b"0 a 0\n",
+    ),
+    // Pulses of one input, the second in the first and beside the third.
+    (
+        INVERTER,
+        &[
+            (b"a", Pulse { from: 3, to: 5 }),
+            (b"a", Pulse { from: 4, to: 5 }),
+            (b"a", Pulse { from: 5, to: 6 }),
+            (b"a", Pulse { from: 0, to: 1 }),
+        ],
+        NONE,
+        9,
+        b"0 a 1\n1 a 0\n3 a 1\n6 a 0\n",
+    ),
+    (
+        INVERTER,
+        &[(b"a", ClockFrom { half: 4, first: 1 })],
+        NONE,
+        9,
+        b"0 a 0\n1 a 1\n5 a 0\n9 a 1\n",
+    ),
+    (
+        INVERTER,
+        &[(
+            b"a",
+            ClockFrom {
+                half: 1,
+                first: u64::MAX,
+            },
+        )],
+        NONE,
+        9,
         b"0 a 0\n",
     ),
     (INVERTER, &[(b"a", Hold(Unknown))], NONE, 9, b""),

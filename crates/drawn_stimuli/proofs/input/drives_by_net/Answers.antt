@@ -1,23 +1,36 @@
-use Rattle.std.proofs.Common.{◌∙◌, All, Option, None, Some, ap, map, replicate, subst, sym}
-use Rattle.std.specs.Prelude.{IfSome}
-use Rattle.std.proofs.lemmas.List.{drop_more}
-use Rattle.std.proofs.lemmas.List.Elements.{All-replicate, All-set}
-use Rattle.drawn_stimuli.specs.declared.drive.Drive.{Drive}
-use Rattle.drawn_stimuli.specs.Inputs.{IsDrive, seen_drive}
-use Rattle.drawn_stimuli.proofs.KeptDrives.{Kept-first, Kept-more}
+use Rattle.std.proofs.Common.{◌∙◌, ◌<◌, [], All, length, ap, map, replicate, subst, sym, arith}
+use Rattle.std.proofs.lemmas.List.{drop_more, length-map, map-set}
+use Rattle.std.proofs.lemmas.List.Elements.{All-nil, All-replicate}
+use Rattle.netlist.proofs.CallerLemmas.{net_at-named}
+use Rattle.drawn_stimuli.specs.Signals.{IsDrive}
+use Rattle.drawn_stimuli.specs.Inputs.{seen_drive}
+use Rattle.drawn_stimuli.proofs.KeptDrives.{All-kept, Kept-first, Kept-length, Kept-more, had-in}
 use Rattle.drawn_stimuli.proofs.input.drives_by_net.Goals as goal
 
 pub loop-place-init : goal.loop-place-init
 loop-place-init c =
-    let none = c.in_ok-kept.ensures ∙ ap (λ nets. replicate nets None) c.nets.ensures.nets in (
-      Kept-first c.args.netlist.now (map seen_drive c.args.drives.now) c.in_ok-kept.kept.items none,
-      subst (All (λ (drive : Option Drive). IfSome drive IsDrive)) (sym none) (All-replicate (λ (drive : Option Drive). IfSome drive IsDrive) _ None tt),
+    let none = c.in_ok-kept.ensures ∙ ap (λ nets. replicate nets []) c.nets.ensures.nets in (
+      Kept-first c.args.netlist.now (map seen_drive c.args.drives.now) _ none,
+      subst (All (All IsDrive)) (sym none) (All-replicate (All IsDrive) _ [] (All-nil IsDrive)),
     )
+
+pub index_mut-own-requires : goal.index_mut-own-requires
+index_mut-own-requires c =
+    let lengths = length-map c.loop-place.kept.items (λ drives. drives.items) in
+    let within = net_at-named c.args.netlist.now _ c.in_ok-net.net c.in_ok-net.ensures.net in
+    omega (arith, lengths, Kept-length c.loop-place.invariant.0, within.0)
 
 pub loop-place-preserved : goal.loop-place-preserved
 loop-place-preserved c =
+    let k = c.loop-place.invariant.0 in
+    let lengths = length-map c.loop-place.kept.items (λ drives. drives.items) in
+    let within = net_at-named c.args.netlist.now _ c.in_ok-net.net c.in_ok-net.ensures.net in
+    let room : c.in_ok-net.net < length c.loop-place.kept.items = omega (arith, lengths, Kept-length k, within.0) in
+    let place : c.in_ok-net.net < length (map (λ drives. drives.items) c.loop-place.kept.items) = omega (arith, lengths, room) in
+    let here = had-in (λ drives. drives.items) c.loop-place.kept.items room c.index_mut-own.ensures.value in
+    let held = ap (map (λ drives. drives.items)) c.as_slice.ensures.value ∙ k.held in
     let turn = ap (map seen_drive) (drop_more c.args.drives.now c.loop-place.place _ c.loop-place-test.true) in
-    let k = c.loop-place.invariant.0 in (
-      Kept-more k turn c.nets.ensures.well_formed.distinct c.in_ok-net.ensures.net (c.in_ok-net.ensures.fault k.earlier (c.as_slice.ensures.value ∙ k.held) k.count),
-      All-set (λ (drive : Option Drive). IfSome drive IsDrive) c.loop-place.kept.items c.in_ok-net.net (Some _) c.in_ok-net.ensures.drive c.loop-place.invariant.1,
+    rw (map-set, c.in_ok-push.ensures.items) (
+      Kept-more k turn c.nets.ensures.well_formed.distinct c.in_ok-net.ensures.net here (c.in_ok-net.ensures.fault k.earlier held k.count),
+      All-kept _ _ _ _ place here c.in_ok-net.ensures.drive c.loop-place.invariant.1,
     )

@@ -5,7 +5,7 @@ use Rattle.drawn_stimuli.proofs.input.inputs_of.Given as goal
 
 abbrev pub invariant-loop-net : goal.invariant-loop-net
 invariant-loop-net l =
-    ((given : List DriveView) → l.drives ≡ drives_of_nets given l.netlist.nets →
+    ((given : List DriveView) → map (λ drives. drives.items) l.drives ≡ drives_of_nets given l.netlist.nets →
     map (seen_input l.netlist) l.inputs.items ++ inputs_from given l.drawn (drop l.net l.netlist.nets) ≡ inputs_of l.netlist given)
     × All (IsInputNet l.netlist) l.inputs.items
     × (l.drawn ≤ l.net)

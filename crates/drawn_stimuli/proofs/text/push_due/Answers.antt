@@ -3,13 +3,13 @@ use Rattle.std.proofs.lemmas.List.Elements.{All-filter}
 use Rattle.drawn_stimuli.specs.declared.input.InputNet.{InputNet}
 use Rattle.drawn_stimuli.specs.Inputs.{IsInputNet, seen_input}
 use Rattle.drawn_stimuli.specs.StimulusText.{tick_text}
-use Rattle.drawn_stimuli.proofs.Quiet.{moves, moving_tick}
+use Rattle.drawn_stimuli.proofs.Quiet.{input_moves, moving_tick}
 use Rattle.drawn_stimuli.proofs.text.push_due.Goals as goal
 
 pub push_tick-requires-else-tick-rounds-eq0-clause-inputs : goal.push_tick-requires-else-tick-rounds-eq0-clause-inputs
 push_tick-requires-else-tick-rounds-eq0-clause-inputs c =
     subst (λ (moving : List InputNet). All (IsInputNet c.args.netlist.now) moving) (sym c.requires.moving)
-    (All-filter moves (IsInputNet c.args.netlist.now) c.args.inputs.now c.requires.inputs)
+    (All-filter input_moves (IsInputNet c.args.netlist.now) c.args.inputs.now c.requires.inputs)
 
 pub returns-else-tick-rounds-eq0 : goal.returns-else-tick-rounds-eq0
 returns-else-tick-rounds-eq0 c =

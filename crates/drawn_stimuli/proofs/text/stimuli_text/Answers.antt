@@ -14,7 +14,7 @@ returns-clause-exact c = λ some.
     let kept = all_kept _ _ _ (c.in_ok-by_net.ensures.exact (λ e. (cc))) in
     let inputs : List InputNet = c.as_slice-3.result.now in
     let same = c.as_slice-3.ensures.value in
-    let are = ap (map (seen_input netlist)) same ∙ c.in_ok-inputs.ensures.inputs drives (c.as_slice.ensures.value ∙ kept.1) in
+    let are = ap (map (seen_input netlist)) same ∙ c.in_ok-inputs.ensures.inputs drives (ap (map (λ drives. drives.items)) c.as_slice.ensures.value ∙ kept.1) in
     let counted = c.drawn_count.ensures.count netlist ∙ ap (λ inputs. drawn_count (map (seen_input netlist) inputs)) (c.as_slice-2.ensures.value ∙ sym same) in
     c.lines_text.ensures.exact some
     ∙ ap (λ ticks. unless_too_long TooLong Ok (lines_text (record { draws = c.args.draws; inputs = c.drawn_count.result }) (map (seen_input netlist) inputs) ticks)) c.ticks.ensures.ticks

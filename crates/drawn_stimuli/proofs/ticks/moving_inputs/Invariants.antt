@@ -6,5 +6,5 @@ use Rattle.drawn_stimuli.proofs.ticks.moving_inputs.Given as goal
 
 abbrev pub invariant-loop-input : goal.invariant-loop-input
 invariant-loop-input l =
-    l.moving.items ++ filter (λ (input : InputNet). is_moving input.source) (drop l.input-index l.inputs)
-    ≡ filter (λ (input : InputNet). is_moving input.source) l.inputs
+    l.moving.items ++ filter (λ (input : InputNet). is_moving input.drives.now) (drop l.input-index l.inputs)
+    ≡ filter (λ (input : InputNet). is_moving input.drives.now) l.inputs
