@@ -62,7 +62,7 @@ static OPTIONS: [(&str, &str); 3] = [
 ];
 
 /// The options of one command alone.
-static ELSEWHERE: [(&str, &str); 8] = [
+static ELSEWHERE: [(&str, &str); 9] = [
     ("counts", "run"),
     ("clock", "stimuli"),
     ("hold", "stimuli"),
@@ -71,6 +71,7 @@ static ELSEWHERE: [(&str, &str); 8] = [
     ("step", "draw"),
     ("svg", "draw"),
     ("to", "draw"),
+    ("no-idle", "trace"),
 ];
 
 /// The units that ticks don't have.
