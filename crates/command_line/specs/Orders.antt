@@ -19,7 +19,7 @@ abbrev pub options_on : Order → Side → Option SourceOptions
 options_on (Run options view counts) First = Some options
 options_on (Plain options view) First = Some options
 options_on (Draw options view form) First = Some options
-options_on (Trace options horizon) First = Some options
+options_on (Trace options horizon idle net) First = Some options
 options_on (Why options net tick) First = Some options
 options_on (Info options) First = Some options
 options_on (Check options horizon) First = Some options
@@ -53,7 +53,7 @@ abbrev pub last_tick : Order → Option ℕ
 last_tick (Run options view counts) = Some view.horizon
 last_tick (Plain options view) = Some view.horizon
 last_tick (Draw options view form) = Some view.horizon
-last_tick (Trace options horizon) = Some horizon
+last_tick (Trace options horizon idle net) = Some horizon
 last_tick (Why options net tick) = Some tick
 last_tick (Check options horizon) = Some horizon
 last_tick (Diff first second names ticks) = Some ticks.horizon
@@ -66,10 +66,15 @@ abbrev pub names_shown : Selection → List (List ℕ)
 names_shown (Named names) = seen_names names.items
 names_shown other = []
 
+abbrev pub name_shown : Option (Bor (List ℕ)) → List (List ℕ)
+name_shown None = []
+name_shown (Some name) = name.now ∷ []
+
 abbrev pub names_asked : Order → List (List ℕ)
 names_asked (Run options view counts) = names_shown view.show
 names_asked (Plain options view) = names_shown view.show
 names_asked (Draw options view form) = names_shown view.show
+names_asked (Trace options horizon idle net) = name_shown net
 names_asked (Why options net tick) = net.now ∷ []
 names_asked (Cone bench names) = seen_names names.items
 names_asked (Diff first second names ticks) = seen_names names.items

@@ -72,6 +72,7 @@ static ELSEWHERE: [(&str, &str); 9] = [
     ("step", "draw"),
     ("svg", "draw"),
     ("to", "draw"),
+    ("no-idle", "trace"),
 ];
 
 /// The units that ticks don't have.

@@ -2,7 +2,7 @@
 ghost use Rattle.std.specs.Prelude.{◌≡◌};
 ghost use Rattle.netlist.specs.Names.{seen_names};
 ghost use Rattle.prepared_runs.specs.RunTexts.{seen};
-ghost use Rattle.command_line.specs.Orders.{bench_alone, files_on, last_tick, names_asked, names_of, names_shown, options_on};
+ghost use Rattle.command_line.specs.Orders.{bench_alone, files_on, last_tick, name_shown, names_asked, names_of, names_shown, options_on};
 
 use crate::source_options::{Files, SourceOptions, file_of_bench, names_of_files};
 use drawn_stimuli::{Draws, Driven};
@@ -37,6 +37,10 @@ pub enum Order<'a> {
         source: SourceOptions<'a>,
         /// The last tick of the run: at most 10,000,000.
         horizon: u64,
+        /// Whether events that do nothing have a line.
+        idle: bool,
+        /// The net whose events alone have a line, if one is named.
+        net: Option<&'a [u8]>,
     },
     /// Write why a net has its value at a tick. No events are picked.
     Why {
@@ -152,12 +156,10 @@ impl<'a> Order<'a> {
         match self {
             Order::Run { view, .. } | Order::Plain { view, .. } => names_shown(&view.show),
             Order::Draw { view, .. } => names_shown(&view.show),
+            Order::Trace { net, .. } => name_shown(net),
             Order::Why { net, .. } | Order::Twin { net, .. } => from_ref(net),
             Order::Cone { names, .. } | Order::Diff { names, .. } => names.as_slice(),
-            Order::Trace { .. }
-            | Order::Check { .. }
-            | Order::Stimuli { .. }
-            | Order::Info { .. } => &[],
+            Order::Check { .. } | Order::Stimuli { .. } | Order::Info { .. } => &[],
         }
     }
 
@@ -178,5 +180,14 @@ fn names_shown<'o, 'a>(show: &'o Selection<'a>) -> &'o [&'a [u8]]
     match show {
         Selection::Named(names) => names.as_slice(),
         Selection::All | Selection::Outputs => &[],
+    }
+}
+
+fn name_shown<'o, 'a>(net: &'o Option<&'a [u8]>) -> &'o [&'a [u8]]
+    ensures { seen_names result.now ≡ name_shown net.now }
+{
+    match net {
+        Some(name) => from_ref(name),
+        None => &[],
     }
 }

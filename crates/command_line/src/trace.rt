@@ -1,4 +1,5 @@
 //! The subcommand `trace`: its options, and its order.
+use crate::described::{Absent, Described, Takes};
 use crate::help::{ends, subcommand_named};
 use crate::options::{ALONE, LENGTH, SOURCE, number_given, source_given};
 use crate::order::Order;
@@ -13,8 +14,18 @@ const ABOUT: &str =
 const USAGE: &str = "nullsim trace --bench <FILE> --horizon <N> [OPTIONS]";
 
 const ENDS: &str = ends!(
-    "nullsim trace --bench examples/hazard.bench --stimuli examples/hazard.stimuli --horizon 2"
+    "nullsim trace --bench examples/hazard.bench --stimuli examples/hazard.stimuli --horizon 8 --net y"
 );
+
+const NO_IDLE: &str = "Leave out the events that do nothing: the lines that end in idle";
+
+const NET: &str = "Only the events of this net, by name: the lines advance NAME and deliver\n\
+     NAME";
+
+static OPTIONS: [Described; 2] = [
+    Described("no-idle", Takes::Nothing, Absent::Nothing, NO_IDLE),
+    Described("net", Takes::Net, Absent::Nothing, NET),
+];
 
 /// Returns the subcommand with its options.
 pub(super) fn subcommand<'a>(alloc: Global) -> Result<Command<'a>, AllocError> {
@@ -24,7 +35,12 @@ pub(super) fn subcommand<'a>(alloc: Global) -> Result<Command<'a>, AllocError> {
         ABOUT,
         USAGE,
         ENDS,
-        &[SOURCE.as_slice(), LENGTH.as_slice(), PICKED.as_slice()],
+        &[
+            SOURCE.as_slice(),
+            LENGTH.as_slice(),
+            PICKED.as_slice(),
+            OPTIONS.as_slice(),
+        ],
     )
 }
 
@@ -33,5 +49,7 @@ pub(super) fn order_given<'a>(alloc: Global, options: &ArgMatches<'a>) -> Result
     Ok(Order::Trace {
         source: source_given(options, &ALONE, picks_given(alloc, options)?),
         horizon: number_given(options, "horizon"),
+        idle: !options.get_flag("no-idle"),
+        net: options.get_str("net").map(|name| name.as_bytes()),
     })
 }

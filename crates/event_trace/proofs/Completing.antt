@@ -1,7 +1,6 @@
 -- Rounds one after another, with their lines, until a run is complete.
 use Rattle.std.proofs.Common.{◌≡◌, ℕ, zero, suc, ◌+◌, ◌-◌, ◌*◌, ◌/◌, ◌%◌, ◌<◌, ◌≤◌, min, true, false, cond, List, [], ◌∷◌, ◌++◌, Option, slice_index_or, refl, ap, sym, subst, ◌∙◌, arith, append_assoc, append-nil, ◌⊎◌, inl, inr}
 use Rattle.std.proofs.lemmas.Bool.{cases_lt}
-use Rattle.std.proofs.lemmas.Grind.{flat_map-append}
 use Rattle.std.proofs.Math.Nat.{mul_comm}
 use Rattle.design.specs.Circuit.{Circuit, IsCircuit}
 use Rattle.cmb_channels.specs.declared.message.Message.{Message}
@@ -13,9 +12,12 @@ use Rattle.cmb_kernel.specs.Sound.{IsSound}
 use Rattle.cmb_kernel.proofs.CallerLemmas.{falls, rises_by_delay, is_complete-from}
 use Rattle.texts.specs.Written.{AppendsPrefix, GoesOut}
 use Rattle.texts.proofs.CallerLemmas.{GoesOut-then, GoesOut-fault}
-use Rattle.event_trace.specs.Lines.{Line, begins, line_text, lines_text}
+use Rattle.event_trace.specs.declared.shown_events.ShownEvents.{ShownEvents}
+use Rattle.event_trace.specs.Lines.{Line, begins}
+use Rattle.event_trace.specs.ShownLines.{shown_text}
 use Rattle.event_trace.specs.Trace.{line_of, lines_of, round_lines, lines_within}
 use Rattle.event_trace.proofs.GoingOut.{GoesOut-none}
+use Rattle.event_trace.proofs.ShownTexts.{shown_text-append}
 
 -- ---- the number of rounds plays no part in events
 
@@ -77,31 +79,31 @@ most_enough circuit ok last = go (cases_lt 0 last)
 -- ---- rounds with their lines
 
 -- what went out, what waits and the lines of the rounds to come are the whole; and these rounds lead to the end
-pub record RoundsLeft (circuit : Circuit) (ending : State) (old now : Option (List ℕ)) (whole : List ℕ) (number : ℕ) (state : State) (text : List ℕ) : Type 0 where
+pub record RoundsLeft (shown : ShownEvents) (circuit : Circuit) (ending : State) (old now : Option (List ℕ)) (whole : List ℕ) (number : ℕ) (state : State) (text : List ℕ) : Type 0 where
   pub left : ℕ
   pub complete : IsComplete (rounds left (with_rounds number state))
   pub ends : completed_within left (with_rounds number state) ≡ ending
-  pub goes : GoesOut old now whole (text ++ lines_text circuit (lines_within left (with_rounds number state)))
+  pub goes : GoesOut old now whole (text ++ shown_text shown circuit (lines_within left (with_rounds number state)))
 
-regroup : (circuit : Circuit) (text : List ℕ) (xs ys : List Line) → text ++ lines_text circuit (xs ++ ys) ≡ (text ++ lines_text circuit xs) ++ lines_text circuit ys
-regroup circuit text xs ys =
-    ap (λ (lines : List ℕ). text ++ lines) (flat_map-append (line_text circuit) xs ys)
-    ∙ sym (append_assoc text (lines_text circuit xs) (lines_text circuit ys))
+regroup : (shown : ShownEvents) (circuit : Circuit) (text : List ℕ) (xs ys : List Line) → text ++ shown_text shown circuit (xs ++ ys) ≡ (text ++ shown_text shown circuit xs) ++ shown_text shown circuit ys
+regroup shown circuit text xs ys =
+    ap (λ (lines : List ℕ). text ++ lines) (shown_text-append shown circuit xs ys)
+    ∙ sym (append_assoc text (shown_text shown circuit xs) (shown_text shown circuit ys))
 
-module _ (circuit : Circuit) (ending : State) (old now : Option (List ℕ)) (whole : List ℕ) (number : ℕ) (state : State) (text : List ℕ)
-    (so_far : RoundsLeft circuit ending old now whole number state text) where
+module _ (shown : ShownEvents) (circuit : Circuit) (ending : State) (old now : Option (List ℕ)) (whole : List ℕ) (number : ℕ) (state : State) (text : List ℕ)
+    (so_far : RoundsLeft shown circuit ending old now whole number state text) where
   -- at the end none is left
   pub none_left : is_complete state ≡ true → (with_rounds number state ≡ ending) × GoesOut old now whole text
   none_left complete = go so_far.left so_far.ends so_far.goes
     where
       go : (left : ℕ) → completed_within left (with_rounds number state) ≡ ending →
-          GoesOut old now whole (text ++ lines_text circuit (lines_within left (with_rounds number state))) →
+          GoesOut old now whole (text ++ shown_text shown circuit (lines_within left (with_rounds number state))) →
           (with_rounds number state ≡ ending) × GoesOut old now whole text
       go zero ends goes = (ends, subst (GoesOut old now whole) (append-nil text) goes)
       go (suc left) ends goes = (
         sym (ap (λ b. cond b (with_rounds number state) (completed_within left (round_of (with_rounds number state)))) complete) ∙ ends,
         subst (GoesOut old now whole)
-            (ap (λ b. text ++ lines_text circuit (cond b [] (round_lines (with_rounds number state) ++ lines_within left (round_of (with_rounds number state))))) complete
+            (ap (λ b. text ++ shown_text shown circuit (cond b [] (round_lines (with_rounds number state) ++ lines_within left (round_of (with_rounds number state))))) complete
             ∙ append-nil text) goes,
       )
 
@@ -112,14 +114,14 @@ module _ (circuit : Circuit) (ending : State) (old now : Option (List ℕ)) (who
       pub complete : IsComplete (rounds left (with_rounds (one_more number) (steps state (round_events state))))
       pub ends : completed_within left (with_rounds (one_more number) (steps state (round_events state))) ≡ ending
       pub goes : GoesOut old now whole
-          ((text ++ lines_text circuit (begins (one_more number) ∷ lines_of state (round_events state)))
-          ++ lines_text circuit (lines_within left (with_rounds (one_more number) (steps state (round_events state)))))
+          ((text ++ shown_text shown circuit (begins (one_more number) ∷ lines_of state (round_events state)))
+          ++ shown_text shown circuit (lines_within left (with_rounds (one_more number) (steps state (round_events state)))))
 
     one_less : OneLess
     one_less = go so_far.left so_far.complete so_far.ends so_far.goes
       where
         go : (left : ℕ) → IsComplete (rounds left (with_rounds number state)) → completed_within left (with_rounds number state) ≡ ending →
-            GoesOut old now whole (text ++ lines_text circuit (lines_within left (with_rounds number state))) → OneLess
+            GoesOut old now whole (text ++ shown_text shown circuit (lines_within left (with_rounds number state))) → OneLess
         go zero complete ends goes = absurd (let done : is_complete state ≡ true = is_complete-from (with_rounds number state) complete in cc)
         go (suc left) complete ends goes = record {
           left = left;
@@ -127,45 +129,45 @@ module _ (circuit : Circuit) (ending : State) (old now : Option (List ℕ)) (who
           ends = ap (completed_within left) (sym (round_apart number state))
               ∙ sym (ap (λ b. cond b (with_rounds number state) (completed_within left (round_of (with_rounds number state)))) incomplete) ∙ ends;
           goes = subst (GoesOut old now whole)
-              (ap (λ b. text ++ lines_text circuit (cond b [] (round_lines (with_rounds number state) ++ lines_within left (round_of (with_rounds number state))))) incomplete
-              ∙ regroup circuit text (round_lines (with_rounds number state)) (lines_within left (round_of (with_rounds number state)))
-              ∙ (λ i. (text ++ lines_text circuit (begins (one_more number) ∷ lines_apart number state (round_events state) i))
-              ++ lines_text circuit (lines_within left (round_apart number state i)))) goes;
+              (ap (λ b. text ++ shown_text shown circuit (cond b [] (round_lines (with_rounds number state) ++ lines_within left (round_of (with_rounds number state))))) incomplete
+              ∙ regroup shown circuit text (round_lines (with_rounds number state)) (lines_within left (round_of (with_rounds number state)))
+              ∙ (λ i. (text ++ shown_text shown circuit (begins (one_more number) ∷ lines_apart number state (round_events state) i))
+              ++ shown_text shown circuit (lines_within left (round_apart number state i)))) goes;
         }
 
     module _ (one : ℕ) (counts : one ≡ one_more number) (new : Option (List ℕ)) where
       -- after a round one less is left
       pub one_more_round : (next : State) (waiting : List ℕ) → next ≡ steps state (round_events state) →
-          GoesOut now new (text ++ lines_text circuit (begins one ∷ lines_of state (round_events state))) waiting →
-          RoundsLeft circuit ending old new whole one next waiting
+          GoesOut now new (text ++ shown_text shown circuit (begins one ∷ lines_of state (round_events state))) waiting →
+          RoundsLeft shown circuit ending old new whole one next waiting
       one_more_round next waiting is out =
           let less = one_less in
           let after : with_rounds one next ≡ with_rounds (one_more number) (steps state (round_events state)) = λ i. with_rounds (counts i) (is i) in
-          let gone = subst (λ n. GoesOut now new (text ++ lines_text circuit (begins n ∷ lines_of state (round_events state))) waiting) counts out in
+          let gone = subst (λ n. GoesOut now new (text ++ shown_text shown circuit (begins n ∷ lines_of state (round_events state))) waiting) counts out in
           record {
             left = less.left;
             complete = subst (λ (s : State). IsComplete (rounds less.left s)) (sym after) less.complete;
             ends = ap (completed_within less.left) after ∙ less.ends;
-            goes = subst (λ (s : State). GoesOut old new whole (waiting ++ lines_text circuit (lines_within less.left s))) (sym after)
-                (GoesOut-then old now new whole (text ++ lines_text circuit (begins (one_more number) ∷ lines_of state (round_events state))) waiting
-                (lines_text circuit (lines_within less.left (with_rounds (one_more number) (steps state (round_events state))))) less.goes gone);
+            goes = subst (λ (s : State). GoesOut old new whole (waiting ++ shown_text shown circuit (lines_within less.left s))) (sym after)
+                (GoesOut-then old now new whole (text ++ shown_text shown circuit (begins (one_more number) ∷ lines_of state (round_events state))) waiting
+                (shown_text shown circuit (lines_within less.left (with_rounds (one_more number) (steps state (round_events state))))) less.goes gone);
           }
 
       -- a round that is broken off
-      pub broken_round : AppendsPrefix now new (text ++ lines_text circuit (begins one ∷ lines_of state (round_events state))) → AppendsPrefix old new whole
+      pub broken_round : AppendsPrefix now new (text ++ shown_text shown circuit (begins one ∷ lines_of state (round_events state))) → AppendsPrefix old new whole
       broken_round fault =
           let less = one_less in
-          GoesOut-fault old now new whole (text ++ lines_text circuit (begins (one_more number) ∷ lines_of state (round_events state)))
-          (lines_text circuit (lines_within less.left (with_rounds (one_more number) (steps state (round_events state))))) less.goes
-          (subst (λ n. AppendsPrefix now new (text ++ lines_text circuit (begins n ∷ lines_of state (round_events state)))) counts fault)
+          GoesOut-fault old now new whole (text ++ shown_text shown circuit (begins (one_more number) ∷ lines_of state (round_events state)))
+          (shown_text shown circuit (lines_within less.left (with_rounds (one_more number) (steps state (round_events state))))) less.goes
+          (subst (λ n. AppendsPrefix now new (text ++ shown_text shown circuit (begins n ∷ lines_of state (round_events state)))) counts fault)
 
 -- before the first round all are left
-pub all_left : (circuit : Circuit) (most number : ℕ) (state : State) (out : Option (List ℕ)) (text : List ℕ) → number ≡ state.counts.rounds →
+pub all_left : (shown : ShownEvents) (circuit : Circuit) (most number : ℕ) (state : State) (out : Option (List ℕ)) (text : List ℕ) → number ≡ state.counts.rounds →
     IsComplete (rounds most state) →
-    RoundsLeft circuit (completed_within most state) out out (text ++ lines_text circuit (lines_within most state)) number state text
-all_left circuit most number state out text is complete =
-    subst (λ n. RoundsLeft circuit (completed_within most state) out out (text ++ lines_text circuit (lines_within most state)) n state text) (sym is)
-    (record { left = most; complete = complete; ends = refl; goes = GoesOut-none out (text ++ lines_text circuit (lines_within most state)) })
+    RoundsLeft shown circuit (completed_within most state) out out (text ++ shown_text shown circuit (lines_within most state)) number state text
+all_left shown circuit most number state out text is complete =
+    subst (λ n. RoundsLeft shown circuit (completed_within most state) out out (text ++ shown_text shown circuit (lines_within most state)) n state text) (sym is)
+    (record { left = most; complete = complete; ends = refl; goes = GoesOut-none out (text ++ shown_text shown circuit (lines_within most state)) })
 
 -- ---- rounds come to an end
 

@@ -2,9 +2,11 @@ mod Completing
 mod CountsLine
 mod EventLines
 mod GoingOut
+mod LeftOut
 mod News
 mod Messages
 mod RoundEvents
+mod ShownTexts
 mod Tallies
 mod Traces
 mod Walking

@@ -7,8 +7,10 @@ use Rattle.cmb_events.specs.declared.event.Event.TheVariants.{Deliver, Advance}
 use Rattle.cmb_kernel.specs.State.{KernelView, IsUndrained, floor_at}
 use Rattle.cmb_kernel.proofs.CallerLemmas.{steps_floor}
 use Rattle.cmb_kernel.specs.Step.{step, steps}
-use Rattle.event_trace.specs.Lines.{line_text, lines_text}
+use Rattle.event_trace.specs.declared.shown_events.ShownEvents.{ShownEvents}
+use Rattle.event_trace.specs.ShownLines.{shown_text}
 use Rattle.event_trace.specs.Trace.{line_of, lines_of}
+use Rattle.event_trace.proofs.ShownTexts.{shown_text-append}
 
 -- the event at a place
 abbrev pub event_at : List Event → ℕ → Event
@@ -30,15 +32,19 @@ module _ (kernel new : KernelView) (events : List Event) (index : ℕ) (within :
   undrained_on undrained net =
       ap (λ (k : KernelView). floor_at k.state net) goes ∙ steps_floor kernel.state (event_at events index ∷ []) net ∙ undrained net
 
-  -- and the lines that are left stand behind the one that was added
-  pub lines_on : (circuit : Circuit) (text piece : List ℕ) → piece ≡ text ++ line_text circuit (line_of kernel.state (event_at events index)) →
-      text ++ lines_text circuit (lines_of kernel.state (drop index events)) ≡ piece ++ lines_text circuit (lines_of new.state (drop (index + 1) events))
-  lines_on circuit text piece is =
-      ap (λ (es : List Event). text ++ lines_text circuit (lines_of kernel.state es)) (next_event events index within)
-      ∙ sym (append_assoc text (line_text circuit (line_of kernel.state (event_at events index)))
-      (lines_text circuit (lines_of (step kernel.state (event_at events index)) (drop (index + 1) events))))
-      ∙ ap (λ (xs : List ℕ). xs ++ lines_text circuit (lines_of (step kernel.state (event_at events index)) (drop (index + 1) events))) (sym is)
-      ∙ ap (λ (k : KernelView). piece ++ lines_text circuit (lines_of k.state (drop (index + 1) events))) (sym goes)
+  -- and the lines that are left stand behind the one that was added, if it is shown
+  pub lines_on : (shown : ShownEvents) (circuit : Circuit) (text piece : List ℕ) →
+      piece ≡ text ++ shown_text shown circuit (line_of kernel.state (event_at events index) ∷ []) →
+      text ++ shown_text shown circuit (lines_of kernel.state (drop index events))
+      ≡ piece ++ shown_text shown circuit (lines_of new.state (drop (index + 1) events))
+  lines_on shown circuit text piece is =
+      let line = line_of kernel.state (event_at events index) in
+      let rest = lines_of (step kernel.state (event_at events index)) (drop (index + 1) events) in
+      ap (λ (es : List Event). text ++ shown_text shown circuit (lines_of kernel.state es)) (next_event events index within)
+      ∙ ap (λ (xs : List ℕ). text ++ xs) (shown_text-append shown circuit (line ∷ []) rest)
+      ∙ sym (append_assoc text (shown_text shown circuit (line ∷ [])) (shown_text shown circuit rest))
+      ∙ ap (λ (xs : List ℕ). xs ++ shown_text shown circuit rest) (sym is)
+      ∙ ap (λ (k : KernelView). piece ++ shown_text shown circuit (lines_of k.state (drop (index + 1) events))) (sym goes)
 
 -- ---- the events of a round
 

@@ -1,12 +1,14 @@
 -- The changes of a net in a trace.
-use Rattle.std.specs.Prelude.{◌≡◌, ℕ, ◌<◌, ◌==◌, if◌then◌else◌, List, [], ◌∷◌, length, flat_map}
+use Rattle.std.specs.Prelude.{◌≡◌, ℕ, ◌<◌, ◌==◌, IsTrue, if◌then◌else◌, List, [], ◌∷◌, length, flat_map}
 use Rattle.logic3.specs.declared.change.Change.{Change}
 use Rattle.logic3.specs.Wave.{wave_of}
 use Rattle.design.specs.Circuit.{Circuit}
 use Rattle.design.specs.Equations.{value_of}
 use Rattle.cmb_channels.specs.declared.message.Message.{Message}
 use Rattle.cmb_channels.specs.declared.message.Message.TheVariants.{Change as Changes, Null}
+use Rattle.event_trace.specs.declared.shown_events.ShownEvents.{ShownEvents}
 use Rattle.event_trace.specs.Lines.{Line, begins, advances, delivers, ends}
+use Rattle.event_trace.specs.ShownLines.{shown_lines, shows_net}
 
 -- the changes among some messages
 abbrev pub changes_in : List Message → List Change
@@ -29,3 +31,9 @@ changes_told_of net lines = flat_map (told_of net) lines
 abbrev pub ShowWaveforms : Circuit → ℕ → List Line → Type 0
 ShowWaveforms circuit end lines =
     (net : ℕ) → net < length circuit → changes_told_of net lines ≡ (wave_of (value_of circuit net) 0 end).changes
+
+-- so are those of each net whose events are shown, in the lines that are
+abbrev pub ShowWaveformsOf : ShownEvents → Circuit → ℕ → List Line → Type 0
+ShowWaveformsOf shown circuit end lines =
+    (net : ℕ) → net < length circuit → IsTrue (shows_net shown.net net) →
+    changes_told_of net (shown_lines shown lines) ≡ (wave_of (value_of circuit net) 0 end).changes

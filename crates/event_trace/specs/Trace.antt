@@ -6,7 +6,9 @@ use Rattle.cmb_events.specs.declared.event.Event.{Event}
 use Rattle.cmb_events.specs.declared.event.Event.TheVariants.{Deliver, Advance}
 use Rattle.cmb_kernel.specs.State.{State, KernelView, started, nets_of, frontier_at, is_complete, most_rounds}
 use Rattle.cmb_kernel.specs.Step.{one_more, news_at, step, steps, round_events, round_of, completed_within}
+use Rattle.event_trace.specs.declared.shown_events.ShownEvents.{ShownEvents}
 use Rattle.event_trace.specs.Lines.{Line, begins, advances, delivers, ends, lines_text}
+use Rattle.event_trace.specs.ShownLines.{shown_text}
 
 -- the line of an event that is applied to a state
 abbrev pub line_of : State → Event → Line
@@ -57,3 +59,7 @@ trace_lines circuit end events = lines_from (started circuit end) (most_rounds e
 -- the trace of a run
 abbrev pub trace_text : Circuit → ℕ → List Event → List ℕ
 trace_text circuit end events = lines_text circuit (trace_lines circuit end events)
+
+-- the trace of a run in which these events have lines; the rounds and the counts are those of the whole run
+abbrev pub shown_trace : ShownEvents → Circuit → ℕ → List Event → List ℕ
+shown_trace shown circuit end events = shown_text shown circuit (trace_lines circuit end events)

@@ -1,14 +1,15 @@
 //! Applying events and adding their lines.
-ghost use Rattle.std.specs.Prelude.{◌≡◌, ◌<◌, ◌+◌, ◌++◌, false, length, IfErr, IfOk, OnOk};
+ghost use Rattle.std.specs.Prelude.{◌≡◌, ◌<◌, ◌+◌, ◌∷◌, ◌++◌, false, [], length, IfErr, IfOk, OnOk};
 ghost use Rattle.design.specs.Circuit.{pin_count};
 ghost use Rattle.cmb_events.specs.Schedule.{Exists};
 ghost use Rattle.cmb_events.specs.declared.event.Event.TheVariants.{Deliver, Advance};
 ghost use Rattle.cmb_kernel.specs.State.{IsUndrained, fresh};
 ghost use Rattle.cmb_kernel.specs.Step.{step};
-ghost use Rattle.event_trace.specs.Lines.{line_text};
+ghost use Rattle.event_trace.specs.ShownLines.{shown_text};
 ghost use Rattle.event_trace.specs.Trace.{line_of};
 
 use crate::lines::{push_advance, push_delivery};
+use crate::shown_events::ShownEvents;
 use cmb_channels::Logs;
 use cmb_events::Event;
 use cmb_kernel::Kernel;
@@ -48,10 +49,11 @@ fn apply(kernel: &mut TracedKernel<'_>, event: Event) -> Result<(), DumpFault>
     }
 }
 
-/// Advances a net and adds its line. The fault is `Memory`.
+/// Advances a net and adds its line, if that is shown. The fault is `Memory`.
 fn push_advanced(
     kernel: &mut TracedKernel<'_>,
     design: &Design,
+    shown: ShownEvents,
     text: &mut Vec<u8>,
     net: u32,
 ) -> Result<(), DumpFault>
@@ -61,7 +63,7 @@ fn push_advanced(
     requires exists { net < length design.now.circuit }
     ensures ok { OnOk result (kernel.new ≡ record kernel.old { state = step kernel.old.state (Advance net) }) }
     ensures text { OnOk result (text.new.items ≡
-        text.old.items ++ line_text design.now.circuit (line_of kernel.old.state (Advance net))) }
+        text.old.items ++ shown_text shown design.now.circuit (line_of kernel.old.state (Advance net) ∷ [])) }
     ensures err { IfErr result (λ fault. fault ≡ DumpFault.Memory) }
 {
     prove!(!kernel.is_failed());
@@ -69,14 +71,18 @@ fn push_advanced(
     apply(kernel, Event::Advance(net))?;
     let to = kernel.frontier(net);
     let changes = kernel.waveform(net).changes_within(from, to);
-    push_advance(text, design.name(net), from, to, changes)?;
+    if shown.shows(net, from, to) {
+        push_advance(text, design.name(net), from, to, changes)?;
+    }
     Ok(())
 }
 
-/// Lets a pin take the oldest message that waits there, and adds the line. The fault is `Memory`.
+/// Lets a pin take the oldest message that waits there, and adds the line, if that is shown. The fault is
+/// `Memory`.
 fn push_delivered(
     kernel: &mut TracedKernel<'_>,
     design: &Design,
+    shown: ShownEvents,
     text: &mut Vec<u8>,
     pin: u32,
 ) -> Result<(), DumpFault>
@@ -86,7 +92,7 @@ fn push_delivered(
     requires exists { pin < pin_count design.now.circuit }
     ensures ok { OnOk result (kernel.new ≡ record kernel.old { state = step kernel.old.state (Deliver pin) }) }
     ensures text { OnOk result (text.new.items ≡
-        text.old.items ++ line_text design.now.circuit (line_of kernel.old.state (Deliver pin))) }
+        text.old.items ++ shown_text shown design.now.circuit (line_of kernel.old.state (Deliver pin) ∷ [])) }
     ensures err { IfErr result (λ fault. fault ≡ DumpFault.Memory) }
 {
     prove!(!kernel.is_failed());
@@ -97,14 +103,17 @@ fn push_delivered(
     let to = kernel.received(pin);
     let source = design.pin_source(pin);
     let changes = kernel.waveform(source).changes_within(from, to);
-    push_delivery(text, design.name(net), place, from, to, changes)?;
+    if shown.shows(net, from, to) {
+        push_delivery(text, design.name(net), place, from, to, changes)?;
+    }
     Ok(())
 }
 
-/// Applies an event of a pin or a net of the design, and adds its line. The fault is `Memory`.
+/// Applies an event of a pin or a net of the design, and adds its line, if that is shown. The fault is `Memory`.
 pub fn push_event(
     kernel: &mut TracedKernel<'_>,
     design: &Design,
+    shown: ShownEvents,
     text: &mut Vec<u8>,
     event: Event,
 ) -> Result<(), DumpFault>
@@ -114,11 +123,11 @@ pub fn push_event(
     requires exists { Exists design.now.circuit event }
     ensures ok { OnOk result (kernel.new ≡ record kernel.old { state = step kernel.old.state event }) }
     ensures text { OnOk result (text.new.items ≡
-        text.old.items ++ line_text design.now.circuit (line_of kernel.old.state event)) }
+        text.old.items ++ shown_text shown design.now.circuit (line_of kernel.old.state event ∷ [])) }
     ensures err { IfErr result (λ fault. fault ≡ DumpFault.Memory) }
 {
     match event {
-        Event::Deliver(pin) => push_delivered(kernel, design, text, pin),
-        Event::Advance(net) => push_advanced(kernel, design, text, net),
+        Event::Deliver(pin) => push_delivered(kernel, design, shown, text, pin),
+        Event::Advance(net) => push_advanced(kernel, design, shown, text, net),
     }
 }

@@ -5,11 +5,12 @@ ghost use Rattle.cmb_events.specs.declared.event.Event.TheVariants.{Deliver};
 ghost use Rattle.cmb_kernel.specs.State.{IsUndrained, most_rounds};
 ghost use Rattle.cmb_kernel.specs.Step.{round_events, steps, completed_within};
 ghost use Rattle.texts.specs.Written.{AppendsPrefix, GoesOut};
-ghost use Rattle.event_trace.specs.Lines.{lines_text};
+ghost use Rattle.event_trace.specs.ShownLines.{shown_text};
 ghost use Rattle.event_trace.specs.Trace.{numbered_round, rounds_lines};
 
 use crate::events::TracedKernel;
 use crate::lines::push_round;
+use crate::shown_events::ShownEvents;
 use crate::walk::walk;
 use cmb_events::Event;
 use cmb_kernel::Counts;
@@ -57,11 +58,12 @@ fn events_of_round(
     Ok(events)
 }
 
-/// Applies a round, and writes its lines after the waiting text.
+/// Applies a round, and writes those of its lines that are shown after the waiting text.
 fn walk_round<W: Write>(
     alloc: Global,
     kernel: &mut TracedKernel<'_>,
     design: &Design,
+    shown: ShownEvents,
     out: &mut W,
     text: &mut Vec<u8>,
     number: u64,
@@ -72,23 +74,24 @@ fn walk_round<W: Write>(
     ensures state { OnOk result
         (kernel.new ≡ record kernel.old { state = steps kernel.old.state (round_events kernel.old.state) }) }
     ensures ok { OnOk result (GoesOut (W.contents out.old) (W.contents out.new)
-        (text.old.items ++ lines_text design.now.circuit (numbered_round number kernel.old.state)) text.new.items) }
+        (text.old.items ++ shown_text shown design.now.circuit (numbered_round number kernel.old.state)) text.new.items) }
     ensures err { OnErr result (AppendsPrefix (W.contents out.old) (W.contents out.new)
-        (text.old.items ++ lines_text design.now.circuit (numbered_round number kernel.old.state))) }
+        (text.old.items ++ shown_text shown design.now.circuit (numbered_round number kernel.old.state))) }
     ensures fault { IfErr result (λ fault. fault ≢ DumpFault.Failed) }
 {
     prove!(!kernel.is_failed());
     push_round(text, number)?;
     let events = events_of_round(alloc, kernel, design)?;
-    walk(kernel, design, out, text, events.as_slice())
+    walk(kernel, design, shown, out, text, events.as_slice())
 }
 
-/// Applies rounds until the kernel is complete, writes their lines after the waiting text, and returns
-/// the counts of the whole run.
+/// Applies rounds until the kernel is complete, writes those of their lines that are shown after the waiting
+/// text, and returns the counts of the whole run.
 pub fn walk_rounds<W: Write>(
     alloc: Global,
     kernel: &mut TracedKernel<'_>,
     design: &Design,
+    shown: ShownEvents,
     out: &mut W,
     text: &mut Vec<u8>,
 ) -> Result<Counts, DumpFault>
@@ -98,9 +101,9 @@ pub fn walk_rounds<W: Write>(
     ensures counts { IfOk result (λ counts. counts ≡
         (completed_within (most_rounds kernel.old.end kernel.old.circuit) kernel.old.state).counts) }
     ensures ok { OnOk result (GoesOut (W.contents out.old) (W.contents out.new)
-        (text.old.items ++ lines_text design.now.circuit (rounds_lines kernel.old)) text.new.items) }
+        (text.old.items ++ shown_text shown design.now.circuit (rounds_lines kernel.old)) text.new.items) }
     ensures err { OnErr result (AppendsPrefix (W.contents out.old) (W.contents out.new)
-        (text.old.items ++ lines_text design.now.circuit (rounds_lines kernel.old))) }
+        (text.old.items ++ shown_text shown design.now.circuit (rounds_lines kernel.old))) }
     ensures fault { IfErr result (λ fault. fault ≢ DumpFault.Failed) }
 {
     // Each round makes progress.
@@ -110,7 +113,7 @@ pub fn walk_rounds<W: Write>(
     while !kernel.is_complete() {
         prove!(!kernel.is_failed());
         rounds = rounds.saturating_add(1);
-        walk_round(alloc, kernel, design, out, text, rounds)?;
+        walk_round(alloc, kernel, design, shown, out, text, rounds)?;
     }
     let counts = kernel.counts();
     Ok(Counts { rounds, ..counts })

@@ -4,12 +4,13 @@ ghost use Rattle.cmb_events.specs.Schedule.{Exists};
 ghost use Rattle.cmb_kernel.specs.State.{IsUndrained, most_rounds};
 ghost use Rattle.cmb_kernel.specs.Step.{completed_within, steps};
 ghost use Rattle.texts.specs.Written.{AppendsPrefix};
-ghost use Rattle.event_trace.specs.Lines.{lines_text};
-ghost use Rattle.event_trace.specs.Trace.{run_lines, state_at_end, trace_text};
+ghost use Rattle.event_trace.specs.ShownLines.{shown_text};
+ghost use Rattle.event_trace.specs.Trace.{run_lines, shown_trace, state_at_end, trace_text};
 
 use crate::events::{TracedKernel, fresh_kernel};
 use crate::lines::push_counts;
 use crate::rounds::walk_rounds;
+use crate::shown_events::{EVERY_EVENT, ShownEvents};
 use crate::walk::walk;
 use cmb_events::Event;
 use cmb_kernel::Counts;
@@ -55,15 +56,41 @@ pub fn trace_events<W: Write>(
         (trace_text design.now.circuit (horizon + 1) events.now)) }
     ensures fault { IfErr result (λ fault. fault ≢ DumpFault.Failed) }
 {
-    let mut kernel = fresh_kernel(alloc, design, horizon)?;
-    trace_kernel(alloc, out, design, &mut kernel, events)
+    trace_shown_events(alloc, out, design, horizon, events, EVERY_EVENT)
 }
 
-/// Applies some events to a kernel, and then rounds, and writes their lines.
+/// Does the same as [`trace_events`], and leaves out the lines of events that aren't shown. The kernel applies
+/// these too, and counts them.
+///
+/// # Errors
+/// As for [`trace_events`].
+pub fn trace_shown_events<W: Write>(
+    alloc: Global,
+    out: &mut W,
+    design: &Design,
+    horizon: Horizon,
+    events: &[Event],
+    shown: ShownEvents,
+) -> Result<Counts, DumpFault>
+    requires exist { All (Exists design.now.circuit) events.now }
+    ensures counts { IfOk result (λ counts.
+        counts ≡ (state_at_end design.now.circuit (horizon + 1) events.now).counts) }
+    ensures ok { OnOk result (Appends (W.contents out.old) (W.contents out.new)
+        (shown_trace shown design.now.circuit (horizon + 1) events.now)) }
+    ensures err { OnErr result (AppendsPrefix (W.contents out.old) (W.contents out.new)
+        (shown_trace shown design.now.circuit (horizon + 1) events.now)) }
+    ensures fault { IfErr result (λ fault. fault ≢ DumpFault.Failed) }
+{
+    let mut kernel = fresh_kernel(alloc, design, horizon)?;
+    trace_kernel(alloc, out, design, shown, &mut kernel, events)
+}
+
+/// Applies some events to a kernel, and then rounds, and writes those of their lines that are shown.
 fn trace_kernel<W: Write>(
     alloc: Global,
     out: &mut W,
     design: &Design,
+    shown: ShownEvents,
     kernel: &mut TracedKernel<'_>,
     events: &[Event],
 ) -> Result<Counts, DumpFault>
@@ -73,15 +100,15 @@ fn trace_kernel<W: Write>(
     requires exist { All (Exists design.now.circuit) events.now }
     ensures counts { IfOk result (λ counts. counts ≡
         (completed_within (most_rounds kernel.old.end kernel.old.circuit) (steps kernel.old.state events.now)).counts) }
-    ensures ok { OnOk result (Appends (W.contents out.old) (W.contents out.new) (lines_text design.now.circuit
+    ensures ok { OnOk result (Appends (W.contents out.old) (W.contents out.new) (shown_text shown design.now.circuit
         (run_lines kernel.old events.now))) }
-    ensures err { OnErr result (AppendsPrefix (W.contents out.old) (W.contents out.new) (lines_text design.now.circuit
+    ensures err { OnErr result (AppendsPrefix (W.contents out.old) (W.contents out.new) (shown_text shown design.now.circuit
         (run_lines kernel.old events.now))) }
     ensures fault { IfErr result (λ fault. fault ≢ DumpFault.Failed) }
 {
     let mut text = Vec::new(alloc);
-    walk(kernel, design, out, &mut text, events)?;
-    let counts = walk_rounds(alloc, kernel, design, out, &mut text)?;
+    walk(kernel, design, shown, out, &mut text, events)?;
+    let counts = walk_rounds(alloc, kernel, design, shown, out, &mut text)?;
     push_counts(&mut text, counts)?;
     write_all_bytes(out, text.as_slice())?;
     Ok(counts)

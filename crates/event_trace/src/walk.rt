@@ -4,20 +4,22 @@ ghost use Rattle.cmb_events.specs.Schedule.{Exists};
 ghost use Rattle.cmb_kernel.specs.State.{IsUndrained};
 ghost use Rattle.cmb_kernel.specs.Step.{steps};
 ghost use Rattle.texts.specs.Written.{AppendsPrefix, GoesOut};
-ghost use Rattle.event_trace.specs.Lines.{lines_text};
+ghost use Rattle.event_trace.specs.ShownLines.{shown_text};
 ghost use Rattle.event_trace.specs.Trace.{lines_of};
 
 use crate::events::{TracedKernel, push_event};
+use crate::shown_events::ShownEvents;
 use cmb_events::Event;
 use design::Design;
 use std::io::Write;
 use texts::send_long;
 use vcd_dump::DumpFault;
 
-/// Applies some events in order, and writes their lines after the waiting text.
+/// Applies some events in order, and writes those of their lines that are shown after the waiting text.
 pub fn walk<W: Write>(
     kernel: &mut TracedKernel<'_>,
     design: &Design,
+    shown: ShownEvents,
     out: &mut W,
     text: &mut Vec<u8>,
     events: &[Event],
@@ -28,13 +30,13 @@ pub fn walk<W: Write>(
     requires exist { All (Exists design.now.circuit) events.now }
     ensures state { OnOk result (kernel.new ≡ record kernel.old { state = steps kernel.old.state events.now }) }
     ensures ok { OnOk result (GoesOut (W.contents out.old) (W.contents out.new)
-        (text.old.items ++ lines_text design.now.circuit (lines_of kernel.old.state events.now)) text.new.items) }
+        (text.old.items ++ shown_text shown design.now.circuit (lines_of kernel.old.state events.now)) text.new.items) }
     ensures err { OnErr result (AppendsPrefix (W.contents out.old) (W.contents out.new)
-        (text.old.items ++ lines_text design.now.circuit (lines_of kernel.old.state events.now))) }
+        (text.old.items ++ shown_text shown design.now.circuit (lines_of kernel.old.state events.now))) }
     ensures fault { IfErr result (λ fault. fault ≢ DumpFault.Failed) }
 {
     for event in events {
-        push_event(kernel, design, text, *event)?;
+        push_event(kernel, design, shown, text, *event)?;
         send_long(out, text)?;
     }
     Ok(())

@@ -33,7 +33,8 @@ use Rattle.plain_runs.specs.Drawn.{diagram_of_source}
 use Rattle.timing_diagram.specs.declared.form.Form.{Form}
 use Rattle.drawn_stimuli.specs.Driven.{stimuli_of_drives}
 use Rattle.plain_runs.specs.Explained.{why_of_source}
-use Rattle.event_trace.specs.Traced.{trace_of_source}
+use Rattle.event_trace.specs.declared.trace_view.TraceView.{TraceView}
+use Rattle.event_trace.specs.Traced.{shown_trace_of_source}
 use Rattle.prepared_runs.specs.Events.{PicksView, events_of_picks}
 use Rattle.prepared_runs.specs.Events as picks
 use Rattle.prepared_runs.specs.Faults.{sim_of_bench, sim_of_build, sim_of_schedule}
@@ -143,9 +144,10 @@ pub simulated-cut : (source : SourceView) (view : DumpView) → simulated (cut_s
 unfolding simulated
 simulated-cut source view = rw (run_of_source-cut source view.horizon) refl
 
-pub trace_of_source-cut : (source : SourceView) (ticks : ℕ) → trace_of_source (cut_source source) ticks ≡ trace_of_source source ticks
-unfolding trace_of_source
-trace_of_source-cut source ticks = rw (run_of_source-cut source ticks) refl
+pub shown_trace_of_source-cut : (source : SourceView) (ticks : ℕ) (view : TraceView) →
+    shown_trace_of_source (cut_source source) ticks view ≡ shown_trace_of_source source ticks view
+unfolding shown_trace_of_source
+shown_trace_of_source-cut source ticks view = rw (run_of_source-cut source ticks) refl
 
 pub why_of_source-cut : (source : SourceView) (name : List ℕ) (tick : ℕ) → why_of_source (cut_source source) name tick ≡ why_of_source source name tick
 unfolding why_of_source

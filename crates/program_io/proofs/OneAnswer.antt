@@ -187,7 +187,7 @@ module _ (texts : List ℕ → List ℕ) where
   one_answer (Diff first second names ticks) a b =
       one_for_source first _ _ a b (λ one.
       one_for_source second _ _ a b (λ other. one_diff_answer (pair_of one other (seen_names names.items) ticks) a b))
-  one_answer (Trace options horizon) a b = one_for_source options _ _ a b (λ source is other_is. is ∙ sym other_is)
+  one_answer (Trace options horizon idle net) a b = one_for_source options _ _ a b (λ source is other_is. is ∙ sym other_is)
   one_answer (Why options net tick) a b = one_for_source options _ _ a b (λ source is other_is. is ∙ sym other_is)
   one_answer (Stimuli bench drives draws horizon) a b = one_for_stimuli bench drives draws horizon a b
   one_answer (Draw options view form) a b = one_for_source options _ _ a b (λ source is other_is. is ∙ sym other_is)

@@ -10,6 +10,7 @@ use Rattle.timing_diagram.specs.declared.form.Form.{Form}
 use Rattle.prepared_runs.specs.declared.view.DiagramView.{DiagramView}
 use Rattle.wave_diff.specs.declared.diff_ticks.DiffTicks.{DiffTicks}
 use Rattle.prepared_runs.specs.declared.view.DumpView.{DumpView}
+use Rattle.event_trace.specs.declared.trace_view.TraceView.{TraceView}
 use Rattle.kernel_runs.specs.Checked.{checked}
 use Rattle.fanin_cone.specs.declared.fault.ConeTextFault.{ConeTextFault}
 use Rattle.fanin_cone.specs.ConeText.{IsConeAnswer}
@@ -29,7 +30,7 @@ use Rattle.program_io.specs.Options.{IsRead, IsSourceOf, KnownTexts, ReadsFiles,
 use Rattle.program_io.specs.Answers.{Answer, IsAnswerOfCone, IsAnswerOfDiff, IsAnswerOfInfo, IsAnswerOfTwin, IsDiffAnswer, IsInfoAnswer, IsTwinAnswer, answered, check_answer, diagram_answer, just, plain_answer, run_answer, stimuli_answer, trace_answer, why_answer, with_counts}
 use Rattle.program_io.specs.ProgramFaults.{fault_of_diagram, fault_of_driven}
 use Rattle.program_io.specs.OrderAnswer.{ForSource, IsAnswer, IsAnswerTo}
-use Rattle.program_io.proofs.Cut.{cut, cut_picks, cut_source, design_of_source-cut, diagram_of_source-cut, dump_of_source-cut, netlist_of-cut, pair_of-cut, run_of_source-cut, simulated-cut, stimuli_of_drives-cut, trace_of_source-cut, twins_of-cut, why_of_source-cut}
+use Rattle.program_io.proofs.Cut.{cut, cut_picks, cut_source, design_of_source-cut, diagram_of_source-cut, dump_of_source-cut, netlist_of-cut, pair_of-cut, run_of_source-cut, simulated-cut, shown_trace_of_source-cut, stimuli_of_drives-cut, twins_of-cut, why_of_source-cut}
 
 pub unwrap_or-known : (known : Option (List ℕ)) (other : List ℕ) → IfSome known (λ all. unwrap_or known other ≡ all)
 unwrap_or-known None other = tt
@@ -100,10 +101,12 @@ module _ (known : KnownTexts) (options : SourceOptions) (texts : ReadTexts) (rea
   IsAnswer-diagram view form answer same =
       ForSource-read _ (λ source is_cut. same ∙ ap (λ s. diagram_answer s view form) is_cut ∙ ap (result_map_both just fault_of_diagram) (diagram_of_source-cut source view form))
 
-  IsAnswer-trace : (horizon : ℕ) (answer : Result Answer ProgramFault) → answer ≡ trace_answer seen horizon →
-      IsAnswer known (orders.Trace options horizon) answer
-  IsAnswer-trace horizon answer same =
-      ForSource-read _ (λ source is_cut. same ∙ ap (λ s. trace_answer s horizon) is_cut ∙ ap (answered just) (trace_of_source-cut source horizon))
+  IsAnswer-trace : (horizon : ℕ) (idle : Bool) (net : Option (Bor (List ℕ))) (answer : Result Answer ProgramFault) →
+      answer ≡ trace_answer seen horizon (record { idle = idle; net = net }) → IsAnswer known (orders.Trace options horizon idle net) answer
+  IsAnswer-trace horizon idle net answer same =
+      let view : TraceView = record { idle = idle; net = net } in
+      ForSource-read _
+      (λ source is_cut. same ∙ ap (λ s. trace_answer s horizon view) is_cut ∙ ap (answered just) (shown_trace_of_source-cut source horizon view))
 
   IsAnswer-why : (net : Bor (List ℕ)) (tick : ℕ) (answer : Result Answer ProgramFault) → answer ≡ why_answer seen net.now tick →
       IsAnswer known (orders.Why options net tick) answer
@@ -185,7 +188,8 @@ pub IsAnswer-read : (known : KnownTexts) (order : Order) (texts : OrderTexts) �
 IsAnswer-read known (orders.Run options view counts) texts (one, other) answer is = IsAnswer-run known options texts.first one view counts answer is
 IsAnswer-read known (orders.Plain options view) texts (one, other) answer is = IsAnswer-plain known options texts.first one view answer is
 IsAnswer-read known (orders.Draw options view form) texts (one, other) answer is = IsAnswer-diagram known options texts.first one view form answer is
-IsAnswer-read known (orders.Trace options horizon) texts (one, other) answer is = IsAnswer-trace known options texts.first one horizon answer is
+IsAnswer-read known (orders.Trace options horizon idle net) texts (one, other) answer is =
+    IsAnswer-trace known options texts.first one horizon idle net answer is
 IsAnswer-read known (orders.Why options net tick) texts (one, other) answer is = IsAnswer-why known options texts.first one net tick answer is
 IsAnswer-read known (orders.Check options horizon) texts (one, other) answer is = IsAnswer-check known options texts.first one horizon answer is
 IsAnswer-read known (orders.Twin first second net horizon) texts (one, other) answer is =

@@ -24,7 +24,8 @@ use Rattle.kernel_runs.specs.Diffs.{IsDiff, Pair, pair_of}
 use Rattle.plain_runs.specs.Explained.{why_of_source}
 use Rattle.circuit_info.specs.InfoText.{IsInfoOf}
 use Rattle.design.specs.Design.{DesignView}
-use Rattle.event_trace.specs.Traced.{trace_of_source}
+use Rattle.event_trace.specs.declared.trace_view.TraceView.{TraceView}
+use Rattle.event_trace.specs.Traced.{shown_trace_of_source}
 use Rattle.prepared_runs.specs.Prepared.{run_of_source}
 use Rattle.kernel_runs.specs.Simulated.{simulated}
 use Rattle.prepared_runs.specs.Source.{SourceView, design_of_source, dump_of_source}
@@ -77,9 +78,9 @@ plain_answer source view = answered just (dump_of_source source view)
 abbrev pub diagram_answer : SourceView → DiagramView → Form → Result Answer ProgramFault
 diagram_answer source view form = result_map_both just fault_of_diagram (diagram_of_source source view form)
 
--- the trace of a run
-abbrev pub trace_answer : SourceView → ℕ → Result Answer ProgramFault
-trace_answer source horizon = answered just (trace_of_source source horizon)
+-- the trace of a run, with the lines that a view shows
+abbrev pub trace_answer : SourceView → ℕ → TraceView → Result Answer ProgramFault
+trace_answer source horizon view = answered just (shown_trace_of_source source horizon view)
 
 -- why the net with this name has its value at a tick
 abbrev pub why_answer : SourceView → List ℕ → ℕ → Result Answer ProgramFault

@@ -21,7 +21,8 @@ abbrev pub IsAnswer : KnownTexts → Order → Result Answer ProgramFault → Ty
 IsAnswer known (Run options view counts) answer = ForSource known options (λ source. answer ≡ run_answer source view counts)
 IsAnswer known (Plain options view) answer = ForSource known options (λ source. answer ≡ plain_answer source view)
 IsAnswer known (Draw options view form) answer = ForSource known options (λ source. answer ≡ diagram_answer source view form)
-IsAnswer known (Trace options horizon) answer = ForSource known options (λ source. answer ≡ trace_answer source horizon)
+IsAnswer known (Trace options horizon idle net) answer =
+    ForSource known options (λ source. answer ≡ trace_answer source horizon (record { idle = idle; net = net }))
 IsAnswer known (Why options net tick) answer = ForSource known options (λ source. answer ≡ why_answer source net.now tick)
 IsAnswer known (Stimuli bench drives draws horizon) answer =
     (text : List ℕ) × IfSome (known bench.now) (λ all. text ≡ all) × (answer ≡ stimuli_answer text (map seen_drive drives.items) draws horizon)
@@ -39,7 +40,8 @@ abbrev pub IsAnswerTo : Order → OrderTexts → Result Answer ProgramFault → 
 IsAnswerTo (Run options view counts) texts answer = answer ≡ run_answer (source_from options texts.first) view counts
 IsAnswerTo (Plain options view) texts answer = answer ≡ plain_answer (source_from options texts.first) view
 IsAnswerTo (Draw options view form) texts answer = answer ≡ diagram_answer (source_from options texts.first) view form
-IsAnswerTo (Trace options horizon) texts answer = answer ≡ trace_answer (source_from options texts.first) horizon
+IsAnswerTo (Trace options horizon idle net) texts answer =
+    answer ≡ trace_answer (source_from options texts.first) horizon (record { idle = idle; net = net })
 IsAnswerTo (Why options net tick) texts answer = answer ≡ why_answer (source_from options texts.first) net.now tick
 IsAnswerTo (Stimuli bench drives draws horizon) texts answer =
     answer ≡ stimuli_answer texts.first.bench.items (map seen_drive drives.items) draws horizon

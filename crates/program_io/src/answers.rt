@@ -13,7 +13,7 @@ use crate::output::{flush, write_text};
 use crate::program_fault::ProgramFault;
 use circuit_info::info;
 use drawn_stimuli::{Draws, Driven, stimuli};
-use event_trace::trace;
+use event_trace::{TraceView, trace_shown};
 use fanin_cone::cone_text;
 use kernel_runs::{
     DiffTicks, check, check_text, diff, simulate_with_progress, sweep_with_progress, twin,
@@ -122,7 +122,8 @@ pub(crate) fn write_diagram<W: Write>(
     Ok(Outcome::Done)
 }
 
-/// Writes the trace of a run, a line for each event that its kernel applies, and flushes once.
+/// Writes the trace of a run, a line for each event that its kernel applies and the view shows, and flushes
+/// once.
 ///
 /// # Errors
 /// As for [`write_run`].
@@ -130,15 +131,16 @@ pub(crate) fn write_trace<W: Write>(
     alloc: Global,
     source: &Source<'_>,
     horizon: u64,
+    view: &TraceView<'_>,
     out: &mut W,
 ) -> Result<Outcome, ProgramFault<'static>>
-    ensures ok { IfOk result (GoesOut (λ answer. answer ≡ trace_answer (seen_source source.now) horizon)
+    ensures ok { IfOk result (GoesOut (λ answer. answer ≡ trace_answer (seen_source source.now) horizon view.now)
         (W.contents out.old) (W.contents out.new)) }
-    ensures err { IfErr result (AnswerEndsBy (λ answer. answer ≡ trace_answer (seen_source source.now) horizon)
+    ensures err { IfErr result (AnswerEndsBy (λ answer. answer ≡ trace_answer (seen_source source.now) horizon view.now)
         (W.contents out.old) (W.contents out.new)) }
     ensures no_read { IfErr result IsNoRead }
 {
-    trace(alloc, source, horizon, out)?;
+    trace_shown(alloc, source, horizon, view, out)?;
     flush(out)?;
     Ok(Outcome::Done)
 }

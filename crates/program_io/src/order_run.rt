@@ -11,6 +11,7 @@ use crate::answers::{
 };
 use crate::{OrderTexts, Outcome, ProgramFault};
 use command_line::Order;
+use event_trace::TraceView;
 use prepared_runs::Progress;
 use std::alloc::Global;
 use std::io::Write;
@@ -52,8 +53,17 @@ pub fn write_answer<W: Write, P: Progress>(
         Order::Draw { source, view, form } => {
             write_diagram(alloc, &source.source(one), view, *form, out)
         }
-        Order::Trace { source, horizon } => {
-            write_trace(alloc, &source.source(one), *horizon, out)
+        Order::Trace {
+            source,
+            horizon,
+            idle,
+            net,
+        } => {
+            let view = TraceView {
+                idle: *idle,
+                net: *net,
+            };
+            write_trace(alloc, &source.source(one), *horizon, &view, out)
         }
         Order::Why { source, net, tick } => {
             write_why(alloc, &source.source(one), net, *tick, out)

@@ -20,6 +20,6 @@ pub returns-clause-err : goal.returns-clause-err
 returns-clause-err g c =
     on_err_weaker c.walk.result
     (subst (AppendsPrefix (g.W.Write.contents c.args.out.now) (g.W.Write.contents c.walk.new.out))
-    (round_lines_are c.args.design.now.circuit c.args.kernel.now.state c.args.number c.args.text.now.items c.push_round.new.text.items c.as_slice.result.now
+    (round_lines_are c.args.shown c.args.design.now.circuit c.args.kernel.now.state c.args.number c.args.text.now.items c.push_round.new.text.items c.as_slice.result.now
     (c.as_slice.ensures.value ∙ c.in_ok-events.ensures.events) c.in_ok-push_round.ensures))
     c.walk.ensures.err

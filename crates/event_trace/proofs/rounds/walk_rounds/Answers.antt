@@ -18,7 +18,7 @@ loop-alloc-init g c =
       running = c.requires.running;
       run = refl;
       undrained = c.requires.undrained;
-      rounds = all_left c.args.design.now.circuit most c.counts-rounds.result.rounds kernel.state (g.W.Write.contents c.args.out.now) c.args.text.now.items
+      rounds = all_left c.args.shown c.args.design.now.circuit most c.counts-rounds.result.rounds kernel.state (g.W.Write.contents c.args.out.now) c.args.text.now.items
           (ap (λ (counts : Counts). counts.rounds) c.counts-rounds.ensures)
           (c.no_deadlock.ensures.complete kernel.circuit ok kernel.end kernel.state sound most (most_enough kernel.circuit ok kernel.end));
     }
@@ -46,7 +46,7 @@ loop-alloc-preserved g c =
       run = run_on c.args.kernel.now kernel c.walk_round.new.kernel c.loop-alloc.invariant.run goes;
       undrained = λ net. ap (λ (k : KernelView). floor_at k.state net) goes ∙ steps_floor kernel.state (round_events kernel.state) net
           ∙ c.loop-alloc.invariant.undrained net;
-      rounds = one_more_round _ _ (held c.args.out.now) (held c.loop-alloc.out) _ c.loop-alloc.rounds kernel.state c.loop-alloc.text.items so_far incomplete
+      rounds = one_more_round _ _ _ (held c.args.out.now) (held c.loop-alloc.out) _ c.loop-alloc.rounds kernel.state c.loop-alloc.text.items so_far incomplete
           c.saturating_add-rounds.result c.saturating_add-rounds.ensures (held c.walk_round.new.out) c.walk_round.new.kernel.state c.walk_round.new.text.items
           (ap (λ (k : KernelView). k.state) goes) c.in_ok-walk_round.ensures.ok;
     }
@@ -57,16 +57,16 @@ returns-in_err-walk_round-clause-err g c =
     let kernel = c.loop-alloc.kernel in
     let incomplete = sym c.is_complete.ensures.complete ∙ c.loop-alloc-test.true in
     OnErr_always c.from_residual.result
-    (broken_round _ _ (held c.args.out.now) (held c.loop-alloc.out) _ c.loop-alloc.rounds kernel.state c.loop-alloc.text.items c.loop-alloc.invariant.rounds incomplete
+    (broken_round _ _ _ (held c.args.out.now) (held c.loop-alloc.out) _ c.loop-alloc.rounds kernel.state c.loop-alloc.text.items c.loop-alloc.invariant.rounds incomplete
     c.saturating_add-rounds.result c.saturating_add-rounds.ensures (held c.walk_round.new.out) c.in_err-walk_round.ensures.err)
 
 pub returns-clause-counts : goal.returns-clause-counts
 returns-clause-counts g c =
     let complete = sym c.is_complete.ensures.complete ∙ c.loop-alloc-test.false in
-    let done = none_left _ _ _ _ _ c.loop-alloc.rounds c.loop-alloc.kernel.state c.loop-alloc.text.items c.loop-alloc.invariant.rounds complete in
+    let done = none_left _ _ _ _ _ _ c.loop-alloc.rounds c.loop-alloc.kernel.state c.loop-alloc.text.items c.loop-alloc.invariant.rounds complete in
     ap (λ (counts : Counts). record counts { rounds = c.loop-alloc.rounds }) c.counts-counts.ensures ∙ ap (λ (s : State). s.counts) done.0
 
 pub returns-clause-ok : goal.returns-clause-ok
 returns-clause-ok g c =
     let complete = sym c.is_complete.ensures.complete ∙ c.loop-alloc-test.false in
-    (none_left _ _ _ _ _ c.loop-alloc.rounds c.loop-alloc.kernel.state c.loop-alloc.text.items c.loop-alloc.invariant.rounds complete).1
+    (none_left _ _ _ _ _ _ c.loop-alloc.rounds c.loop-alloc.kernel.state c.loop-alloc.text.items c.loop-alloc.invariant.rounds complete).1

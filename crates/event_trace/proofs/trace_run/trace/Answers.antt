@@ -1,25 +1,22 @@
-use Rattle.std.proofs.lemmas.Result.{err_from_is_err_and, IfErr-weaker}
-use Rattle.prepared_runs.specs.Prepared.{run_of_source}
+use Rattle.std.proofs.Common.{Result, List, ℕ, IsOkAnd, subst}
+use Rattle.std.specs.Io.KnownBytes.{Appends}
+use Rattle.std.proofs.lemmas.Result.{IfErr-weaker, on_ok_weaker}
+use Rattle.prepared_runs.specs.declared.fault.SimFault.{SimFault}
+use Rattle.prepared_runs.specs.Ends.{RunEndsBy}
 use Rattle.prepared_runs.specs.Source.{seen_source}
-use Rattle.event_trace.proofs.Traces.{ends_complete_on, trace_of_source-bad, trace_of_source-good}
-use Rattle.prepared_runs.proofs.CallerLemmas.{RunEndsBy-BreaksOff, RunEndsBy-IsRefusal}
+use Rattle.event_trace.proofs.Traces.{whole_of_source}
 use Rattle.event_trace.proofs.trace_run.trace.Goals as goal
-
-pub returns-in_err-run-clause-err : goal.returns-in_err-run-clause-err
-returns-in_err-run-clause-err g c =
-    let p = err_from_is_err_and c.from_residual.result c.from_residual.ensures.1 in
-    let source = seen_source c.args.source.now in
-    rw (p.1, p.2) (RunEndsBy-IsRefusal (run_of_source source c.args.horizon) _ _ _ (trace_of_source-bad source c.args.horizon _) c.in_err-run.ensures.err)
 
 pub returns-clause-ok : goal.returns-clause-ok
 returns-clause-ok g c =
-    rw (trace_of_source-good (seen_source c.args.source.now) c.args.horizon _ c.in_ok-run.ensures.ok) c.trace_prepared.ensures.ok
-
-pub returns-clause-complete : goal.returns-clause-complete
-returns-clause-complete g c =
-    ends_complete_on (seen_source c.args.source.now) c.args.horizon _ c.trace_prepared.result c.in_ok-run.ensures.ok c.in_ok-run.ensures.exist
+    on_ok_weaker c.trace_shown.result
+    (subst (λ (answer : Result (List ℕ) SimFault). IsOkAnd answer (Appends (g.W.Write.contents c.args.out.now) (g.W.Write.contents c.trace_shown.new.out)))
+    (whole_of_source (seen_source c.args.source.now) c.args.horizon))
+    c.trace_shown.ensures.ok
 
 pub returns-clause-err : goal.returns-clause-err
 returns-clause-err g c =
-    rw (trace_of_source-good (seen_source c.args.source.now) c.args.horizon _ c.in_ok-run.ensures.ok)
-    (IfErr-weaker c.trace_prepared.result _ _ (λ fault. RunEndsBy-BreaksOff _ _ _ fault) c.trace_prepared.ensures.err)
+    IfErr-weaker c.trace_shown.result _ _
+    (λ fault. subst (λ (answer : Result (List ℕ) SimFault). RunEndsBy answer (g.W.Write.contents c.args.out.now) (g.W.Write.contents c.trace_shown.new.out) fault)
+    (whole_of_source (seen_source c.args.source.now) c.args.horizon))
+    c.trace_shown.ensures.err

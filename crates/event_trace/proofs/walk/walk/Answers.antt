@@ -15,7 +15,7 @@ returns-in_err-send_long-clause-err g c =
     let events = c.args.events.now in
     let index = c.loop-event.event-index in
     let is = lines_on c.loop-event.kernel c.push_event.new.kernel events index (omega arith) c.in_ok-push_event.ensures.ok
-    c.args.design.now.circuit c.loop-event.text.items c.push_event.new.text.items c.in_ok-push_event.ensures.text in
+    c.args.shown c.args.design.now.circuit c.loop-event.text.items c.push_event.new.text.items c.in_ok-push_event.ensures.text in
     OnErr_always c.from_residual-in_err-send_long.result
     (GoesOut-fault (held c.args.out.now) (held c.loop-event.out) (held c.send_long.new.out) _ c.push_event.new.text.items _
     (subst (GoesOut _ _ _) is c.loop-event.invariant.text) c.in_err-send_long.ensures.err)
@@ -27,7 +27,7 @@ loop-event-preserved g c =
     let index = c.loop-event.event-index in
     let goes = c.in_ok-push_event.ensures.ok in
     let is = lines_on c.loop-event.kernel c.push_event.new.kernel events index (omega arith) goes
-    c.args.design.now.circuit c.loop-event.text.items c.push_event.new.text.items c.in_ok-push_event.ensures.text in
+    c.args.shown c.args.design.now.circuit c.loop-event.text.items c.push_event.new.text.items c.in_ok-push_event.ensures.text in
     record {
       running = ap (λ (k : KernelView). k.failed) goes ∙ c.loop-event.invariant.running;
       circuit = ap (λ (k : KernelView). k.circuit) goes ∙ c.loop-event.invariant.circuit;

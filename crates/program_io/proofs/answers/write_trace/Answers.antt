@@ -1,27 +1,27 @@
 use Rattle.std.proofs.Common.{◌≡◌, refl}
 use Rattle.std.proofs.lemmas.Result.{err_from_is_err_and}
-use Rattle.event_trace.specs.Traced.{trace_of_source}
+use Rattle.event_trace.specs.Traced.{shown_trace_of_source}
 use Rattle.prepared_runs.specs.Source.{seen_source}
 use Rattle.program_io.specs.Answers.{trace_answer}
 use Rattle.program_io.proofs.AnswerEnds.{AnswerEndsBy-dump, AnswerEndsBy-flush, GoesOut-dump, GoesOut-flushed, fault_of_run-no_read}
 use Rattle.program_io.proofs.answers.write_trace.Goals as goal
 
-pub returns-in_err-trace-clause-err : goal.returns-in_err-trace-clause-err
-returns-in_err-trace-clause-err g c =
+pub returns-in_err-trace_shown-clause-err : goal.returns-in_err-trace_shown-clause-err
+returns-in_err-trace_shown-clause-err g c =
     let p = err_from_is_err_and c.from_residual.result c.from_residual.ensures.1 in
-    rw (p.1, p.2) (AnswerEndsBy-dump (λ answer. answer ≡ trace_answer (seen_source c.args.source.now) c.args.horizon)
-    (trace_of_source (seen_source c.args.source.now) c.args.horizon) refl _ _ _ c.in_err-trace.ensures.err)
+    rw (p.1, p.2) (AnswerEndsBy-dump (λ answer. answer ≡ trace_answer (seen_source c.args.source.now) c.args.horizon c.args.view.now)
+    (shown_trace_of_source (seen_source c.args.source.now) c.args.horizon c.args.view.now) refl _ _ _ c.in_err-trace_shown.ensures.err)
 
-pub returns-in_err-trace-clause-no_read : goal.returns-in_err-trace-clause-no_read
-returns-in_err-trace-clause-no_read g c =
+pub returns-in_err-trace_shown-clause-no_read : goal.returns-in_err-trace_shown-clause-no_read
+returns-in_err-trace_shown-clause-no_read g c =
     let p = err_from_is_err_and c.from_residual.result c.from_residual.ensures.1 in
     rw (p.1, p.2) (fault_of_run-no_read _ _)
 
 pub returns-in_err-flush-clause-err : goal.returns-in_err-flush-clause-err
 returns-in_err-flush-clause-err g c =
     let p = err_from_is_err_and c.from_residual-in_err-flush.result c.from_residual-in_err-flush.ensures.1 in
-    rw (p.1, p.2) (AnswerEndsBy-flush (λ answer. answer ≡ trace_answer (seen_source c.args.source.now) c.args.horizon) _ _ _ _ (GoesOut-dump (λ answer. answer ≡ trace_answer (seen_source c.args.source.now) c.args.horizon)
-    (trace_of_source (seen_source c.args.source.now) c.args.horizon) refl _ _ c.in_ok-trace.ensures.ok) c.flush.ensures.kept _ c.in_err-flush.ensures.err)
+    rw (p.1, p.2) (AnswerEndsBy-flush (λ answer. answer ≡ trace_answer (seen_source c.args.source.now) c.args.horizon c.args.view.now) _ _ _ _ (GoesOut-dump (λ answer. answer ≡ trace_answer (seen_source c.args.source.now) c.args.horizon c.args.view.now)
+    (shown_trace_of_source (seen_source c.args.source.now) c.args.horizon c.args.view.now) refl _ _ c.in_ok-trace_shown.ensures.ok) c.flush.ensures.kept _ c.in_err-flush.ensures.err)
 
 pub returns-in_err-flush-clause-no_read : goal.returns-in_err-flush-clause-no_read
 returns-in_err-flush-clause-no_read g c =
@@ -30,5 +30,5 @@ returns-in_err-flush-clause-no_read g c =
 
 pub returns-clause-ok : goal.returns-clause-ok
 returns-clause-ok g c =
-    GoesOut-flushed (λ answer. answer ≡ trace_answer (seen_source c.args.source.now) c.args.horizon) _ _ _ _ (GoesOut-dump (λ answer. answer ≡ trace_answer (seen_source c.args.source.now) c.args.horizon)
-    (trace_of_source (seen_source c.args.source.now) c.args.horizon) refl _ _ c.in_ok-trace.ensures.ok) c.flush.ensures.kept
+    GoesOut-flushed (λ answer. answer ≡ trace_answer (seen_source c.args.source.now) c.args.horizon c.args.view.now) _ _ _ _ (GoesOut-dump (λ answer. answer ≡ trace_answer (seen_source c.args.source.now) c.args.horizon c.args.view.now)
+    (shown_trace_of_source (seen_source c.args.source.now) c.args.horizon c.args.view.now) refl _ _ c.in_ok-trace_shown.ensures.ok) c.flush.ensures.kept
