@@ -62,7 +62,7 @@ static OPTIONS: [(&str, &str); 3] = [
 ];
 
 /// The options of one command alone.
-static ELSEWHERE: [(&str, &str); 9] = [
+static ELSEWHERE: [(&str, &str); 10] = [
     ("counts", "run"),
     ("clock", "stimuli"),
     ("hold", "stimuli"),
