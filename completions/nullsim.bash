@@ -27,9 +27,10 @@ _nullsim_options() {
             --only --help) ;;
         info) options=(--bench=FILE --verbose --delays=FILE --delay=N --period=N --help) ;;
         cone) options=(--bench=FILE --verbose --help) ;;
-        diff) options=(--horizon=N --verbose --net=NAMES --from=N --every=N --first=FILE --first-delays=FILE
-            --first-stimuli=FILE --first-delay=N --first-period=N --first-schedule=FILE --second=FILE
-            --second-delays=FILE --second-stimuli=FILE --second-delay=N --second-period=N --second-schedule=FILE --help) ;;
+        diff) options=(--horizon=N --verbose --nets=NAMES --from=N --every=N --bench=FILE --delays=FILE --stimuli=FILE
+            --delay=N --period=N --first=FILE --first-delays=FILE --first-stimuli=FILE --first-delay=N --first-period=N
+            --first-schedule=FILE --second=FILE --second-delays=FILE --second-stimuli=FILE --second-delay=N
+            --second-period=N --second-schedule=FILE --help) ;;
         twin) options=(--net=NAME --verbose --horizon=N --first=FILE --first-delays=FILE --first-stimuli=FILE
             --first-delay=N --first-period=N --first-schedule=FILE --second=FILE --second-delays=FILE
             --second-stimuli=FILE --second-delay=N --second-period=N --second-schedule=FILE --help) ;;
