@@ -2,4 +2,5 @@
 
 mod circuits;
 mod lines;
+mod shown;
 mod writers;
