@@ -73,7 +73,7 @@ const NO_OUTPUT: &[u8] = b"note: no net is an output\n";
 /// A run, its horizon, and the notes on it.
 type Row = (Source<'static>, u64, &'static [u8]);
 
-static NOTED: [Row; 32] = [
+static NOTED: [Row; 35] = [
     (DRIVEN, 9, b""),
     (DRIVEN, 8, LATE),
     // Only the last stimulus, which comes too late.
