@@ -32,7 +32,7 @@ module _ (kernel new : KernelView) (events : List Event) (index : ℕ) (within :
   undrained_on undrained net =
       ap (λ (k : KernelView). floor_at k.state net) goes ∙ steps_floor kernel.state (event_at events index ∷ []) net ∙ undrained net
 
-  -- and the lines that are left stand behind the one that was added, if it is shown
+  -- and the lines that are left come after the one that was added, if it is shown
   pub lines_on : (shown : ShownEvents) (circuit : Circuit) (text piece : List ℕ) →
       piece ≡ text ++ shown_text shown circuit (line_of kernel.state (event_at events index) ∷ []) →
       text ++ shown_text shown circuit (lines_of kernel.state (drop index events))

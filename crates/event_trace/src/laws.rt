@@ -41,7 +41,7 @@ pub fn every_event_is_shown()
         shown_trace every_event circuit end events ≡ trace_text circuit end events }
 {}
 
-/// The lines of idle events tell nothing: without them, the lines have the same changes and null messages.
+/// The lines of idle events report nothing: without them, the lines have the same changes and null messages.
 pub fn idle_lines_tell_nothing()
     ensures changes { (idle : Bool) (lines : List Line) →
         changes_told (shown_lines (record { idle = idle; net = None }) lines) ≡ changes_told lines }
