@@ -1,6 +1,6 @@
 //! Facts about the steps of a run alone.
-ghost use Rattle.std.specs.Prelude.{◌≡◌, ◌≢◌, ℕ, ◌+◌, ◌*◌, ◌<◌, ◌≤◌, ◌↔◌, List, [], ◌++◌, length, drop, All, Some, slice_get, true, false};
-ghost use Rattle.design.specs.Circuit.{Circuit, IsCircuit, pin_count};
+ghost use Rattle.std.specs.Prelude.{◌≡◌, ◌≢◌, ℕ, ◌+◌, ◌*◌, ◌<◌, ◌≤◌, ◌↔◌, List, [], ◌++◌, length, drop, Some, slice_get, true, false};
+ghost use Rattle.design.specs.Circuit.{Circuit, pin_count};
 ghost use Rattle.design.specs.Pins.{sources_of, net_of_pin};
 ghost use Rattle.gate_process.specs.Step.{next_frontier};
 ghost use Rattle.cmb_events.specs.declared.event.Event.{Event};

@@ -1,10 +1,7 @@
 //! Facts about the defining equations alone.
-ghost use Rattle.std.specs.Prelude.{◌≡◌, ℕ, ◌+◌, ◌<◌, ◌≤◌, List, map, All, Some, Ok};
+ghost use Rattle.std.specs.Prelude.{◌≡◌, ℕ, ◌+◌, ◌<◌, ◌≤◌, map, All, Some};
 ghost use Rattle.logic3.specs.declared.value.Value.{Value};
 ghost use Rattle.logic3.specs.declared.value.Value.TheVariants.{Unknown};
-ghost use Rattle.netlist.specs.Netlist.{NetlistView, IsNetlist};
-ghost use Rattle.timing_text.specs.Timings.{IsFirstVersion};
-ghost use Rattle.design.specs.Build.{circuit_of};
 ghost use Rattle.design.specs.Circuit.{Net, Circuit, IsTimed, IsCircuit};
 ghost use Rattle.design.specs.Samples.{IsSample, first_sample, last_sample, next_sample, asked_tick, source_tick, first_asker};
 ghost use Rattle.design.specs.Equations.{later, equation, equation_at, IsSolution, value_of};

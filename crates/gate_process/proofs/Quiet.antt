@@ -6,7 +6,7 @@ use Rattle.logic3.specs.Wave.{changes_between, joined}
 use Rattle.gate_process.specs.Knowledge.{news_of}
 use Rattle.gate_process.specs.Step.{ProcessState, ProcessView, next_frontier, reckoned, advanced, news, drained}
 use Rattle.gate_process.specs.Truth.{IsProcess}
-use Rattle.gate_process.specs.Quiet.{IsQuiet, KnowsTo, AreQuiet, AreHeard, AreAtRest}
+use Rattle.gate_process.specs.Quiet.{IsQuiet, KnowsTo, AreQuiet, AreHeard}
 use Rattle.gate_process.proofs.Advanced.{advanced_of}
 use Rattle.gate_process.proofs.Events.{advanced_is_process}
 use Rattle.gate_process.proofs.Stays.{advanced_stays}

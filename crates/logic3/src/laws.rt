@@ -1,5 +1,5 @@
 //! Facts about the definitions alone.
-ghost use Rattle.std.specs.Prelude.{◌≡◌, ◌≢◌, ◌↔◌, ℕ, ◌+◌, ◌<◌, ◌≤◌, List, length, All, Contains, Some, slice_get, slice_set};
+ghost use Rattle.std.specs.Prelude.{◌≡◌, ◌↔◌, ℕ, ◌+◌, ◌<◌, ◌≤◌, List, length, All, Contains, Some, slice_get, slice_set};
 ghost use Rattle.logic3.specs.declared.value.Value.{Value};
 ghost use Rattle.logic3.specs.declared.value.Value.TheVariants.{Unknown};
 ghost use Rattle.logic3.specs.declared.change.Change.{Change};
