@@ -190,6 +190,10 @@ def most_lines(texts: Texts) -> str | None:
     ended = texts.over("run --horizon 0", [], bench=b"INPUT(a)\n", stimuli=changes)
     if ended.status:
         return f"{ended.err!r}"
+    delays = filled(b"#y 3\n")
+    ended = texts.over("run --horizon 0 --verbose", [], bench=INVERTER, delays=delays)
+    if ended.status or b"delay line: 1 2 3 4 5 6 7 8 9 10 11 12 and %d more\n" % (delays.count(b"\n") - 12) not in ended.err:
+        return f"{ended.err!r}"
     advances = b"advance a\n" * (LONGEST // 10)
     ended = texts.over("run --horizon 0 --counts", [], bench=b"INPUT(a)\n", schedule=advances)
     return differs(Ended(ended.status, b"", ended.err), Ended(0, b"", counted(len(advances) // 10, 0, 1, 0)))

@@ -1,5 +1,6 @@
 mod Answer
 mod Causes
+mod Delayed
 mod Diagrams
 mod Listed
 mod Marked

@@ -7,11 +7,11 @@ use Rattle.netlist.specs.Marks.{is_seen}
 use Rattle.netlist.proofs.CallerLemmas.{test_fails}
 use Rattle.plain_runs.specs.Unused.{is_among, AreMarks}
 
-or_false : (b : Bool) → (b || false) ≡ b
+pub or_false : (b : Bool) → (b || false) ≡ b
 or_false true = refl
 or_false false = refl
 
-or_true : (b : Bool) → (b || true) ≡ true
+pub or_true : (b : Bool) → (b || true) ≡ true
 or_true true = refl
 or_true false = refl
 

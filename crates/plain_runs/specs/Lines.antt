@@ -1,5 +1,5 @@
 -- Lines of texts that are accepted and look like mistakes.
-use Rattle.std.specs.Prelude.{ℕ, ◌+◌, ◌==◌, ◌||◌, ◌&&◌, not, Bool, false, if◌then◌else◌, List, [], ◌∷◌, codes, filter, length, map, slice_index_or, bytes_eq, Option, None, Some}
+use Rattle.std.specs.Prelude.{◌≡◌, ℕ, ◌+◌, ◌<◌, ◌==◌, ◌||◌, ◌&&◌, not, Bool, false, if◌then◌else◌, List, [], ◌∷◌, codes, filter, length, map, slice_get, slice_index_or, bytes_eq, Option, None, Some}
 use Rattle.std.specs.List.{after_first, list_any, prefix_len, range_with_len}
 use Rattle.std.specs.Option.{is_some, option_map_or}
 use Rattle.texts.specs.Text.{code_of, is_empty, is_white, lines_of, number_of, words_of}
@@ -82,17 +82,24 @@ delayed_in_comment line = if is_comment line then delay_name (words_of (comment_
 abbrev pub is_delayed : Net → Bool
 is_delayed net = not (is_input net.part)
 
--- the name is that of a gate or a flip-flop
-abbrev pub is_delayed_name : DesignView → List ℕ → Bool
-is_delayed_name design name = option_map_or (net_is is_delayed design.circuit) (net_named design.netlist name) false
+-- a line gives the net with this number a delay
+abbrev pub gives_delay : DesignView → ℕ → List ℕ → Bool
+gives_delay design net line = option_map_or is_its_name (delay_name (words_of (code_of line))) false
+  where
+    is_its_name : List ℕ → Bool
+    is_its_name name = option_map_or (λ other. other == net) (net_named design.netlist name) false
 
--- a line gives the net a delay
-abbrev pub is_delay_of : List ℕ → List ℕ → Bool
-is_delay_of name line = option_map_or (bytes_eq name) (delay_name (words_of (code_of line))) false
+-- the marks of the nets to which these lines give delays
+pub record MarkDelayed (design : DesignView) (lines : List (List ℕ)) (marks : List Bool) : Type 0 where
+  pub count : length marks ≡ length design.circuit
+  pub marked : (net : ℕ) → net < length design.circuit → slice_get marks net ≡ Some (list_any (gives_delay design net) lines)
 
 -- the name is that of a gate or a flip-flop to which none of these lines gives a delay
 abbrev pub lacks_delay : DesignView → List (List ℕ) → List ℕ → Bool
-lacks_delay design lines name = is_delayed_name design name && not (list_any (is_delay_of name) lines)
+lacks_delay design lines name = option_map_or undelayed (net_named design.netlist name) false
+  where
+    undelayed : ℕ → Bool
+    undelayed net = net_is is_delayed design.circuit net && not (list_any (gives_delay design net) lines)
 
 -- ---- lines
 

@@ -1,8 +1,8 @@
 //! Lines of texts that are accepted and look like mistakes.
-ghost use Rattle.std.specs.Prelude.{◌≡◌, ◌++◌, [], map, option_map, IfOk, OnOk};
-ghost use Rattle.std.specs.List.{list_any};
+ghost use Rattle.std.specs.Prelude.{◌≡◌, ℕ, ◌<◌, ◌==◌, ◌++◌, false, List, [], length, map, option_map, IfOk, IfSome, OnOk};
+ghost use Rattle.std.specs.Option.{option_map_or};
 ghost use Rattle.texts.specs.Text.{lines_of, words_of};
-ghost use Rattle.plain_runs.specs.Lines.{after_byte, are_value, closed_values, comment_of, delay_name, delayed_in_comment, doubtful_numbers, hides_word, is_among, is_comment, is_delay_of, is_delayed_name, is_doubtful, is_undriven_name, is_value, lacks_delay, name_beside, name_in_comment, stimulus_name, values};
+ghost use Rattle.plain_runs.specs.Lines.{after_byte, are_value, closed_values, comment_of, delay_name, delayed_in_comment, doubtful_numbers, hides_word, is_among, is_comment, gives_delay, MarkDelayed, is_doubtful, is_undriven_name, is_value, lacks_delay, name_beside, name_in_comment, stimulus_name, values};
 ghost use Rattle.plain_runs.specs.Text.{doubt_note};
 
 use crate::remark::is_undriven;
@@ -34,7 +34,11 @@ pub(crate) fn push_doubt(
     ensures { OnOk result (notes.new.items ≡ notes.old.items ++ doubt_note words.now doubt design.now text.now) }
 {
     let lines = lines_of(alloc, text)?;
-    let numbers = doubtful_numbers(alloc, design, lines.as_slice(), doubt)?;
+    let delayed = match doubt {
+        Doubt::Delay => delayed_nets(alloc, design, lines.as_slice())?,
+        _ => Vec::new(alloc),
+    };
+    let numbers = doubtful_numbers(alloc, design, lines.as_slice(), delayed.as_slice(), doubt)?;
     push_lines_note(notes, words, numbers.as_slice())
 }
 
@@ -45,19 +49,43 @@ fn lines_of(alloc: Global, text: &[u8]) -> Result<Vec<&[u8]>, AllocError>
     text.split(|byte| *byte == b'\n').collect(alloc)
 }
 
-/// Returns the numbers of the doubtful ones of these lines, from 1, in rising order.
+/// Returns the marks of the nets to which these lines give delays.
+fn delayed_nets(alloc: Global, design: &Design, lines: &[&[u8]]) -> Result<Vec<bool>, AllocError>
+    ensures { IfOk result (λ marks. MarkDelayed design.now (map (λ line. line.now) lines.now) marks.items) }
+{
+    let mut marks = vec![in alloc; false; design.nets() as usize]?;
+    for line in lines {
+        if let Some(net) = net_delayed_in(design, line) {
+            marks[net as usize] = true;
+        }
+    }
+    Ok(marks)
+}
+
+/// Returns the number of the net to which a line gives a delay.
+fn net_delayed_in(design: &Design, line: &[u8]) -> Option<u32>
+    ensures within { IfSome result (λ net. net < length design.now.circuit) }
+    ensures gives { (net : ℕ) → gives_delay design.now net line.now ≡ option_map_or (λ given. given == net) result false }
+{
+    design.find(delay_name(code_of(line))?)
+}
+
+/// Returns the numbers of the doubtful ones of these lines, from 1, in rising order, given the marks of the nets to
+/// which they give delays.
 fn doubtful_numbers(
     alloc: Global,
     design: &Design,
     lines: &[&[u8]],
+    delayed: &[bool],
     doubt: Doubt,
 ) -> Result<Vec<u64>, AllocError>
+    requires { doubt ≡ Doubt.Delay → MarkDelayed design.now (map (λ line. line.now) lines.now) delayed.now }
     ensures { IfOk result (λ numbers. numbers.items
         ≡ doubtful_numbers doubt design.now (map (λ line. line.now) lines.now)) }
 {
     let mut numbers = Vec::new(alloc);
     for place in 0..lines.len() {
-        if doubt.is_about(design, lines, lines[place]) {
+        if doubt.is_about(design, delayed, lines[place]) {
             numbers.push(place as u64 + 1)?;
         }
     }
@@ -65,14 +93,16 @@ fn doubtful_numbers(
 }
 
 impl Doubt {
-    /// Returns whether one of these lines is doubtful for this.
-    fn is_about(self, design: &Design, lines: &[&[u8]], line: &[u8]) -> bool
-        ensures { result ≡ is_doubtful self design.now (map (λ line. line.now) lines.now) line.now }
+    /// Returns whether a line is doubtful for this, given the marks of the nets to which the lines around it give
+    /// delays.
+    fn is_about(self, design: &Design, delayed: &[bool], line: &[u8]) -> bool
+        ensures { (lines : List (List ℕ)) → (self ≡ Doubt.Delay → MarkDelayed design.now lines delayed.now) →
+            result ≡ is_doubtful self design.now lines line.now }
     {
         match self {
             Doubt::HiddenWord => hides_word(line),
             Doubt::Stimulus => is_missing_stimulus(design, line),
-            Doubt::Delay => is_missing_delay(design, lines, line),
+            Doubt::Delay => is_missing_delay(design, delayed, line),
         }
     }
 }
@@ -94,49 +124,25 @@ fn is_missing_stimulus(design: &Design, line: &[u8]) -> bool
     }
 }
 
-/// Returns whether a line is a comment, and would be a delay for a gate or a flip-flop to which no line gives one.
-fn is_missing_delay(design: &Design, lines: &[&[u8]], line: &[u8]) -> bool
-    ensures { result ≡ is_doubtful Doubt.Delay design.now (map (λ line. line.now) lines.now) line.now }
+/// Returns whether a line is a comment, and would be a delay for a gate or a flip-flop that isn't marked.
+fn is_missing_delay(design: &Design, delayed: &[bool], line: &[u8]) -> bool
+    ensures { (lines : List (List ℕ)) → MarkDelayed design.now lines delayed.now →
+        result ≡ is_doubtful Doubt.Delay design.now lines line.now }
 {
     match delayed_in_comment(line) {
-        Some(name) => lacks_delay(design, lines, name),
+        Some(name) => lacks_delay(design, delayed, name),
         None => false,
     }
 }
 
-/// Returns whether a name is that of a gate or a flip-flop to which none of these lines gives a delay.
-fn lacks_delay(design: &Design, lines: &[&[u8]], name: &[u8]) -> bool
-    ensures { result ≡ lacks_delay design.now (map (λ line. line.now) lines.now) name.now }
-{
-    is_delayed_name(design, name) && !has_delay_line(lines, name)
-}
-
-fn has_delay_line(lines: &[&[u8]], name: &[u8]) -> bool
-    ensures { result ≡ list_any (is_delay_of name.now) (map (λ line. line.now) lines.now) }
-{
-    match lines.split_first() {
-        Some((line, rest)) => is_delay_of(name, line) || has_delay_line(rest, name),
-        None => false,
-    }
-}
-
-/// Returns whether a line gives a net a delay.
-fn is_delay_of(name: &[u8], line: &[u8]) -> bool
-    ensures { result ≡ is_delay_of name.now line.now }
-{
-    match delay_name(code_of(line)) {
-        Some(net) => name == net,
-        None => false,
-    }
-}
-
-/// Returns whether a name is that of a gate or a flip-flop.
-fn is_delayed_name(design: &Design, name: &[u8]) -> bool
-    ensures { result ≡ is_delayed_name design.now name.now }
+/// Returns whether a name is that of a gate or a flip-flop that isn't marked.
+fn lacks_delay(design: &Design, delayed: &[bool], name: &[u8]) -> bool
+    ensures { (lines : List (List ℕ)) → MarkDelayed design.now lines delayed.now →
+        result ≡ lacks_delay design.now lines name.now }
 {
     prove!(design.nets() > 0);
     match design.find(name) {
-        Some(net) => !design.part(net).is_input(),
+        Some(net) => !design.part(net).is_input() && delayed.get(net as usize) == Some(&false),
         None => false,
     }
 }

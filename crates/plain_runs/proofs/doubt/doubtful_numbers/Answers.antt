@@ -16,12 +16,12 @@ loop-place-preserved c =
           c.loop-place.invariant
           (ap (is_doubtful c.args.doubt c.args.design.now (seen c.args.lines.now))
           (get_or-map (λ (line : Bor (List ℕ)). line.now) c.args.lines.now c.loop-place.place _ [] c.loop-place-test.true)
-          ∙ sym c.is_about.ensures ∙ w.if-is_about.true))
+          ∙ sym (c.is_about.ensures (seen c.args.lines.now) c.requires) ∙ w.if-is_about.true))
       | else-is_about w ↦
           rw w.numbers-is
           (numbered_same (is_doubtful_at c.args.doubt c.args.design.now (seen c.args.lines.now)) c.loop-place.place c.loop-place.numbers.items
           c.loop-place.invariant
           (ap (is_doubtful c.args.doubt c.args.design.now (seen c.args.lines.now))
           (get_or-map (λ (line : Bor (List ℕ)). line.now) c.args.lines.now c.loop-place.place _ [] c.loop-place-test.true)
-          ∙ sym c.is_about.ensures ∙ w.if-is_about.false))
+          ∙ sym (c.is_about.ensures (seen c.args.lines.now) c.requires) ∙ w.if-is_about.false))
     ]
