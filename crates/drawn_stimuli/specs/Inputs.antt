@@ -67,6 +67,14 @@ FailsBy fault result = MatchResult result (λ _. fault ≡ None) (λ other. faul
 abbrev pub drives_or_fault : NetlistView → List DriveView → Result (List (List Drive)) DriveFault
 drives_or_fault netlist drives = option_map_or Err (first_fault netlist [] drives) (Ok (drives_of_nets drives netlist.nets))
 
+-- this holds of any drives that give the nets of a netlist these
+abbrev pub ForGiven : NetlistView → List (List Drive) → (List DriveView → Type 0) → Type 0
+ForGiven netlist kept P = (given : List DriveView) → kept ≡ drives_of_nets given netlist.nets → P given
+
+-- this holds of each of some drives, where none of them is faulty
+abbrev pub ForAccepted : (List DriveView → DriveView → Type 0) → Type 0
+ForAccepted P = (netlist : NetlistView) (drives : List DriveView) → first_fault netlist [] drives ≡ None → All (P drives) drives
+
 -- ---- inputs
 
 -- an input: its name, its drives, and the number of inputs before it that are drawn

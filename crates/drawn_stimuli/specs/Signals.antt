@@ -1,5 +1,5 @@
 -- The value that an input has at each tick: by drives of its own, or drawn.
-use Rattle.std.specs.Prelude.{ℕ, ◌+◌, ◌-◌, ◌*◌, ◌/◌, ◌%◌, ◌<◌, ◌≤◌, ◌==◌, ◌&&◌, nat_le, nat_lt, if◌then◌else◌, Bool, true, false, List, [], ◌∷◌}
+use Rattle.std.specs.Prelude.{◌≡◌, ℕ, ◌+◌, ◌-◌, ◌*◌, ◌/◌, ◌%◌, ◌<◌, ◌≤◌, ◌==◌, ◌&&◌, nat_le, nat_lt, if◌then◌else◌, Bool, true, false, List, [], ◌∷◌}
 use Rattle.std.specs.List.{list_any}
 use Rattle.logic3.specs.declared.value.Value.{Value}
 use Rattle.logic3.specs.declared.value.Value.TheVariants.{Zero, One, Unknown}
@@ -72,3 +72,8 @@ pub record AreRounds (rounds : Rounds) : Type 0 where
 abbrev pub signal_of : Rounds → List Drive → ℕ → ℕ → Value
 signal_of rounds [] place = drawn_value rounds place
 signal_of rounds (first ∷ others) place = drives_value first others
+
+-- these drives give 1 in each of their pulses, and 0 elsewhere
+abbrev pub GiveTheirPulses : List Drive → Type 0
+GiveTheirPulses drives =
+    (rounds : Rounds) (place tick : ℕ) → signal_of rounds drives place tick ≡ bit (list_any (λ drive. in_pulse drive tick) drives)

@@ -1,9 +1,9 @@
 //! The inputs of a netlist, and what drives each.
-ghost use Rattle.std.specs.Prelude.{◌≡◌, ◌≢◌, ◌<◌, ◌≤◌, List, [], length, map, replicate, All, MatchOption, None, Some, Ok, Err, IfOk, true, false};
+ghost use Rattle.std.specs.Prelude.{◌≡◌, ◌≢◌, ◌<◌, ◌≤◌, [], length, map, replicate, All, MatchOption, None, Some, Ok, Err, IfOk, true, false};
 ghost use Rattle.std.specs.Result.{result_map_both};
 ghost use Rattle.netlist.specs.Netlist.{net_named, most_nets};
 ghost use Rattle.drawn_stimuli.specs.Signals.{IsDrive, is_pulse};
-ghost use Rattle.drawn_stimuli.specs.Inputs.{DriveView, FailsBy, IsInputNet, can_follow, drives_of_nets, drives_or_fault, fault_behind, form_fault, inputs_of, is_drawn, names_input, next_place, seen_drive, seen_input};
+ghost use Rattle.drawn_stimuli.specs.Inputs.{FailsBy, ForGiven, IsInputNet, can_follow, drives_or_fault, fault_behind, form_fault, inputs_of, is_drawn, names_input, next_place, seen_drive, seen_input};
 
 use crate::drive::{Drive, Driven};
 use crate::fault::DriveFault;
@@ -85,9 +85,8 @@ fn net_to_drive(
     requires one_each { length kept.now ≡ length netlist.now.nets }
     ensures net { IfOk result (λ net. net_named netlist.now driven.now.name.now ≡ Some net) }
     ensures drive { IfOk result (λ _. IsDrive driven.now.drive) }
-    ensures fault { (earlier : List DriveView) → map (λ drives. drives.items) kept.now ≡ drives_of_nets earlier netlist.now.nets →
-        length earlier ≡ place →
-        FailsBy (fault_behind netlist.now earlier (seen_drive driven.now)) result }
+    ensures fault { ForGiven netlist.now (map (λ drives. drives.items) kept.now) (λ earlier. length earlier ≡ place →
+        FailsBy (fault_behind netlist.now earlier (seen_drive driven.now)) result) }
 {
     let Some(net) = input_named(netlist, driven.name) else {
         return Err(DriveFault::NotAnInput { place });
@@ -146,9 +145,8 @@ pub(crate) fn inputs_of<'d>(
 ) -> Result<Vec<InputNet<'d>>, AllocError>
     requires one_each { length drives.now ≡ length netlist.now.nets }
     requires drives { All (All IsDrive) (map (λ drives. drives.items) drives.now) }
-    ensures inputs { IfOk result (λ inputs. (given : List DriveView) →
-        map (λ drives. drives.items) drives.now ≡ drives_of_nets given netlist.now.nets →
-        map (seen_input netlist.now) inputs.items ≡ inputs_of netlist.now given) }
+    ensures inputs { IfOk result (λ inputs. ForGiven netlist.now (map (λ drives. drives.items) drives.now) (λ given.
+        map (seen_input netlist.now) inputs.items ≡ inputs_of netlist.now given)) }
     ensures exist { IfOk result (λ inputs. All (IsInputNet netlist.now) inputs.items) }
     ensures few { IfOk result (λ inputs. length inputs.items ≤ most_nets) }
 {

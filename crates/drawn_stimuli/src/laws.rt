@@ -1,6 +1,6 @@
 //! Facts about the definitions alone.
-ghost use Rattle.std.specs.Prelude.{◌≡◌, ℕ, ◌+◌, ◌≤◌, List, [], ◌∷◌, All, None, Ok, map, true, false};
-ghost use Rattle.std.specs.List.{list_any, range_with_len};
+ghost use Rattle.std.specs.Prelude.{◌≡◌, ℕ, ◌+◌, ◌≤◌, List, [], ◌∷◌, All, Ok, map, true, false};
+ghost use Rattle.std.specs.List.{range_with_len};
 ghost use Rattle.rand_core.specs.Pcg32Seed.{pcg32_seed};
 ghost use Rattle.rand_core.specs.Steps.{first_words};
 ghost use Rattle.rand_pcg.specs.Pcg.{pcg32, pcg32_of_seed};
@@ -8,9 +8,8 @@ ghost use Rattle.logic3.specs.Wave.{changes_between};
 ghost use Rattle.netlist.specs.Netlist.{NetlistView};
 ghost use Rattle.timing_text.specs.Ranges.{most_ticks};
 ghost use Rattle.timing_text.specs.Stimuli.{stimuli_of};
-ghost use Rattle.drawn_stimuli.specs.declared.drive.Rounds.{Rounds};
-ghost use Rattle.drawn_stimuli.specs.Inputs.{DriveView, InputView, drives_named, first_fault, input_names, inputs_of, is_drawn};
-ghost use Rattle.drawn_stimuli.specs.Signals.{bit, in_pulse, is_pulse, signal_of, word_after};
+ghost use Rattle.drawn_stimuli.specs.Inputs.{DriveView, ForAccepted, InputView, drives_named, input_names, inputs_of, is_drawn};
+ghost use Rattle.drawn_stimuli.specs.Signals.{GiveTheirPulses, is_pulse, word_after};
 ghost use Rattle.drawn_stimuli.specs.StimulusText.{Drawing, changes_drawn, inputs_drawn, stimuli_drawn, text_drawn, value_drawn, value_read};
 
 /// The reader of stimuli accepts the text for its netlist, and reads from it the changes that it was
@@ -32,13 +31,10 @@ pub fn texts_read_back()
 /// If no drive is faulty, each takes effect. The input with the name of a clock or of a held value has
 /// exactly this drive. The input with the name of a pulse is 1 in each pulse with this name, and 0 elsewhere.
 pub fn drives_count()
-    ensures alone { (netlist : NetlistView) (drives : List DriveView) → first_fault netlist [] drives ≡ None →
-        All (λ (driven : DriveView). is_pulse driven.drive ≡ false →
-        drives_named drives driven.name ≡ driven.drive ∷ []) drives }
-    ensures pulses { (netlist : NetlistView) (drives : List DriveView) → first_fault netlist [] drives ≡ None →
-        (rounds : Rounds) (place tick : ℕ) → All (λ (driven : DriveView). is_pulse driven.drive ≡ true →
-        signal_of rounds (drives_named drives driven.name) place tick
-        ≡ bit (list_any (λ drive. in_pulse drive tick) (drives_named drives driven.name))) drives }
+    ensures alone { ForAccepted (λ drives driven. is_pulse driven.drive ≡ false →
+        drives_named drives driven.name ≡ driven.drive ∷ []) }
+    ensures pulses { ForAccepted (λ drives driven. is_pulse driven.drive ≡ true →
+        GiveTheirPulses (drives_named drives driven.name)) }
 {}
 
 /// Where only the inputs that drives name have values, the text has no change of another input, which

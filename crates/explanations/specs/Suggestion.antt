@@ -1,5 +1,6 @@
 -- The suggestion after what is known of a fault: what a name that no line defines may mean, or the only name near to the one at fault.
 use Rattle.std.specs.Prelude.{ℕ, ◌&&◌, not, Bool, if◌then◌else◌, List, [], ◌∷◌, ◌++◌, drop, length, map, take, bytes_eq, codes, option_and_then, option_map, Option, None, Some}
+use denote.Ref.{Bor}
 use Rattle.std.specs.List.{find}
 use Rattle.std.specs.Option.{option_map_or}
 use Rattle.std.specs.Str.{all_ascii_digits, str_eq_ignore_ascii_case}
@@ -13,6 +14,10 @@ use Rattle.mistakes.specs.Near.{near_among}
 use Rattle.explanations.specs.DeckStart.{deck_start}
 use Rattle.explanations.specs.Nets.{defined_told, inputs_in, nets_in}
 use Rattle.texts.specs.Text.{code_of, is_empty}
+
+-- a text or a word, if there is one
+abbrev pub seen_text : Option (Bor (List ℕ)) → Option (List ℕ)
+seen_text text = option_map (λ (bytes : Bor (List ℕ)). bytes.now) text
 
 -- ---- a net
 

@@ -1,7 +1,7 @@
 //! The suggestion after what is known of a fault: what a name that no line defines may mean, or the only name
 //! near to the one at fault.
 ghost use Rattle.std.specs.Prelude.{◌≡◌, ◌++◌, option_and_then, option_map, OnOk};
-ghost use Rattle.explanations.specs.Suggestion.{code_at, for_gate, for_input, for_missing, for_net, for_other, for_undefined, for_undefined_in, near_input_told, near_net_told, suggestion, unknown_net};
+ghost use Rattle.explanations.specs.Suggestion.{code_at, for_gate, for_input, for_missing, for_net, for_other, for_undefined, for_undefined_in, near_input_told, near_net_told, seen_text, suggestion, unknown_net};
 
 use crate::deck_start::push_deck_start;
 use crate::gate_words::push_gate;
@@ -26,8 +26,8 @@ pub(crate) fn push_suggestion(
     circuit: Option<&[u8]>,
 ) -> Result<(), AllocError>
     ensures { OnOk result (told.new.items ≡ told.old.items
-        ++ suggestion subject name.now number (option_map (λ text. text.now) text.entry)
-        (option_map (λ word. word.now) word.entry) (option_map (λ circuit. circuit.now) circuit.entry)) }
+        ++ suggestion subject name.now number (seen_text text.entry)
+        (seen_text word.entry) (seen_text circuit.entry)) }
 {
     if name == "Undefined" {
         push_for_undefined(alloc, told, number, text)
@@ -55,8 +55,8 @@ fn push_for_other(
     circuit: Option<&[u8]>,
 ) -> Result<(), AllocError>
     ensures { OnOk result (told.new.items ≡ told.old.items
-        ++ for_other name.now (option_map (λ text. text.now) text.entry)
-        (option_map (λ word. word.now) word.entry) (option_map (λ circuit. circuit.now) circuit.entry)) }
+        ++ for_other name.now (seen_text text.entry)
+        (seen_text word.entry) (seen_text circuit.entry)) }
 {
     if name == "NotAnInput" {
         push_for_input(alloc, told, circuit, word)
@@ -75,7 +75,7 @@ fn push_for_input(
     name: Option<&[u8]>,
 ) -> Result<(), AllocError>
     ensures { OnOk result (told.new.items ≡ told.old.items
-        ++ for_input (option_map (λ circuit. circuit.now) circuit.entry) (option_map (λ name. name.now) name.entry)) }
+        ++ for_input (seen_text circuit.entry) (seen_text name.entry)) }
 {
     match (circuit, name) {
         (Some(circuit), Some(name)) => push_near_input(alloc, told, name, circuit),
@@ -105,7 +105,7 @@ fn push_for_undefined(
     text: Option<&[u8]>,
 ) -> Result<(), AllocError>
     ensures { OnOk result (told.new.items ≡ told.old.items
-        ++ for_undefined number (option_map (λ text. text.now) text.entry)) }
+        ++ for_undefined number (seen_text text.entry)) }
 {
     let Some(text) = text else {
         return Ok(());
@@ -155,7 +155,7 @@ fn push_for_gate(
     text: Option<&[u8]>,
 ) -> Result<(), AllocError>
     ensures { OnOk result (told.new.items ≡ told.old.items
-        ++ for_gate number (option_map (λ text. text.now) text.entry)) }
+        ++ for_gate number (seen_text text.entry)) }
 {
     let Some(code) = code_in(text, number) else {
         return Ok(());
@@ -174,7 +174,7 @@ fn push_for_net(
     name: Option<&[u8]>,
 ) -> Result<(), AllocError>
     ensures { OnOk result (told.new.items ≡ told.old.items
-        ++ for_net (option_map (λ circuit. circuit.now) circuit.entry) (option_map (λ name. name.now) name.entry)) }
+        ++ for_net (seen_text circuit.entry) (seen_text name.entry)) }
 {
     match (circuit, name) {
         (Some(circuit), Some(name)) => push_near_net(
@@ -196,7 +196,7 @@ fn unknown_net<'a>(
     word: Option<&'a [u8]>,
 ) -> Option<&'a [u8]>
     ensures { option_map (λ name. name.now) result
-        ≡ unknown_net subject number (option_map (λ text. text.now) text.entry) (option_map (λ word. word.now) word.entry) }
+        ≡ unknown_net subject number (seen_text text.entry) (seen_text word.entry) }
 {
     match word {
         Some(word) => Some(word),
@@ -207,7 +207,7 @@ fn unknown_net<'a>(
 /// Returns the line with a number, without its comment, if the text is known and has it.
 fn code_in(text: Option<&[u8]>, number: u64) -> Option<&[u8]>
     ensures { option_map (λ code. code.now) result
-        ≡ option_and_then (code_at number) (option_map (λ text. text.now) text.entry) }
+        ≡ option_and_then (code_at number) (seen_text text.entry) }
 {
     code_at(text?, number)
 }

@@ -1,5 +1,5 @@
 -- The words and marks of a line, with their columns.
-use Rattle.std.specs.Prelude.{ℕ, ◌+◌, ◌==◌, ◌||◌, ◌&&◌, not, Bool, true, false, if◌then◌else◌, List, [], ◌∷◌, map, codes, slice_index}
+use Rattle.std.specs.Prelude.{◌≡◌, ℕ, ◌+◌, ◌==◌, ◌||◌, ◌&&◌, not, Bool, true, false, if◌then◌else◌, List, [], ◌∷◌, length, map, codes, slice_index}
 use Rattle.std.specs.List.{list_any}
 use Rattle.mistakes.specs.declared.subject.Subject.{Subject}
 use Rattle.mistakes.specs.declared.subject.Subject.TheVariants.{Bench}
@@ -44,6 +44,11 @@ tokens_from marked column (byte ∷ code) =
     if is_white byte then tokens
     else if not (is_word_byte marked byte) || is_word_end marked code then record { column = column; bytes = byte ∷ [] } ∷ tokens
     else lengthened column byte tokens
+
+-- the tokens of a text that begins at a column are this one, and then those of the rest
+abbrev pub BeginWith : Bool → ℕ → List ℕ → Token → List ℕ → Type 0
+BeginWith marked column code first rest =
+    tokens_from marked column code ≡ first ∷ tokens_from marked (first.column + length first.bytes) rest
 
 -- the tokens of a line without its comment
 abbrev pub tokens_of : Subject → List ℕ → List Token

@@ -1,7 +1,7 @@
 //! The words and marks of a line, with their columns.
-ghost use Rattle.std.specs.Prelude.{◌≡◌, ◌+◌, ◌<◌, ◌≤◌, ◌^◌, [], ◌∷◌, max, length, IfSome, MatchOption};
+ghost use Rattle.std.specs.Prelude.{◌≡◌, ◌+◌, ◌<◌, ◌≤◌, ◌^◌, [], max, length, IfSome, MatchOption};
 ghost use Rattle.std.specs.List.{prefix_len};
-ghost use Rattle.mistakes.specs.Tokens.{has_marks, is_word_byte, tokens_from, tokens_of};
+ghost use Rattle.mistakes.specs.Tokens.{BeginWith, has_marks, is_word_byte, tokens_from, tokens_of};
 ghost use Rattle.mistakes.specs.SeenForms.{seen_token};
 
 use crate::places::slot::is_mark;
@@ -80,8 +80,7 @@ impl<'a> Iterator for Tokens<'a> {
 fn split_token(marked: bool, column: usize, code: &[u8]) -> Option<(Token<'_>, &[u8])>
     requires { column + length code.now < 2 ^ 64 }
     ensures tokens { MatchOption result (tokens_from marked column code.now ≡ [])
-        (λ split. tokens_from marked column code.now
-        ≡ seen_token split.0 ∷ tokens_from marked (split.0.column + length split.0.bytes.now) split.1.now) }
+        (λ split. BeginWith marked column code.now (seen_token split.0) split.1.now) }
     ensures within { IfSome result (λ split.
         split.0.column + length split.0.bytes.now + length split.1.now ≡ column + length code.now) }
 {

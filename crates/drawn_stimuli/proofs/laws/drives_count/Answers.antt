@@ -5,4 +5,5 @@ pub returns-clause-alone : goal.returns-clause-alone
 returns-clause-alone c = drives_alone
 
 pub returns-clause-pulses : goal.returns-clause-pulses
-returns-clause-pulses c = λ netlist drives none rounds place tick. drives_pulses netlist drives none rounds place tick
+returns-clause-pulses c = λ netlist drives none k d within pulse rounds place tick.
+    drives_pulses netlist drives none rounds place tick k d within pulse
