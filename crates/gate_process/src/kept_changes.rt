@@ -51,7 +51,7 @@ impl KeptChange {
 /// The changes that a pin keeps: added at the end, and dropped from the front.
 ///
 /// Both take constant time on average. Memory is kept for later changes, so it follows the largest number of
-/// changes that were kept at a time.
+/// changes that were kept at a time. A pin that keeps one at a time has room for one.
 #[derive(Debug, Drop)]
 pub struct KeptChanges {
     changes: Vec<KeptChange>,
@@ -101,6 +101,9 @@ impl KeptChanges {
         ensures ok { OnOk result (self.new ≡ self.old ++ change ∷ []) }
         ensures err { OnErr result (self.new ≡ self.old) }
     {
+        if self.changes.capacity() == 0 {
+            self.changes.reserve_exact(1)?;
+        }
         self.changes.push(KeptChange {
             tick: change.tick as u32,
             value: change.value,

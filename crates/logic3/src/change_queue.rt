@@ -7,7 +7,8 @@ use std::marker::Model;
 /// A list of changes that grows at the end and is dropped from the front.
 ///
 /// Both operations take amortized constant time. Memory is kept for the next changes, so it is in
-/// proportion to the most changes that the queue had at a time.
+/// proportion to the most changes that the queue had at a time. A queue that has one at a time has
+/// room for one.
 #[derive(Debug, Drop)]
 pub struct ChangeQueue {
     changes: Vec<Change>,
@@ -56,6 +57,9 @@ impl ChangeQueue {
         ensures ok { OnOk result (self.new ≡ self.old ++ change ∷ []) }
         ensures err { OnErr result (self.new ≡ self.old) }
     {
+        if self.changes.capacity() == 0 {
+            self.changes.reserve_exact(1)?;
+        }
         self.changes.push(change)?;
         Ok(())
     }

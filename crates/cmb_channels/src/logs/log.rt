@@ -1,5 +1,5 @@
 //! The log of one net.
-ghost use Rattle.std.specs.Prelude.{◌≡◌, ◌<◌, ◌≤◌, ◌↔◌, ◌^◌, IsTrue, length, drop, OnOk, OnErr};
+ghost use Rattle.std.specs.Prelude.{◌≡◌, ◌+◌, ◌<◌, ◌≤◌, ◌↔◌, ◌^◌, IsTrue, length, drop, vec_capacity, vec_len, OnOk, OnErr};
 ghost use Rattle.cmb_channels.specs.Logs.{past, empty_log, written, cut_to, passed};
 
 use crate::logs::logged::Logged;
@@ -9,6 +9,9 @@ use std::marker::Model;
 
 // A shorter log grows before anything is removed.
 const LEAST_FULL: usize = 16;
+
+// A log with room for fewer messages grows by no more than it needs. Many logs never hold more.
+const FEW: usize = 4;
 
 /// The messages of a net, from one that every pin has taken or none has up to the newest.
 #[derive(Debug, Drop)]
@@ -85,7 +88,7 @@ impl Log {
         ensures memory { OnErr result (0 < self.old.readers) }
     {
         if self.readers > 0 {
-            self.messages.reserve(messages.len())?;
+            reserve(&mut self.messages, messages.len())?;
             for message in messages {
                 self.messages.push_reserved(Logged::of(*message));
             }
@@ -115,5 +118,17 @@ impl Log {
             self.messages.copy_within(len - kept.., 0);
             self.messages.truncate(kept);
         }
+    }
+}
+
+/// Makes room for `more` messages: in a short list for no more than these.
+fn reserve(messages: &mut Vec<Logged>, more: usize) -> Result<(), AllocError>
+    ensures messages { messages.new.items ≡ messages.old.items }
+    ensures room { OnOk result (vec_len messages.new + more ≤ vec_capacity messages.new) }
+{
+    if messages.capacity() < FEW {
+        messages.reserve_exact(more)
+    } else {
+        messages.reserve(more)
     }
 }
