@@ -57,6 +57,21 @@ seen_two (wire ∷ next ∷ more ∷ wires) (first ∷ second ∷ []) pin other 
 seen_two (wire ∷ next ∷ []) (first ∷ second ∷ []) pin other long some few is other_is =
     λ i. as_known (seen wire (is i)) ∷ as_known (seen next (other_is i)) ∷ []
 
+seen_three : (wires : List ℕ) (received : List Knowledge) (pin other last : Knowledge) → length wires ≡ length received →
+    3 ≤ length received → length received < 4 → pin ≡ get_or received 0 pin → other ≡ get_or received 1 other → last ≡ get_or received 2 last →
+    (as_known (seen (get_or wires 0 0) pin) ∷ as_known (seen (get_or wires 1 0) other) ∷ as_known (seen (get_or wires 2 0) last) ∷ [])
+    ≡ map as_known (seen_pins wires received)
+seen_three wires [] pin other last long some few is other_is last_is = absurd (omega arith)
+seen_three wires (first ∷ []) pin other last long some few is other_is last_is = absurd (omega arith)
+seen_three wires (first ∷ second ∷ []) pin other last long some few is other_is last_is = absurd (omega arith)
+seen_three wires (first ∷ second ∷ third ∷ fourth ∷ received) pin other last long some few is other_is last_is = absurd (omega arith)
+seen_three [] (first ∷ second ∷ third ∷ []) pin other last long some few is other_is last_is = absurd (omega arith)
+seen_three (wire ∷ []) (first ∷ second ∷ third ∷ []) pin other last long some few is other_is last_is = absurd (omega arith)
+seen_three (wire ∷ next ∷ []) (first ∷ second ∷ third ∷ []) pin other last long some few is other_is last_is = absurd (omega arith)
+seen_three (wire ∷ next ∷ end ∷ more ∷ wires) (first ∷ second ∷ third ∷ []) pin other last long some few is other_is last_is = absurd (omega arith)
+seen_three (wire ∷ next ∷ end ∷ []) (first ∷ second ∷ third ∷ []) pin other last long some few is other_is last_is =
+    λ i. as_known (seen wire (is i)) ∷ as_known (seen next (other_is i)) ∷ as_known (seen end (last_is i)) ∷ []
+
 -- ---- the waveforms that are read
 
 module _ (net : Net) (received : List Knowledge) (ok : IsNet net) (pins : length received ≡ length net.pins) where
@@ -103,6 +118,14 @@ module _ (net : Net) (received : List Knowledge) (ok : IsNet net) (pins : length
     two_read pin other some few is other_is =
         ap (λ ws. as_known (seen (get_or ws 0 0) pin) ∷ as_known (seen (get_or ws 1 0) other) ∷ []) same
         ∙ seen_two net.wires received pin other each_wire some few is other_is ∙ pins_read (omega (arith, some))
+
+    pub three_read : (pin other last : Knowledge) → 3 ≤ length received → length received < 4 → pin ≡ get_or received 0 pin →
+        other ≡ get_or received 1 other → last ≡ get_or received 2 last →
+        (as_known (seen (get_or wires 0 0) pin) ∷ as_known (seen (get_or wires 1 0) other) ∷ as_known (seen (get_or wires 2 0) last) ∷ [])
+        ≡ read_by net (seen_pins net.wires received)
+    three_read pin other last some few is other_is last_is =
+        ap (λ ws. as_known (seen (get_or ws 0 0) pin) ∷ as_known (seen (get_or ws 1 0) other) ∷ as_known (seen (get_or ws 2 0) last) ∷ []) same
+        ∙ seen_three net.wires received pin other last each_wire some few is other_is last_is ∙ pins_read (omega (arith, some))
 
     pub all_read : 0 < length received → map as_known (seen_pins wires received) ≡ read_by net (seen_pins net.wires received)
     all_read some = ap (λ ws. map as_known (seen_pins ws received)) same ∙ pins_read some

@@ -102,12 +102,20 @@ fn reckon(
         news_between (continued wave.old span.from (signal_over net.now received.now)) span.from to) }
 {
     let wires = net.wires();
-    // Most gates have one or two pins, which need no list of cursors. Only an input has none.
+    // Most gates have one to three pins, which need no list of cursors. Only an input has none.
     match received {
         [] => walk(net, &mut [net.stimuli()], span, most, wave, messages),
         [pin] => walk(net, &mut [pin.cursor(wires[0])], span, most, wave, messages),
         [first, second] => {
             let mut cursors = [first.cursor(wires[0]), second.cursor(wires[1])];
+            walk(net, &mut cursors, span, most, wave, messages)
+        }
+        [first, second, third] => {
+            let mut cursors = [
+                first.cursor(wires[0]),
+                second.cursor(wires[1]),
+                third.cursor(wires[2]),
+            ];
             walk(net, &mut cursors, span, most, wave, messages)
         }
         _ => {

@@ -24,7 +24,8 @@ pub struct Received {
     // The value before the first change that is kept.
     before: Value,
     changes: KeptChanges,
-    frontier: u64,
+    // Four bytes hold the tick of any run.
+    frontier: u32,
 }
 
 impl Model for Received {
@@ -55,7 +56,7 @@ impl Received {
         ensures frontier { result ≡ self.now.frontier }
         ensures within { result ≤ most_ticks + 1 }
     {
-        self.frontier
+        u64::from(self.frontier)
     }
 
     /// Adds a message to what is known. A null message takes no memory. An `AllocError` changes nothing.
@@ -70,9 +71,9 @@ impl Received {
         match message {
             Message::Change(change) => {
                 self.changes.push(change)?;
-                self.frontier = change.tick + 1;
+                self.frontier = change.tick as u32 + 1;
             }
-            Message::Null(bound) => self.frontier = bound,
+            Message::Null(bound) => self.frontier = bound as u32,
         }
         Ok(())
     }
@@ -89,7 +90,7 @@ impl Received {
             (take (wanted tick self.old.frontier messages.now) messages.now) ≡ true) }
     {
         for (count, message) in messages.iter().enumerate() {
-            if self.frontier >= tick {
+            if u64::from(self.frontier) >= tick {
                 return Ok(count);
             }
             self.hear(message.message())?;
@@ -110,7 +111,8 @@ impl Received {
             return;
         }
         let oldest = net.oldest_asked(place, frontier);
-        self.forget_before(oldest.min(self.frontier.saturating_sub(1)));
+        let last = u64::from(self.frontier).saturating_sub(1);
+        self.forget_before(oldest.min(last));
     }
 
     /// Forgets the ticks before this one.
@@ -132,7 +134,8 @@ impl Received {
     pub fn cursor(&self, wire: u32) -> Cursor<'_>
         ensures { result ≡ as_known (seen wire self.now) }
     {
-        Cursor::received(self.before, self.changes.as_slice(), self.frontier, wire)
+        let frontier = u64::from(self.frontier);
+        Cursor::received(self.before, self.changes.as_slice(), frontier, wire)
     }
 
     /// Returns the value of the last change, or X if none.
