@@ -46,6 +46,15 @@ get_or-starts_from (here ∷ circuit) first zero d within = omega arith
 get_or-starts_from (here ∷ circuit) first (suc net) d within =
     get_or-starts_from circuit (first + length here.pins) net d (omega arith) ∙ omega arith
 
+-- the first pin of the next net comes after those of a net
+pub first_pin-next : (circuit : Circuit) (number : ℕ) (d : Net) → number < length circuit →
+    first_pin circuit (suc number) ≡ first_pin circuit number + length (get_or circuit number d).pins
+first_pin-next [] number d within = absurd (omega arith)
+first_pin-next (net ∷ []) zero d within = omega arith
+first_pin-next (net ∷ next ∷ nets) zero d within = omega arith
+first_pin-next (net ∷ nets) (suc number) d within =
+    let later = first_pin-next nets number d (omega arith) in omega arith
+
 -- past the last net comes the number of pins
 pub first_pin-end : (circuit : Circuit) → first_pin circuit (length circuit) ≡ pin_count circuit
 first_pin-end [] = refl

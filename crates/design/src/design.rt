@@ -103,6 +103,15 @@ impl Design {
         self.netlist.pins_of(net)
     }
 
+    /// Returns the number of pins of a net: at most 1,024.
+    pub fn fan_in(&self, net: u32) -> usize
+        requires { net < length self.now.circuit }
+        ensures { option_map (λ (n : Net). length n.pins) (slice_get self.now.circuit net) ≡ Some result }
+    {
+        let end = self.first_pins[net as usize + 1];
+        (end - self.first_pins[net as usize]) as usize
+    }
+
     /// Returns the number of the net with this name, if any.
     pub fn find(&self, name: &[u8]) -> Option<u32>
         ensures named { result ≡ net_named self.now.netlist name.now }

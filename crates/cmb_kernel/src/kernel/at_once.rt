@@ -45,7 +45,7 @@ impl<'d> Kernel<'d, Logs> {
             self.counts.add_silent(1);
             return Ok(());
         }
-        for place in 0..self.design.pins_of(net).len() {
+        for place in 0..self.design.fan_in(net) {
             self.catch_up_at_once(net, place, tick)?;
         }
         self.step(Event::Advance(net))?;
