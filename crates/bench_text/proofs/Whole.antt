@@ -69,12 +69,12 @@ module _ (lines : List (ℕ × Statement)) (names : List (List ℕ)) (nets : Lis
   outputs-within =
       rw outputs-is (All-map (λ output. output < length names) (place_of names) (filter_map output_in lines) (HasPlace-outputs names lines undefined-none))
 
-  view-is : netlist_view names nets (distinct outputs) ≡ netlist_with definitions (filter_map output_in lines)
+  view-is : netlist_view names (map seen_net nets) (distinct outputs) ≡ netlist_with definitions (filter_map output_in lines)
   view-is =
       let outs = filter_map output_in lines in
-      ap (λ kept. netlist_view names nets (distinct kept)) outputs-is
+      ap (λ kept. netlist_view names (map seen_net nets) (distinct kept)) outputs-is
       ∙ ap (λ (all : List NetView). record { nets = all; outputs = distinct (map (place_of names) outs) })
-      (ap (λ names. named_nets names nets) names-is ∙ named_nets-wired (λ (d : Definition). d.name) (net_wiring names) definitions nets nets-is)
+      (ap (λ names. named_nets names (map seen_net nets)) names-is ∙ named_nets-wired (λ (d : Definition). d.name) (net_wiring names) definitions (map seen_net nets) nets-is)
       ∙ ap
       (λ names. record {
         nets = map (λ (d : Definition). record { name = d.name; part = d.part; pins = map (place_of names) d.pins }) definitions;
@@ -84,7 +84,7 @@ module _ (lines : List (ℕ × Statement)) (names : List (List ℕ)) (nets : Lis
 
   -- within the limits
   module _ (some : 0 < length nets) (within : is_over_limit (length nets) (sum_by (λ (net : Net). length net.pins.items) nets) ≡ false) where
-    pub netlist-whole : Ok (netlist_view names nets (distinct outputs)) ≡ netlist_of_statements lines
+    pub netlist-whole : Ok (netlist_view names (map seen_net nets) (distinct outputs)) ≡ netlist_of_statements lines
     netlist-whole =
         ap Ok view-is
         ∙ rw (fault-is, is_empty-some definitions (omega (arith, length-nets)), ← length-nets, ← pins-nets, within) refl
@@ -92,7 +92,7 @@ module _ (lines : List (ℕ × Statement)) (names : List (List ℕ)) (nets : Lis
     few : (length nets ≤ 100_000) × (sum_by (λ (net : Net). length net.pins.items) nets ≤ 1_000_000)
     few = (grind (arith, nat_tests), grind (arith, nat_tests))
 
-    pub IsNetlist-whole : All (λ (line : ℕ × Statement). IsStatement line.1) lines → IsNames names → IsNetlist (netlist_view names nets (distinct outputs))
+    pub IsNetlist-whole : All (λ (line : ℕ × Statement). IsStatement line.1) lines → IsNames names → IsNetlist (netlist_view names (map seen_net nets) (distinct outputs))
     IsNetlist-whole proper known =
         rw view-is
         (IsNetlist-with lines proper (rw names-is at known) (rw names-is at undefined-none) (omega (arith, length-nets)) (omega (arith, length-nets, few.0))

@@ -57,7 +57,7 @@ fn netlist(alloc: Global, lines: &[(u64, Statement<'_>)]) -> Result<Netlist, Ben
         return Err(BenchFault::TooMany);
     }
     let outputs = without_repeats(alloc, outputs.as_slice(), names.len())?;
-    Ok(Netlist::new(names, nets, outputs))
+    Ok(Netlist::new(names, nets, outputs)?)
 }
 
 /// Returns the names that the lines define, in order, unless one is defined twice.

@@ -4,7 +4,7 @@ ghost use Rattle.std.specs.Prelude.{◌≡◌, length};
 use crate::circuits::Circuit;
 use Step::{Sends, Takes, Waits};
 use Value::{One, Zero};
-use cmb_channels::{Fabric, Logged, Logs, Message, Queues};
+use cmb_channels::{Fabric, Logs, Message, Queues, Waiting};
 use design::Design;
 use logic3::{Change, Value};
 use std::alloc::{AllocError, Global};
@@ -177,23 +177,14 @@ fn one_log(rt: HostRuntime) -> Result<(), Fail> {
     keep_one_log(&rt, rt.alloc(), &design)
 }
 
-#[test]
-fn as_a_log_keeps_it(rt: HostRuntime) {
-    for message in [RISE, LATE, NONE_BELOW] {
-        let logged: Logged = Logged::of(message);
-        let copy: Message = logged.message();
-        assert!(rt; copy == message);
-    }
-}
-
 // These messages wait at a pin, which takes all of them at once.
 fn take_slice(rt: &impl Abort, channels: &mut Channels<Logs>, pin: u32, wanted: &[Message]) {
     assert!(rt; pin < channels.pins);
-    let waiting: &[Logged] = channels.fabric.waiting_messages(pin);
+    let waiting: Waiting<'_> = channels.fabric.waiting_messages(pin);
     let count = waiting.len();
     assert!(rt; count == wanted.len());
-    for (logged, message) in waiting.iter().zip(wanted) {
-        assert!(rt; logged.message() == *message);
+    for (place, message) in wanted.iter().enumerate() {
+        assert!(rt; waiting.get(place) == Some(*message));
     }
     channels.fabric.take_many(pin, count);
 }

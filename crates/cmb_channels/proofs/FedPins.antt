@@ -1,74 +1,9 @@
--- The pins that each net feeds, in one list.
-use Rattle.std.proofs.Common.{◌≡◌, ℕ, zero, suc, ◌-◌, ◌<◌, ◌≤◌, List, [], ◌∷◌, ◌++◌, length, take, drop, slice_range, slice_index_or, refl, ap, sym, ◌∙◌, arith, zero-add}
-use Rattle.std.proofs.lemmas.List.{length-append, length-drop, drop_at, take_all, drop-append-le, take-append-le}
-use Rattle.std.proofs.lemmas.List.FromFn.{get_or-map-range_with_len}
+-- The pins that nets feed.
+use Rattle.std.proofs.Common.{◌≡◌, ℕ, ◌<◌, List, [], slice_index_or, ap, ◌∙◌}
 use Rattle.design.specs.Pins.{pins_fed, all_fed}
-use Rattle.cmb_channels.specs.FedPins.{parts_from, parts, AreBoundsFrom, AreBounds}
+use Rattle.design.proofs.CallerLemmas.{all_fed-at}
 
 -- the pins of a net, among those of all
 pub pins_at : (fed : List (List ℕ)) (nets net : ℕ) (sources : List ℕ) → fed ≡ all_fed nets sources → net < nets →
     slice_index_or fed net [] ≡ pins_fed net sources
-pins_at fed nets net sources e below =
-    ap (λ all. slice_index_or all net []) e
-    ∙ get_or-map-range_with_len (λ n. pins_fed n sources) 0 nets net net [] below (zero-add net)
-
--- ---- a part
-
-bounds_within : (first : ℕ) (bounds xs : List ℕ) → AreBoundsFrom first bounds xs → first ≤ length xs
-bounds_within first [] xs are = omega (arith, are)
-bounds_within first (next ∷ bounds) xs are = omega (arith, are.0, bounds_within next bounds xs are.1)
-
--- a part of a list lies between two of the places
-pub record IsPart (bounds xs : List ℕ) (at : ℕ) : Type 0 where
-  pub is : slice_index_or (parts bounds xs) at [] ≡ slice_range xs (slice_index_or bounds at 0) (slice_index_or bounds (suc at) 0)
-  pub rising : slice_index_or bounds at 0 ≤ slice_index_or bounds (suc at) 0
-  pub within : slice_index_or bounds (suc at) 0 ≤ length xs
-  pub exists : suc at < length bounds
-
-part_from : (first : ℕ) (bounds xs : List ℕ) (at : ℕ) → AreBoundsFrom first bounds xs → at < length (parts_from first bounds xs) →
-    IsPart (first ∷ bounds) xs at
-part_from first [] xs at are below = absurd (omega arith)
-part_from first (next ∷ bounds) xs zero are below =
-    record { is = refl; rising = are.0; within = bounds_within next bounds xs are.1; exists = omega arith }
-part_from first (next ∷ bounds) xs (suc at) are below =
-    let later = part_from next bounds xs at are.1 (omega arith) in
-    record { is = later.is; rising = later.rising; within = later.within; exists = omega (arith, later.exists) }
-
-pub part_at : (bounds xs : List ℕ) (at : ℕ) → AreBounds bounds xs → at < length (parts bounds xs) → IsPart bounds xs at
-part_at [] xs at are below = absurd are
-part_at (first ∷ bounds) xs at are below = part_from first bounds xs at are below
-
--- ---- a part more
-
-module _ (xs ys : List ℕ) where
-  abbrev end : ℕ
-  end = length (xs ++ ys)
-
-  last_part : (last : ℕ) → last ≡ length xs → slice_range (xs ++ ys) last end ≡ ys
-  last_part last e =
-      ap (take (end - last)) (drop_at xs ys last (sym e)) ∙ take_all (end - last) ys (omega (arith, e, length-append xs ys))
-
-  part_stays : (first next : ℕ) → first ≤ next → next ≤ length xs → slice_range (xs ++ ys) first next ≡ slice_range xs first next
-  part_stays first next rising within =
-      ap (take (next - first)) (drop-append-le first xs ys (omega (arith, rising, within)))
-      ∙ take-append-le (next - first) (drop first xs) ys (omega (arith, within, length-drop first xs))
-
-  more_from : (first : ℕ) (bounds : List ℕ) → AreBoundsFrom first bounds xs →
-      parts_from first (bounds ++ end ∷ []) (xs ++ ys) ≡ parts_from first bounds xs ++ ys ∷ []
-  more_from last [] are = ap (λ part. part ∷ []) (last_part last are)
-  more_from first (next ∷ bounds) are =
-      let part = part_stays first next are.0 (bounds_within next bounds xs are.1) in
-      let later = more_from next bounds are.1 in
-      λ i. part i ∷ later i
-
-  bounds_from : (first : ℕ) (bounds : List ℕ) → AreBoundsFrom first bounds xs → AreBoundsFrom first (bounds ++ end ∷ []) (xs ++ ys)
-  bounds_from last [] are = (omega (arith, are, length-append xs ys), refl)
-  bounds_from first (next ∷ bounds) are = (are.0, bounds_from next bounds are.1)
-
-  pub parts_more : (bounds : List ℕ) → AreBounds bounds xs → parts (bounds ++ end ∷ []) (xs ++ ys) ≡ parts bounds xs ++ ys ∷ []
-  parts_more [] are = absurd are
-  parts_more (first ∷ bounds) are = more_from first bounds are
-
-  pub bounds_more : (bounds : List ℕ) → AreBounds bounds xs → AreBounds (bounds ++ end ∷ []) (xs ++ ys)
-  bounds_more [] are = absurd are
-  bounds_more (first ∷ bounds) are = bounds_from first bounds are
+pins_at fed nets net sources e below = ap (λ all. slice_index_or all net []) e ∙ all_fed-at nets sources net below

@@ -2,8 +2,10 @@ pub mod Kinds
 pub mod Lists
 pub mod Channels
 pub mod Waiting
-pub mod FedPins
 pub mod Logs
+pub mod Packed
+pub mod Stored
+pub mod Parts
 pub use Rattle.logic3.specs.Gate
 pub use Rattle.logic3.specs.Wave
 pub use Rattle.design.specs.Circuit

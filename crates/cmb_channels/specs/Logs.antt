@@ -1,5 +1,5 @@
 -- The logs of nets, and what pins have taken from them.
-use Rattle.std.specs.Prelude.{◌≡◌, ℕ, ◌+◌, ◌-◌, ◌/◌, ◌%◌, ◌<◌, ◌≤◌, ◌==◌, nat_lt, nat_le, Bool, if◌then◌else◌, List, [], ◌∷◌, ◌++◌, length, map, drop, count_by, All, Option, None, Some, slice_get, refl}
+use Rattle.std.specs.Prelude.{◌≡◌, ℕ, ◌+◌, ◌-◌, ◌/◌, ◌%◌, ◌<◌, ◌≤◌, ◌==◌, nat_lt, nat_le, Bool, if◌then◌else◌, List, [], ◌∷◌, ◌++◌, length, map, drop, count_by, All, Option, None, Some, slice_get}
 use Rattle.std.specs.List.{range_with_len}
 use Rattle.std.specs.Option.{option_map_or}
 use Rattle.logic3.specs.declared.value.Value.{Value}
@@ -21,10 +21,6 @@ tick_said (Null bound) = bound
 abbrev pub value_said : Message → Option Value
 value_said (Changes change) = Some change.value
 value_said (Null bound) = None
-
-pub said_back : (tick : ℕ) (value : Option Value) → (tick_said (said_of tick value) ≡ tick) × (value_said (said_of tick value) ≡ value)
-said_back tick (Some value) = (refl, refl)
-said_back tick None = (refl, refl)
 
 -- ---- counts
 

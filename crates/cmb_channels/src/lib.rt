@@ -24,6 +24,6 @@ mod message;
 mod queues;
 
 pub use fabric::Fabric;
-pub use logs::{Logged, Logs};
+pub use logs::{Logs, Waiting};
 pub use message::Message;
 pub use queues::Queues;

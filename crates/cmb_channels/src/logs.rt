@@ -4,22 +4,25 @@ ghost use Rattle.cmb_channels.specs.Lists.{sent, taken_many, most_waiting};
 
 mod building;
 mod log;
-mod logged;
+mod messages;
+mod packed;
+mod waiting;
 
 use crate::fabric::Fabric;
-use crate::fed_pins::FedPins;
+use crate::fed_pins::fed_pins;
 use crate::message::Message;
 use building::{no_counts, pin_sources, read_logs};
 use design::Design;
+use flat_lists::FlatLists;
 use log::Log;
-pub use logged::Logged;
 use std::alloc::{AllocError, Global};
 use std::marker::Model;
+pub use waiting::Waiting;
 
 /// Channels with a log for each net, of the messages that it sent, and a count for each pin, of the
 /// messages that it has taken. What waits at a pin is one slice of a log.
 ///
-/// A message needs sixteen bytes, for all pins together. Sending, taking and counting take amortized
+/// A message needs four bytes, for all pins together, or 24 from the first on that doesn't fit in four. Sending, taking and counting take amortized
 /// constant time for each message that is sent, for any number of pins that the net feeds and of messages
 /// that are taken at once.
 ///
@@ -37,7 +40,7 @@ pub struct Logs {
     // The log of each net.
     logs: Vec<Log>,
     // The pins that each net feeds.
-    fed: FedPins,
+    fed: FlatLists<u32>,
 }
 
 impl Model for Logs {
@@ -58,9 +61,9 @@ impl Model for Logs {
 
 impl Logs {
     /// Returns the messages that wait at the pin, the oldest first. Allocates nothing.
-    pub fn waiting_messages(&self, pin: u32) -> &[Logged]
+    pub fn waiting_messages(&self, pin: u32) -> Waiting<'_>
         requires { pin < length self.now.lists }
-        ensures { result.now ≡ slice_index_or self.now.lists pin [] }
+        ensures { result ≡ slice_index_or self.now.lists pin [] }
     {
         let source = self.sources[pin as usize];
         self.logs[source as usize].unread(self.counts[pin as usize])
@@ -93,7 +96,7 @@ impl Logs {
         ensures { result ≡ most_waiting net self.now.sources self.now.lists }
     {
         let mut most = 0;
-        for pin in self.fed.of(net) {
+        for pin in self.fed.list(net as usize) {
             most = self.waiting(*pin).max(most);
         }
         most
@@ -140,7 +143,7 @@ impl Fabric for Logs {
         let counts = no_counts(alloc, pins)?;
         let sources = pin_sources(alloc, design)?;
         let logs = read_logs(alloc, design)?;
-        let fed = FedPins::new(alloc, design)?;
+        let fed = fed_pins(alloc, design)?;
         Ok(Logs {
             sources,
             counts,
@@ -182,7 +185,7 @@ impl Fabric for Logs {
     }
 
     fn take(&mut self, pin: u32) -> Option<Message> {
-        let message = self.waiting_messages(pin).first()?.message();
+        let message = self.waiting_messages(pin).get(0)?;
         self.take_many(pin, 1);
         Some(message)
     }

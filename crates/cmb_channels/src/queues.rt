@@ -2,11 +2,12 @@ mod building;
 mod filling;
 
 use crate::fabric::Fabric;
-use crate::fed_pins::FedPins;
+use crate::fed_pins::fed_pins;
 use crate::message::Message;
 use building::empty_queues;
 use design::Design;
 use filling::{push_at_all, reserve_places};
+use flat_lists::FlatLists;
 use std::alloc::{AllocError, Global};
 use std::collections::VecDeque;
 use std::marker::Model;
@@ -18,7 +19,7 @@ use std::marker::Model;
 #[derive(Debug, Drop)]
 pub struct Queues {
     // The pins that each net feeds.
-    fed: FedPins,
+    fed: FlatLists<u32>,
     // The messages that wait at each pin.
     queues: Vec<VecDeque<Message>>,
 }
@@ -50,13 +51,13 @@ impl Fabric for Queues {
 
     fn empty_for(alloc: Global, design: &Design) -> Result<Self, AllocError> {
         Ok(Queues {
-            fed: FedPins::new(alloc, design)?,
+            fed: fed_pins(alloc, design)?,
             queues: empty_queues(alloc, design.pins())?,
         })
     }
 
     fn send(&mut self, net: u32, message: Message) -> Result<(), AllocError> {
-        let pins = self.fed.of(net);
+        let pins = self.fed.list(net as usize);
         reserve_places(&mut self.queues, pins)?;
         push_at_all(&mut self.queues, pins, message);
         Ok(())

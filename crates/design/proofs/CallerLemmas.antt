@@ -1,6 +1,6 @@
 -- What crates above may cite of the lemmas of this one.
 pub use Rattle.design.proofs.Built.{IsDesign-design_of}
-pub use Rattle.design.proofs.FedPins.{length-all_fed, length-pins_fed, pins_fed-rising, pins_fed-within, stored_pins, take-source}
+pub use Rattle.design.proofs.FedPins.{all_fed-at, length-all_fed, length-pins_fed, pins_fed-rising, pins_fed-within, take-source}
 pub use Rattle.design.proofs.Feeding.{sources_below}
 pub use Rattle.design.proofs.Joined.{net_named-circuit}
 pub use Rattle.design.proofs.Numbers.{PinIs, length-sources, net_of_pin_below, pin_below, pin_count-cons, pin_is, same_pin, source_at}

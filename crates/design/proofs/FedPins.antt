@@ -135,15 +135,6 @@ module _ {A : Type 0} where
   pins_in-at fed net pins within read =
       get_or-map (λ (pins : Vec ℕ A). pins.items) fed net pins [] within ∙ ap (λ (pins : Vec ℕ A). pins.items) (sym read)
 
-  -- the pins that are stored for a net
-  pub stored_pins : (fed : List (Vec ℕ A)) (nets net : ℕ) (sources : List ℕ) (pins : Vec ℕ A) →
-      pins_in fed ≡ all_fed nets sources → net < nets → pins ≡ slice_index_or fed net pins →
-      pins.items ≡ pins_fed net sources
-  stored_pins fed nets net sources pins e below read =
-      let long = length-map fed (λ (pins : Vec ℕ A). pins.items) in
-      let within : net < length fed = omega (arith, below, long, ap length e, length-all_fed nets sources) in
-      sym (pins_in-at fed net pins within read) ∙ ap (λ all. slice_index_or all net []) e ∙ all_fed-at nets sources net below
-
   -- a pin stored for its source
   pub stored_more : (fed : List (Vec ℕ A)) (nets pin source : ℕ) (sources : List ℕ) (old new : Vec ℕ A) →
       pins_in fed ≡ all_fed nets (take pin sources) → slice_get sources pin ≡ Some source → source < nets →

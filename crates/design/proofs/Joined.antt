@@ -1,5 +1,5 @@
 -- The circuit of a design by the stored parts.
-use Rattle.std.proofs.Common.{◌≡◌, ℕ, ◌<◌, List, length, map, get_or, position, Option, None, option_map, Some, slice_get, bytes_eq, ap, sym, ◌∙◌, arith}
+use Rattle.std.proofs.Common.{◌≡◌, ℕ, zero, suc, ◌<◌, List, [], ◌∷◌, length, map, get_or, position, Option, None, option_map, Some, slice_get, bytes_eq, refl, ap, sym, ◌∙◌, arith}
 use Rattle.std.specs.List.{zip}
 use Rattle.std.proofs.lemmas.List.{length-map}
 use Rattle.std.proofs.lemmas.Option.{slice_get-map, slice_get-get_or, none-some, same_Some}
@@ -19,6 +19,14 @@ pub get_part : {A B : Type 0} (part : A → B) (xs : List A) (ys : List B) (plac
 get_part part xs ys place d same within =
     let long : length xs ≡ length ys = sym (length-map xs part) ∙ ap length same in
     sym (slice_get-map part xs place) ∙ ap (λ zs. slice_get zs place) same ∙ slice_get-get_or ys place d (omega arith)
+
+-- two lists side by side at a place
+pub get_or-zip : {A B : Type 0} (xs : List A) (ys : List B) (place : ℕ) (d : A × B) → place < length (zip xs ys) →
+    get_or (zip xs ys) place d ≡ (get_or xs place d.0, get_or ys place d.1)
+get_or-zip [] ys place d within = absurd (omega arith)
+get_or-zip (x ∷ xs) [] place d within = absurd (omega arith)
+get_or-zip (x ∷ xs) (y ∷ ys) zero d within = refl
+get_or-zip (x ∷ xs) (y ∷ ys) (suc place) d within = get_or-zip xs ys place d (omega arith)
 
 -- what is known of two parts is known of each
 pub first_part : {A B C : Type 0} (f : A → B) (g : A → C) (place : Option A) (both : B × C) →

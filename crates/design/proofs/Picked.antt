@@ -1,6 +1,6 @@
 -- Some nets of a design make a design.
 use Rattle.std.proofs.Common.{◌≡◌, ℕ, ◌+◌, ◌<◌, List, [], ◌∷◌, ◌++◌, length, get_or, map, take, option_map, Some, slice_get, All, refl, sym, ap, subst, ◌∙◌}
-use Rattle.std.proofs.lemmas.List.{get_or-map, length-map, map-append, take_more}
+use Rattle.std.proofs.lemmas.List.{get_or-map, length-map, map_more}
 use Rattle.std.proofs.lemmas.List.Elements.{All-head, All-tail, All-map, All-weaker}
 use Rattle.std.proofs.lemmas.Option.{get_or_from_slice_get}
 use Rattle.logic3.specs.declared.change.Change.{Change}
@@ -18,11 +18,10 @@ use Rattle.design.proofs.Stored.{length-circuit}
 use Rattle.design.proofs.WellFormed.{net_with}
 
 -- one more image at the end
-pub images_more : {A B C : Type 0} (seen : A → C) (image : B → C) (so_far : List A) (x : A) (xs : List B) (i : ℕ) (d : B) → i < length xs →
-    map seen so_far ≡ map image (take i xs) → seen x ≡ image (get_or xs i d) → map seen (so_far ++ x ∷ []) ≡ map image (take (i + 1) xs)
-images_more seen image so_far x xs i d inside known here =
-    map-append seen so_far (x ∷ []) ∙ (λ j. known j ++ here j ∷ [])
-    ∙ sym (map-append image (take i xs) (get_or xs i d ∷ [])) ∙ ap (map image) (sym (take_more xs i d inside))
+pub images_more : {A : Type 0} (image : ℕ → A) (so_far pushed : List A) (x : A) (numbers : List ℕ) (i : ℕ) → i < length numbers →
+    pushed ≡ so_far ++ x ∷ [] → so_far ≡ map image (take i numbers) → x ≡ image (get_or numbers i 0) → pushed ≡ map image (take (i + 1) numbers)
+images_more image so_far pushed x numbers i within push known here =
+    push ∙ (λ k. known k ++ here k ∷ []) ∙ sym (map_more image numbers i 0 within)
 
 -- what is told of the net at a number is told of the net
 pub net_in-told : {A : Type 0} (field : Net → A) (circuit : Circuit) (number : ℕ) (x : A) →

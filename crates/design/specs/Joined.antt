@@ -1,6 +1,7 @@
 -- The design that is made of its stored parts.
 use Rattle.std.specs.Prelude.{◌≡◌, ℕ, ◌+◌, List, [], ◌∷◌, length, map}
 use Rattle.std.specs.List.{zip}
+use Rattle.flat_lists.specs.Parts.{parts, AreBounds}
 use Rattle.logic3.specs.declared.change.Change.{Change}
 use Rattle.netlist.specs.Netlist.{NetView, NetlistView, all_pins}
 use Rattle.timing_text.specs.declared.timing.Timing.{Timing}
@@ -41,3 +42,11 @@ pub record IsJoined (netlist : NetlistView) (first_pins sources : List ℕ) (fed
   pub some_timing : length timings ≡ length netlist.nets
   pub some_stimuli : length stimuli ≡ length netlist.nets
   pub well_formed : IsDesign (design_view netlist timings stimuli)
+
+-- such parts, where the pins that nets feed, the wire delays and the stimuli are one list each, cut at these places
+pub record IsFlat (netlist : NetlistView) (first_pins sources first_fed fed : List ℕ) (timings : List Timing)
+    (first_wires wires first_stimuli : List ℕ) (stimuli : List Change) : Type 0 where
+  pub joined : IsJoined netlist first_pins sources (parts first_fed fed) (zip timings (parts first_wires wires)) (parts first_stimuli stimuli)
+  pub fed_bounds : AreBounds first_fed fed
+  pub wire_bounds : AreBounds first_wires wires
+  pub stimulus_bounds : AreBounds first_stimuli stimuli

@@ -9,10 +9,11 @@ mod build;
 mod feeding;
 mod pick;
 
+use flat_lists::list_of;
 use logic3::{Change, Value};
 use netlist::{Netlist, Part};
 use std::marker::Model;
-use timing_text::{NetTiming, Timing};
+use timing_text::Timing;
 
 /// A netlist with its timing, wire delays and stimuli.
 ///
@@ -26,28 +27,33 @@ pub struct Design {
     first_pins: Vec<u32>,
     // The net that feeds each pin.
     sources: Vec<u32>,
-    // The pins that each net feeds, in rising order.
-    fed: Vec<Vec<u32>>,
-    // The timing of each net, and the wire delays of its pins.
-    timings: Vec<NetTiming>,
-    // The stimuli of each net.
-    stimuli: Vec<Vec<Change>>,
+    // The pins that each net feeds, in rising order, net by net, and the place of each net's first.
+    fed: Vec<u32>,
+    first_fed: Vec<u32>,
+    // The timing of each net.
+    timings: Vec<Timing>,
+    // The wire delay of each pin, net by net, and the place of each net's first.
+    wires: Vec<u32>,
+    first_wires: Vec<u32>,
+    // The stimuli, net by net, and the place of each net's first.
+    stimuli: Vec<Change>,
+    first_stimuli: Vec<u32>,
 }
 
 impl Model for Design {
-    ghost use Rattle.std.specs.Prelude.{map};
+    ghost use Rattle.std.specs.List.{zip};
+    ghost use Rattle.flat_lists.specs.Parts.{parts};
     ghost use Rattle.design.specs.Design.{DesignView};
 
     ghost Value = { DesignView };
 
-    ghost use Rattle.timing_text.specs.Timings.{seen_timing};
-    ghost use Rattle.design.specs.Joined.{design_view, IsJoined};
+    ghost use Rattle.design.specs.Joined.{design_view, IsFlat};
 
-    ghost view = { λ d.
-        design_view d.netlist (map seen_timing d.timings.items) (map (λ v. v.items) d.stimuli.items) };
+    ghost view = { λ d. design_view d.netlist (zip d.timings.items (parts d.first_wires.items d.wires.items))
+        (parts d.first_stimuli.items d.stimuli.items) };
 
-    ghost invariant = { λ d. IsJoined d.netlist d.first_pins.items d.sources.items (map (λ v. v.items) d.fed.items)
-        (map seen_timing d.timings.items) (map (λ v. v.items) d.stimuli.items) };
+    ghost invariant = { λ d. IsFlat d.netlist d.first_pins.items d.sources.items d.first_fed.items d.fed.items
+        d.timings.items d.first_wires.items d.wires.items d.first_stimuli.items d.stimuli.items };
 }
 
 impl Design {
@@ -159,7 +165,8 @@ impl Design {
         ensures within { All (λ pin. pin < pin_count self.now.circuit) result.now }
         ensures few { length result.now ≤ most_pins }
     {
-        self.fed[net as usize].as_slice()
+        let net = net as usize;
+        list_of(self.fed.as_slice(), self.first_fed.as_slice(), net)
     }
 
     /// Returns when a net reads its pins, and what it shows before that.
@@ -167,7 +174,7 @@ impl Design {
         requires { net < length self.now.circuit }
         ensures { option_map (λ (n : Net). n.timing) (slice_get self.now.circuit net) ≡ Some result }
     {
-        self.timings[net as usize].timing
+        self.timings[net as usize]
     }
 
     /// Returns the wire delay of each pin of a net in ticks, in order: 0 to 1,000,000.
@@ -175,7 +182,8 @@ impl Design {
         requires { net < length self.now.circuit }
         ensures { option_map (λ (n : Net). n.wires) (slice_get self.now.circuit net) ≡ Some result.now }
     {
-        self.timings[net as usize].wires.as_slice()
+        let net = net as usize;
+        list_of(self.wires.as_slice(), self.first_wires.as_slice(), net)
     }
 
     /// Returns the wire delay of a pin in ticks: 0 to 1,000,000. Takes logarithmic time.
@@ -226,6 +234,7 @@ impl Design {
         requires { net < length self.now.circuit }
         ensures { option_map (λ (n : Net). n.stimuli) (slice_get self.now.circuit net) ≡ Some result.now }
     {
-        self.stimuli[net as usize].as_slice()
+        let net = net as usize;
+        list_of(self.stimuli.as_slice(), self.first_stimuli.as_slice(), net)
     }
 }

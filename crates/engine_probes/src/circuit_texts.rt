@@ -5,6 +5,7 @@ use bench_text::{read, write};
 use cmb_events::Schedule;
 use design::{Design, flow_order, plain_waves, segments_of};
 use fanin_cone::{agree, cone, cones_alone, extract, net_numbers};
+use flat_lists::FlatLists;
 use netlist::{Names, Netlist, without_repeats};
 use std::alloc::Global;
 use std::io::Write;
@@ -38,6 +39,7 @@ pub(crate) fn horizon() -> Option<Horizon> {
 /// Probes what is made of texts and netlists.
 pub(crate) fn probe<W: Write>(alloc: Global, teller: &mut Teller<W>) -> Option<()> {
     names(alloc, teller)?;
+    lists(alloc, teller)?;
     let kept = without_repeats(alloc, &[0, 1, 0, 4, 3, 2, 1], 5);
     teller.told("without_repeats", kept)?;
     let netlist = teller.told("bench_text::read", read(alloc, BENCH))?;
@@ -73,6 +75,23 @@ fn names<W: Write>(alloc: Global, teller: &mut Teller<W>) -> Option<()> {
             return None;
         }
         teller.fine("Names::push", names.find(name).is_some())?;
+    }
+    Some(())
+}
+
+/// Lists until the blocks of their items and of their bounds must grow.
+fn lists<W: Write>(alloc: Global, teller: &mut Teller<W>) -> Option<()> {
+    let none = FlatLists::<u32>::with_capacity(alloc, 1, 1);
+    let mut lists = teller.told("FlatLists::with_capacity", none)?;
+    for list in [[1, 2], [3, 4], [5, 6], [7, 8], [9, 10]] {
+        let before = lists.len();
+        if lists.push(&list).is_err() {
+            let same = lists.len() == before;
+            let goes_on = same && lists.push(&list).is_ok() && before < lists.len();
+            teller.refused("FlatLists::push", goes_on);
+            return None;
+        }
+        teller.fine("FlatLists::push", before < lists.len())?;
     }
     Some(())
 }

@@ -1,4 +1,5 @@
 pub mod Knowledge
+pub mod KeptChanges
 pub mod LaterChanges
 pub mod Quiet
 pub mod Reading

@@ -10,48 +10,63 @@ use logic3::{Change, Value};
 use std::alloc::{AllocError, Global};
 use std::marker::Model;
 
-/// A change in eight bytes: four hold the tick of any run, and pins keep many changes.
+/// A change in four bytes: four times its tick, which is that of a run, and a number for its value. Pins keep
+/// many changes.
 #[derive(Debug, Drop)]
 pub struct KeptChange {
-    tick: u32,
-    value: Value,
+    code: u32,
 }
 
 impl Model for KeptChange {
     ghost use Rattle.logic3.specs.declared.change.Change.{Change};
+    ghost use Rattle.gate_process.specs.KeptChanges.{change_of};
 
     ghost Value = { Change };
 
-    ghost view = { λ c. record { tick = c.tick; value = c.value } };
+    ghost view = { λ c. change_of c.code };
 }
 
 impl KeptChange {
+    /// Keeps a change.
+    fn of(change: Change) -> KeptChange
+        requires { change.tick ≤ most_ticks }
+        ensures { result ≡ change }
+    {
+        KeptChange {
+            code: change.tick as u32 * 4 + change.value as u32,
+        }
+    }
+
     /// Returns the tick at which the change is seen, later by the delay of a wire.
     pub fn seen_tick(&self, wire: u32) -> u64
         ensures { result ≡ self.now.tick + wire }
     {
-        u64::from(self.tick) + u64::from(wire)
+        u64::from(self.code / 4) + u64::from(wire)
     }
 
     /// Returns the value from the change's tick on.
     pub fn value(&self) -> Value
         ensures { result ≡ self.now.value }
     {
-        self.value
+        match self.code % 4 {
+            0 => Value::Zero,
+            1 => Value::One,
+            _ => Value::Unknown,
+        }
     }
 
     /// Returns whether the change is before a tick.
     fn is_before(&self, tick: u64) -> bool
         ensures { result ≡ nat_lt self.now.tick tick }
     {
-        u64::from(self.tick) < tick
+        u64::from(self.code / 4) < tick
     }
 }
 
 /// The changes that a pin keeps: added at the end, and dropped from the front.
 ///
 /// Both take constant time on average. Memory is kept for later changes, so it follows the largest number of
-/// changes that were kept at a time. A pin that keeps one at a time has room for one.
+/// changes that were kept at a time.
 #[derive(Debug, Drop)]
 pub struct KeptChanges {
     changes: Vec<KeptChange>,
@@ -101,13 +116,7 @@ impl KeptChanges {
         ensures ok { OnOk result (self.new ≡ self.old ++ change ∷ []) }
         ensures err { OnErr result (self.new ≡ self.old) }
     {
-        if self.changes.capacity() == 0 {
-            self.changes.reserve_exact(1)?;
-        }
-        self.changes.push(KeptChange {
-            tick: change.tick as u32,
-            value: change.value,
-        })?;
+        self.changes.push(KeptChange::of(change))?;
         Ok(())
     }
 

@@ -9,7 +9,7 @@ ghost use Rattle.gate_process.specs.Truth.{IsProcess, CanHear, CanHearAll};
 use crate::advance::{Span, extend, goes_on, keep_all};
 use crate::own_net::OwnNet;
 use crate::received::{Received, least_frontier, least_received, nothing_received};
-use cmb_channels::{Logged, Message};
+use cmb_channels::{Message, Waiting};
 use design::Design;
 use logic3::{Change, Value, Waveform};
 use std::alloc::{AllocError, Global};
@@ -121,7 +121,7 @@ impl<'d> Process<'d> {
     pub fn receive_below(
         &mut self,
         place: u32,
-        messages: &[Logged],
+        messages: &Waiting<'_>,
         tick: u64,
     ) -> Result<usize, AllocError>
         requires running { self.old.failed ≡ false }

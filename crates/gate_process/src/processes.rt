@@ -10,7 +10,7 @@ ghost use Rattle.gate_process.specs.Quiet.{IsQuiet, KnowsTo};
 ghost use Rattle.gate_process.specs.Truth.{CanHear, CanHearAll};
 
 use crate::process::Process;
-use cmb_channels::{Logged, Message};
+use cmb_channels::{Message, Waiting};
 use design::Design;
 use logic3::Change;
 use std::alloc::{AllocError, Global};
@@ -121,7 +121,7 @@ impl<'d> Processes<'d> {
         &mut self,
         net: u32,
         place: u32,
-        messages: &[Logged],
+        messages: &Waiting<'_>,
         tick: u64,
     ) -> Result<usize, AllocError>
         requires net { net < length self.old }

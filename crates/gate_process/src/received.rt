@@ -12,7 +12,7 @@ ghost use Rattle.gate_process.specs.Step.{least_or, oldest_asked, signals_of};
 use crate::cursor::{Cursor, FEW};
 use crate::kept_changes::{KeptChanges, kept_below, last_kept};
 use crate::own_net::OwnNet;
-use cmb_channels::{Logged, Message};
+use cmb_channels::{Message, Waiting};
 use logic3::{Summary, Value};
 use smallvec::SmallVec;
 use std::alloc::{AllocError, Global};
@@ -21,11 +21,11 @@ use std::marker::Model;
 /// What a pin has received from its source, as far as it is kept, at the source's ticks.
 #[derive(Debug, Drop)]
 pub struct Received {
+    changes: KeptChanges,
+    // Four bytes hold the tick of any run. Fields lie in memory as they stand here, so the small ones are last.
+    frontier: u32,
     // The value before the first change that is kept.
     before: Value,
-    changes: KeptChanges,
-    // Four bytes hold the tick of any run.
-    frontier: u32,
 }
 
 impl Model for Received {
@@ -45,9 +45,9 @@ impl Received {
         ensures { result ≡ nothing_known }
     {
         Received {
-            before: Value::Unknown,
             changes: KeptChanges::new(alloc),
             frontier: 0,
+            before: Value::Unknown,
         }
     }
 
@@ -80,7 +80,7 @@ impl Received {
 
     /// Adds the first of some messages to what is known, one after another as long as less than a tick is
     /// known, and returns how many. Null messages take no memory. After an `AllocError` some of them are added.
-    pub fn hear_below(&mut self, messages: &[Logged], tick: u64) -> Result<usize, AllocError>
+    pub fn hear_below(&mut self, messages: &Waiting<'_>, tick: u64) -> Result<usize, AllocError>
         requires { ContinueAll (most_ticks + 1) self.old
             (take (wanted tick self.old.frontier messages.now) messages.now) }
         ensures count { IfOk result (λ count. count ≡ wanted tick self.old.frontier messages.now) }
@@ -89,13 +89,15 @@ impl Received {
         ensures memory { OnErr result (list_any is_change
             (take (wanted tick self.old.frontier messages.now) messages.now) ≡ true) }
     {
-        for (count, message) in messages.iter().enumerate() {
+        let mut count = 0;
+        while let Some(message) = messages.get(count) {
             if u64::from(self.frontier) >= tick {
-                return Ok(count);
+                break;
             }
-            self.hear(message.message())?;
+            self.hear(message)?;
+            count += 1;
         }
-        Ok(messages.len())
+        Ok(count)
     }
 
     /// Forgets the ticks before the oldest that a net, from a frontier on, asks of the source of its pin at

@@ -4,7 +4,7 @@ pub use Rattle.netlist.proofs.Among.{bytes_eq-other, bytes_eq-same, is_some-posi
 pub use Rattle.netlist.proofs.Behind.{follows_between}
 pub use Rattle.netlist.proofs.Distinct.{All-distinct, AllPairs-distinct, AllPairs-tail, distinct-same, distinct_push}
 pub use Rattle.netlist.proofs.Gates.{flows_on, gate_within, no_gate_past, pins_within}
-pub use Rattle.netlist.proofs.Joined.{named_nets-wired}
+pub use Rattle.netlist.proofs.Joined.{named_nets-wired, zip_of_maps}
 pub use Rattle.netlist.proofs.Marks.{fewer_unseen, seen_cases, seen_now, seen_still}
 pub use Rattle.netlist.proofs.Named.{HasDistinctNames, map-named, names-differ, net_at-named, no_net}
 pub use Rattle.netlist.proofs.NewName.{IsNames-push}

@@ -6,26 +6,26 @@ use Rattle.std.proofs.lemmas.List.{length-map, get_or-map}
 use Rattle.std.proofs.lemmas.Simd.{map-map}
 use Rattle.std.proofs.lemmas.Option.{get_or_from_slice_get}
 use Rattle.std.proofs.lemmas.Slice.Zip.{length-zip, get_or-zip, firsts-zip}
-use Rattle.netlist.specs.declared.netlist.Net.{Net}
 use Rattle.netlist.specs.declared.part.Part.{Part}
 use Rattle.netlist.specs.Netlist.{NetView, NetlistView, net_at, net_named, name_at}
-use Rattle.netlist.specs.Joined.{named_net, named_nets, netlist_view, seen_net}
+use Rattle.netlist.specs.Joined.{named_net, named_nets, netlist_view}
 use Rattle.netlist.proofs.Places.{position-map}
 
--- named nets that are wired as these
-pub named_nets-wired : {A : Type 0} (name : A → List ℕ) (wiring : A → Part × List ℕ) (xs : List A) (nets : List Net) → map seen_net nets ≡ map wiring xs →
-    named_nets (map name xs) nets ≡ map (λ x. record { name = name x; part = (wiring x).0; pins = (wiring x).1 }) xs
-named_nets-wired name wiring [] [] e = refl
-named_nets-wired name wiring [] (net ∷ nets) e = cc
-named_nets-wired name wiring (x ∷ xs) [] e = cc
-named_nets-wired name wiring (x ∷ xs) (net ∷ nets) e =
-    let first : seen_net net ≡ wiring x = cc in
-    let rest : map seen_net nets ≡ map wiring xs = cc in
-    let joined : Part × List ℕ → NetView = λ wired. record { name = name x; part = wired.0; pins = wired.1 } in
-    ap (λ wired. joined wired ∷ named_nets (map name xs) nets) first
-    ∙ ap (λ more. joined (wiring x) ∷ more) (named_nets-wired name wiring xs nets rest)
+-- two images of a list, side by side
+pub zip_of_maps : {X Y Z : Type 0} (f : X → Y) (g : X → Z) (xs : List X) → zip (map f xs) (map g xs) ≡ map (λ x. (f x, g x)) xs
+zip_of_maps f g [] = refl
+zip_of_maps f g (x ∷ xs) = ap (λ rest. (f x, g x) ∷ rest) (zip_of_maps f g xs)
 
-module _ (names : List (List ℕ)) (nets : List Net) (same : length names ≡ length nets) where
+-- named nets that are wired as these
+pub named_nets-wired : {A : Type 0} (name : A → List ℕ) (wiring : A → Part × List ℕ) (xs : List A) (nets : List (Part × List ℕ)) → nets ≡ map wiring xs →
+    named_nets (map name xs) nets ≡ map (λ x. record { name = name x; part = (wiring x).0; pins = (wiring x).1 }) xs
+named_nets-wired name wiring xs nets e = ap (named_nets (map name xs)) e ∙ go xs
+  where
+    go : (xs : List _) → named_nets (map name xs) (map wiring xs) ≡ map (λ x. record { name = name x; part = (wiring x).0; pins = (wiring x).1 }) xs
+    go [] = refl
+    go (x ∷ xs) = ap (λ more. record { name = name x; part = (wiring x).0; pins = (wiring x).1 } ∷ more) (go xs)
+
+module _ (names : List (List ℕ)) (nets : List (Part × List ℕ)) (same : length names ≡ length nets) where
   pub length-named_nets : length (named_nets names nets) ≡ length nets
   length-named_nets = simp (length-map, length-zip) (omega arith)
 
@@ -47,7 +47,7 @@ module _ (names : List (List ℕ)) (nets : List Net) (same : length names ≡ le
         sym (get_or-map (λ (net : NetView). net.name) (named_nets names nets) number _ [] within)
         ∙ ap (λ names. get_or names number []) names-named_nets
 
-    pub net_at-netlist_view : (net : Net) →
+    pub net_at-netlist_view : (net : Part × List ℕ) →
         net_at (netlist_view names nets outputs) number ≡ named_net (get_or names number [], get_or nets number net)
     net_at-netlist_view net =
         get_or-map named_net (zip names nets) number ([], net) _ (omega (arith, length-zip names nets, length-named_nets))

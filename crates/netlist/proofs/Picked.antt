@@ -22,12 +22,12 @@ use Rattle.netlist.proofs.Sums.{sum_by-map}
 pub netlist_view-picked : (netlist : NetlistView) (keep outputs : List ℕ) (names : List (List ℕ)) (nets : List Net) (size : ℕ) (before places : List ℕ) →
     names ≡ map (name_at netlist) keep → map seen_net nets ≡ map (picked_wiring netlist keep) keep → size ≡ length outputs →
     places ≡ map (place_in keep) outputs →
-    netlist_view names nets (take size (places ++ drop (length places) before)) ≡ picked netlist keep outputs
+    netlist_view names (map seen_net nets) (take size (places ++ drop (length places) before)) ≡ picked netlist keep outputs
 netlist_view-picked netlist keep outputs names nets size before places names-are nets-are size-is places-are =
     let same : size ≡ length places = size-is ∙ sym (ap length places-are ∙ length-map outputs (place_in keep)) in
     let written = ap (λ n. take n (places ++ drop (length places) before)) same ∙ take-append_seam places (drop (length places) before) ∙ places-are in
-    ap (λ names. netlist_view names nets (take size (places ++ drop (length places) before))) names-are
-    ∙ (λ i. record { nets = named_nets-wired (name_at netlist) (picked_wiring netlist keep) keep nets nets-are i; outputs = written i })
+    ap (λ names. netlist_view names (map seen_net nets) (take size (places ++ drop (length places) before))) names-are
+    ∙ (λ i. record { nets = named_nets-wired (name_at netlist) (picked_wiring netlist keep) keep (map seen_net nets) nets-are i; outputs = written i })
 
 module _ (netlist : NetlistView) (known : IsNetlist netlist) (keep : List ℕ) (rising : Rises keep) (below : All (λ number. number < length netlist.nets) keep) where
   pub length-keep : length keep ≤ most_nets

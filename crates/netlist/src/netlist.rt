@@ -1,10 +1,11 @@
 ghost use Rattle.std.specs.Prelude.{◌≡◌, ◌<◌, length, map, All, IfOk};
 ghost use Rattle.logic3.specs.Rising.{Rises};
 ghost use Rattle.netlist.specs.Netlist.{IsNetlist, all_pins, net_at, net_named, name_at};
-ghost use Rattle.netlist.specs.Joined.{netlist_view};
+ghost use Rattle.netlist.specs.Joined.{netlist_view, seen_net};
 
 use crate::names::Names;
 use crate::part::Part;
+use flat_lists::{FlatLists, list_of};
 use smallvec::SmallVec;
 use std::alloc::{AllocError, Global};
 use std::marker::Model;
@@ -30,35 +31,51 @@ pub struct Net {
 #[derive(Debug, Drop)]
 pub struct Netlist {
     names: Names,
-    nets: Vec<Net>,
+    // What drives each net.
+    drivers: Vec<Part>,
+    // The numbers of the nets at pins, net by net, and the place of each net's first.
+    pins: Vec<u32>,
+    first_pins: Vec<u32>,
     outputs: Vec<u32>,
 }
 
 impl Model for Netlist {
+    ghost use Rattle.std.specs.List.{zip};
+    ghost use Rattle.flat_lists.specs.Parts.{parts};
     ghost use Rattle.netlist.specs.Netlist.{NetlistView};
 
     ghost Value = { NetlistView };
 
-    ghost use Rattle.netlist.specs.Joined.{netlist_view, IsJoined};
+    ghost use Rattle.netlist.specs.Joined.{netlist_view, IsFlat};
 
-    ghost view = { λ n. netlist_view n.names n.nets.items n.outputs.items };
+    ghost view = { λ n.
+        netlist_view n.names (zip n.drivers.items (parts n.first_pins.items n.pins.items)) n.outputs.items };
 
-    ghost invariant = { λ n. IsJoined n.names n.nets.items n.outputs.items };
+    ghost invariant = { λ n. IsFlat n.names n.drivers.items n.first_pins.items n.pins.items n.outputs.items };
 }
 
 impl Netlist {
     /// Makes the netlist of these names, each with its net, and these outputs. They meet the
     /// conditions of [`Netlist`].
-    pub fn new(names: Names, nets: Vec<Net>, outputs: Vec<u32>) -> Netlist
+    ///
+    /// # Errors
+    /// `AllocError` if an allocation fails.
+    pub fn new(names: Names, nets: Vec<Net>, outputs: Vec<u32>) -> Result<Netlist, AllocError>
         requires same_length { length names ≡ length nets.items }
-        requires well_formed { IsNetlist (netlist_view names nets.items outputs.items) }
-        ensures { result ≡ netlist_view names nets.items outputs.items }
+        requires well_formed { IsNetlist (netlist_view names (map seen_net nets.items) outputs.items) }
+        ensures { IfOk result (λ netlist.
+            netlist ≡ netlist_view names (map seen_net nets.items) outputs.items) }
     {
-        Netlist {
+        let alloc = *nets.allocator();
+        let drivers = drivers_of(alloc, nets.as_slice())?;
+        let (pins, first_pins) = all_pins_of(alloc, nets.as_slice())?.into_parts();
+        Ok(Netlist {
             names,
-            nets,
+            drivers,
+            pins,
+            first_pins,
             outputs,
-        }
+        })
     }
 
     /// Returns the number of nets: 1 to 100,000.
@@ -66,7 +83,7 @@ impl Netlist {
         ensures nets { result ≡ length self.now.nets }
         ensures well_formed { IsNetlist self.now }
     {
-        self.nets.len() as u32
+        self.names.len() as u32
     }
 
     /// Returns the name of a net.
@@ -82,7 +99,7 @@ impl Netlist {
         requires { net < length self.now.nets }
         ensures { result ≡ (net_at self.now net).part }
     {
-        self.nets[net as usize].part
+        self.drivers[net as usize]
     }
 
     /// Returns the numbers of the nets at a net's pins, in order.
@@ -90,7 +107,8 @@ impl Netlist {
         requires { net < length self.now.nets }
         ensures { result.now ≡ (net_at self.now net).pins }
     {
-        self.nets[net as usize].pins.as_slice()
+        let net = net as usize;
+        list_of(self.pins.as_slice(), self.first_pins.as_slice(), net)
     }
 
     /// Returns the numbers of the nets at the pins of all nets, net after net, in order.
@@ -135,4 +153,26 @@ impl Netlist {
         }
         Ok(names)
     }
+}
+
+/// Returns what drives each of these nets.
+fn drivers_of(alloc: Global, nets: &[Net]) -> Result<Vec<Part>, AllocError>
+    ensures { IfOk result (λ drivers. drivers.items ≡ map (λ net. net.part) nets.now) }
+{
+    let mut drivers = Vec::with_capacity(alloc, nets.len())?;
+    for net in nets {
+        drivers.push(net.part)?;
+    }
+    Ok(drivers)
+}
+
+/// Returns the pins of each of these nets.
+fn all_pins_of(alloc: Global, nets: &[Net]) -> Result<FlatLists<u32>, AllocError>
+    ensures { IfOk result (λ pins. pins ≡ map (λ net. net.pins.items) nets.now) }
+{
+    let mut pins = FlatLists::with_capacity(alloc, nets.len(), 0)?;
+    for net in nets {
+        pins.push(net.pins.as_slice())?;
+    }
+    Ok(pins)
 }

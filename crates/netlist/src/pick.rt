@@ -32,7 +32,7 @@ impl Netlist {
         let nets = nets_of(alloc, self, keep)?;
         let mut outputs = Vec::from_slice(alloc, outputs)?;
         renumber(outputs.as_mut_slice(), keep);
-        Ok(Netlist::new(names, nets, outputs))
+        Netlist::new(names, nets, outputs)
     }
 }
 

@@ -1,7 +1,7 @@
 pub mod CallerLemmas
 mod GivenProperties
 mod GivenStimuli
-mod NetTimings
+mod GivenTimings
 mod Rising
 mod StimuliInRange
 mod StimuliNamed

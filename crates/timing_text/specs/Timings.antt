@@ -1,6 +1,6 @@
 -- What a delay text gives each net of a netlist, in both versions of such texts.
 use Rattle.std.specs.Prelude.{◌≡◌, ◌==◌, ℕ, ◌&&◌, Bool, false, if◌then◌else◌, List, [], ◌∷◌, ◌++◌, length, map, Option, None, Some, Result, Ok, Err, codes, bytes_eq}
-use Rattle.std.specs.List.{fold, range_with_len}
+use Rattle.std.specs.List.{fold, range_with_len, zip}
 use Rattle.std.specs.Option.{is_some, unwrap_or}
 use Rattle.std.specs.Result.{result_map_both}
 use Rattle.logic3.specs.declared.value.Value.TheVariants.{Unknown}
@@ -16,7 +16,7 @@ use Rattle.timing_text.specs.declared.line.Property.{Property}
 use Rattle.timing_text.specs.declared.line.Property.TheVariants.{Delay, Clock, Initial, Wire}
 use Rattle.timing_text.specs.declared.line.Version.{Version}
 use Rattle.timing_text.specs.declared.line.Version.TheVariants.{First, Second}
-use Rattle.timing_text.specs.declared.timing.NetTiming.{NetTiming}
+use Rattle.timing_text.specs.declared.timing.NetTimings.{NetTimings}
 use Rattle.timing_text.specs.declared.timing.Timing.{Timing}
 use Rattle.timing_text.specs.TimingLines.{NetProperty, property_or_fault}
 
@@ -122,6 +122,6 @@ abbrev pub timings_of : NetlistView → ℕ → ℕ → List ℕ → Result (Lis
 timings_of netlist default period text =
     result_map_both (net_timings netlist default period) (λ fault. fault) (properties_of netlist text)
 
--- a timing and the wire delays of the pins, from their stored form
-abbrev pub seen_timing : NetTiming → Timing × List ℕ
-seen_timing stored = (stored.timing, stored.wires.items)
+-- the timing of each net and the wire delays of its pins, from their stored form
+abbrev pub seen_timings : NetTimings → List (Timing × List ℕ)
+seen_timings stored = zip stored.timings.items stored.wires

@@ -17,5 +17,5 @@ pub use fault::{DelayFault, OptionFault, StimulusFault};
 pub use horizon::Horizon;
 pub use settings::options;
 pub use stimuli::read_stimuli;
-pub use timing::{NetTiming, Timing};
+pub use timing::{NetTimings, Timing};
 pub use timings::read_timings;

@@ -10,6 +10,7 @@ ghost use Rattle.timing_text.specs.Stimuli.{StimulusLine, stimuli_by_net, stimul
 use crate::fault::StimulusFault;
 use crate::limits::MOST_TICKS;
 use crate::words::value_of;
+use flat_lists::FlatLists;
 use logic3::Change;
 use netlist::Netlist;
 use std::alloc::{AllocError, Global};
@@ -31,10 +32,8 @@ pub fn read_stimuli(
     alloc: Global,
     netlist: &Netlist,
     text: &[u8],
-) -> Result<Vec<Vec<Change>>, StimulusFault>
-    ensures stimuli { result ≢ Err StimulusFault.Memory →
-        result_map_both (λ stimuli. map (λ changes. changes.items) stimuli.items) (λ fault. fault) result
-        ≡ stimuli_by_net netlist.now text.now }
+) -> Result<FlatLists<Change>, StimulusFault>
+    ensures stimuli { result ≢ Err StimulusFault.Memory → result ≡ stimuli_by_net netlist.now text.now }
     ensures at_once { longest_text < length text.now → result ≡ Err StimulusFault.TooLong }
 {
     if text.len() > LONGEST_TEXT {
@@ -49,17 +48,7 @@ pub fn read_stimuli(
         }
         changes.push(given.change)?;
     }
-    give_back(&mut stimuli);
-    Ok(stimuli)
-}
-
-/// Frees the memory that the lists don't use.
-fn give_back(stimuli: &mut [Vec<Change>])
-    ensures { map (λ changes. changes.items) stimuli.new ≡ map (λ changes. changes.items) stimuli.old }
-{
-    for changes in stimuli.iter_mut() {
-        changes.shrink_to_fit();
-    }
+    Ok(FlatLists::of_lists(alloc, stimuli.as_slice())?)
 }
 
 /// Returns an empty list of changes for each of `nets` nets.

@@ -1,6 +1,6 @@
 //! The timing of a net.
+use flat_lists::FlatLists;
 use logic3::Value;
-use smallvec::SmallVec;
 
 /// When a net reads its pins, in ticks, and what it shows before that.
 #[derive(Clone, Copy, Debug, PartialEq, Eq)]
@@ -16,10 +16,10 @@ pub struct Timing {
     pub initial: Value,
 }
 
-/// The timing of a net, and the wire delays of its pins.
+/// The timing of each net, and the wire delays of its pins, by net number.
 #[derive(Debug, Drop)]
-pub struct NetTiming {
-    pub timing: Timing,
-    /// The wire delay of each pin in ticks, in the order of the pins: 0 to 1,000,000.
-    pub wires: SmallVec<u32, 4>,
+pub struct NetTimings {
+    pub timings: Vec<Timing>,
+    /// The wire delay of each pin of a net in ticks, in the order of the pins: 0 to 1,000,000.
+    pub wires: FlatLists<u32>,
 }

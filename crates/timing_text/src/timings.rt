@@ -5,12 +5,13 @@ ghost use Rattle.texts.specs.Text.{code_lines, longest_text, words_of};
 ghost use Rattle.netlist.specs.Netlist.{net_at};
 ghost use Rattle.timing_text.specs.TimingLines.{HasPin, property_or_fault};
 ghost use Rattle.timing_text.specs.GivenSoFar.{given_by_text, seen_given};
-ghost use Rattle.timing_text.specs.Timings.{are_header, net_lines, seen_timing, timing_of_part, timings_of, version_of};
+ghost use Rattle.timing_text.specs.Timings.{are_header, net_lines, seen_timings, timing_of_part, timings_of, version_of};
 
 use crate::fault::DelayFault;
 use crate::given::{NetGiven, nothing_given};
 use crate::line::{Clock, Properties, Property, Version, property_of_part, spelled_line};
-use crate::timing::{NetTiming, Timing};
+use crate::timing::{NetTimings, Timing};
+use flat_lists::FlatLists;
 use logic3::Value;
 use netlist::{Netlist, Part};
 use std::alloc::Global;
@@ -36,22 +37,24 @@ pub fn read_timings(
     text: &[u8],
     default_delay: u64,
     period: u64,
-) -> Result<Vec<NetTiming>, DelayFault>
+) -> Result<NetTimings, DelayFault>
     ensures timings { result ≢ Err DelayFault.Memory →
-        result_map_both (λ timings. map seen_timing timings.items) (λ fault. fault) result
+        result_map_both seen_timings (λ fault. fault) result
         ≡ timings_of netlist.now default_delay period text.now }
     ensures at_once { longest_text < length text.now → result ≡ Err DelayFault.TooLong }
 {
     let given = properties_given(alloc, netlist, text)?;
     let mut timings = Vec::new(alloc);
+    let mut wires = FlatLists::with_capacity(alloc, netlist.nets() as usize, 0)?;
     for net in 0..netlist.nets() {
         let given = &given[net as usize];
-        let wires = given.wires(alloc)?;
         let part = netlist.part(net);
         let timing = timing_of_part(default_delay, period, given.properties, part);
-        timings.push(NetTiming { timing, wires })?;
+        timings.push(timing)?;
+        let own_wires = given.wires(alloc)?;
+        wires.push(own_wires.as_slice())?;
     }
-    Ok(timings)
+    Ok(NetTimings { timings, wires })
 }
 
 /// Returns the timing of a net with this part and these properties.

@@ -1,17 +1,15 @@
 //! The log of one net.
-ghost use Rattle.std.specs.Prelude.{◌≡◌, ◌+◌, ◌<◌, ◌≤◌, ◌↔◌, ◌^◌, IsTrue, length, drop, vec_capacity, vec_len, OnOk, OnErr};
+ghost use Rattle.std.specs.Prelude.{◌≡◌, ◌<◌, ◌≤◌, ◌↔◌, ◌^◌, IsTrue, length, drop, OnOk, OnErr};
 ghost use Rattle.cmb_channels.specs.Logs.{past, empty_log, written, cut_to, passed};
 
-use crate::logs::logged::Logged;
+use crate::logs::messages::Messages;
+use crate::logs::waiting::Waiting;
 use crate::message::Message;
 use std::alloc::{AllocError, Global};
 use std::marker::Model;
 
 // A shorter log grows before anything is removed.
 const LEAST_FULL: usize = 16;
-
-// A log with room for fewer messages grows by no more than it needs. Many logs never hold more.
-const FEW: usize = 4;
 
 /// The messages of a net, from one that every pin has taken or none has up to the newest.
 #[derive(Debug, Drop)]
@@ -23,7 +21,7 @@ pub struct Log {
     // The number of messages that were removed, modulo 2^64.
     cut: u64,
     // The messages that came after them, the oldest first.
-    messages: Vec<Logged>,
+    messages: Messages,
 }
 
 impl Model for Log {
@@ -31,7 +29,7 @@ impl Model for Log {
 
     ghost Value = { LogView };
 
-    ghost view = { λ l. record { readers = l.readers; behind = l.behind; cut = l.cut; messages = l.messages.items } };
+    ghost view = { λ l. record { readers = l.readers; behind = l.behind; cut = l.cut; messages = l.messages } };
 }
 
 impl Log {
@@ -43,7 +41,7 @@ impl Log {
             readers,
             behind: 0,
             cut: 0,
-            messages: Vec::new(alloc),
+            messages: Messages::new(alloc),
         }
     }
 
@@ -67,15 +65,15 @@ impl Log {
         ensures { IsTrue result → self.now.readers ≤ length self.now.messages }
     {
         let len = self.messages.len();
-        self.messages.capacity() - len < more && len >= LEAST_FULL && len >= self.readers as usize
+        self.messages.room() < more && len >= LEAST_FULL && len >= self.readers as usize
     }
 
     /// Returns the messages that a pin that has taken `count` messages hasn't taken, the oldest first.
-    pub fn unread(&self, count: u64) -> &[Logged]
+    pub fn unread(&self, count: u64) -> Waiting<'_>
         requires { past self.now.cut count ≤ length self.now.messages }
-        ensures { result.now ≡ drop (past self.now.cut count) self.now.messages }
+        ensures { result ≡ drop (past self.now.cut count) self.now.messages }
     {
-        &self.messages[count.wrapping_sub(self.cut) as usize..]
+        self.messages.from(count.wrapping_sub(self.cut) as usize)
     }
 
     /// Adds messages at the end, which no pin has taken. A log that no pin reads keeps nothing, and
@@ -88,10 +86,7 @@ impl Log {
         ensures memory { OnErr result (0 < self.old.readers) }
     {
         if self.readers > 0 {
-            reserve(&mut self.messages, messages.len())?;
-            for message in messages {
-                self.messages.push_reserved(Logged::of(*message));
-            }
+            self.messages.extend(messages)?;
             self.behind = self.readers;
         }
         Ok(())
@@ -115,20 +110,7 @@ impl Log {
         let len = self.messages.len();
         if kept <= len / 2 {
             self.cut = self.cut.wrapping_add((len - kept) as u64);
-            self.messages.copy_within(len - kept.., 0);
-            self.messages.truncate(kept);
+            self.messages.drop_front(len - kept);
         }
-    }
-}
-
-/// Makes room for `more` messages: in a short list for no more than these.
-fn reserve(messages: &mut Vec<Logged>, more: usize) -> Result<(), AllocError>
-    ensures messages { messages.new.items ≡ messages.old.items }
-    ensures room { OnOk result (vec_len messages.new + more ≤ vec_capacity messages.new) }
-{
-    if messages.capacity() < FEW {
-        messages.reserve_exact(more)
-    } else {
-        messages.reserve(more)
     }
 }

@@ -85,7 +85,7 @@ impl<'d> Kernel<'d, Logs> {
         // This stays if the pin runs out of memory.
         self.failed = true;
         let waiting = self.fabric.waiting_messages(pin);
-        let count = self.processes.receive_below(net, place, waiting, tick)?;
+        let count = self.processes.receive_below(net, place, &waiting, tick)?;
         self.fabric.take_many(pin, count);
         self.counts.add_silent(count as u64);
         self.failed = false;

@@ -3,14 +3,17 @@ ghost use Rattle.texts.specs.Text.{longest_text};
 ghost use Rattle.netlist.specs.Netlist.{IsNetlist};
 ghost use Rattle.design.specs.Build.{design_of};
 ghost use Rattle.timing_text.specs.Options.{options_of};
-ghost use Rattle.design.specs.Joined.{first_pins_of};
+ghost use Rattle.timing_text.specs.Timings.{seen_timings};
+ghost use Rattle.design.specs.Joined.{design_view, first_pins_of, IsJoined};
 
 use crate::design::Design;
 use crate::design::feeding::fed_pins;
 use crate::fault::BuildFault;
+use flat_lists::FlatLists;
+use logic3::Change;
 use netlist::Netlist;
 use std::alloc::{AllocError, Global};
-use timing_text::{options, read_stimuli, read_timings};
+use timing_text::{NetTimings, options, read_stimuli, read_timings};
 
 impl Design {
     /// Makes a design from a netlist, the timing and wire delays of a delay text, and the stimuli of a
@@ -39,19 +42,41 @@ impl Design {
         ensures delays { result ≡ Err BuildFault.Memory → length delays.now ≤ longest_text }
     {
         options(default_delay, period)?;
-        let timings = read_timings(alloc, &netlist, delays, default_delay, period)?;
+        let timed = read_timings(alloc, &netlist, delays, default_delay, period)?;
         let stimuli = read_stimuli(alloc, &netlist, stimuli)?;
         let first_pins = first_pins(alloc, &netlist)?;
         let sources = netlist.all_pins(alloc)?;
         let fed = fed_pins(alloc, netlist.nets(), sources.as_slice())?;
-        Ok(Design {
-            netlist,
-            first_pins,
-            sources,
-            fed,
-            timings,
-            stimuli,
-        })
+        Ok(joined(netlist, first_pins, sources, fed, timed, stimuli))
+    }
+}
+
+/// Makes a design of its parts.
+pub(super) fn joined(
+    netlist: Netlist,
+    first_pins: Vec<u32>,
+    sources: Vec<u32>,
+    fed: FlatLists<u32>,
+    timed: NetTimings,
+    stimuli: FlatLists<Change>,
+) -> Design
+    requires { IsJoined netlist first_pins.items sources.items fed (seen_timings timed) stimuli }
+    ensures { result ≡ design_view netlist (seen_timings timed) stimuli }
+{
+    let (fed, first_fed) = fed.into_parts();
+    let (wires, first_wires) = timed.wires.into_parts();
+    let (stimuli, first_stimuli) = stimuli.into_parts();
+    Design {
+        netlist,
+        first_pins,
+        sources,
+        fed,
+        first_fed,
+        timings: timed.timings,
+        wires,
+        first_wires,
+        stimuli,
+        first_stimuli,
     }
 }
 

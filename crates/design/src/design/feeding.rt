@@ -3,6 +3,7 @@ ghost use Rattle.std.specs.Prelude.{◌≡◌, ◌<◌, ◌≤◌, [], All, leng
 ghost use Rattle.netlist.specs.Netlist.{most_pins};
 ghost use Rattle.design.specs.Pins.{all_fed};
 
+use flat_lists::FlatLists;
 use std::alloc::{AllocError, Global};
 
 /// Returns the pins that each of `nets` nets feeds, in rising order, given the net that feeds each
@@ -11,16 +12,16 @@ pub(super) fn fed_pins(
     alloc: Global,
     nets: u32,
     sources: &[u32],
-) -> Result<Vec<Vec<u32>>, AllocError>
+) -> Result<FlatLists<u32>, AllocError>
     requires exist { All (λ source. source < nets) sources.now }
     requires few { length sources.now ≤ most_pins }
-    ensures { IfOk result (λ fed. map (λ v. v.items) fed.items ≡ all_fed nets sources.now) }
+    ensures { IfOk result (λ fed. fed ≡ all_fed nets sources.now) }
 {
     let mut fed = no_pins(alloc, nets)?;
     for (pin, source) in sources.iter().enumerate() {
         fed[*source as usize].push(pin as u32)?;
     }
-    Ok(fed)
+    FlatLists::of_lists(alloc, fed.as_slice())
 }
 
 /// Returns an empty list of pins for each of `nets` nets.

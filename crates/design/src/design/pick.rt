@@ -1,16 +1,16 @@
 ghost use Rattle.std.specs.Prelude.{◌≡◌, ◌≢◌, ℕ, ◌<◌, length, map, All, AllPairs, Contains, IfOk};
 ghost use Rattle.logic3.specs.Rising.{Rises};
 ghost use Rattle.netlist.specs.Netlist.{net_at};
-ghost use Rattle.timing_text.specs.Timings.{seen_timing};
+ghost use Rattle.timing_text.specs.Timings.{seen_timings};
 ghost use Rattle.design.specs.PickedDesign.{picked_design, stimuli_in, timing_in};
 
 use crate::design::Design;
-use crate::design::build::first_pins;
+use crate::design::build::{first_pins, joined};
 use crate::design::feeding::fed_pins;
+use flat_lists::FlatLists;
 use logic3::Change;
-use smallvec::SmallVec;
 use std::alloc::{AllocError, Global};
-use timing_text::NetTiming;
+use timing_text::NetTimings;
 
 impl Design {
     /// Returns the nets with these numbers in this order, with these outputs, as a design of their
@@ -32,43 +32,34 @@ impl Design {
         let first_pins = first_pins(alloc, &netlist)?;
         let sources = netlist.all_pins(alloc)?;
         let fed = fed_pins(alloc, netlist.nets(), sources.as_slice())?;
-        let timings = timings_of(alloc, self, keep)?;
+        let timed = timings_of(alloc, self, keep)?;
         let stimuli = stimuli_of(alloc, self, keep)?;
-        Ok(Design {
-            netlist,
-            first_pins,
-            sources,
-            fed,
-            timings,
-            stimuli,
-        })
+        Ok(joined(netlist, first_pins, sources, fed, timed, stimuli))
     }
 }
 
-/// Returns the timings of these nets, in order.
-fn timings_of(alloc: Global, design: &Design, nets: &[u32]) -> Result<Vec<NetTiming>, AllocError>
+/// Returns the timings and the wire delays of these nets, in order.
+fn timings_of(alloc: Global, design: &Design, nets: &[u32]) -> Result<NetTimings, AllocError>
     requires { All (λ net. net < length design.now.circuit) nets.now }
-    ensures { IfOk result (λ timings. map seen_timing timings.items ≡ map (timing_in design.now.circuit) nets.now) }
+    ensures { IfOk result (λ timed. seen_timings timed ≡ map (timing_in design.now.circuit) nets.now) }
 {
     let mut timings = Vec::new(alloc);
+    let mut wires = FlatLists::with_capacity(alloc, nets.len(), 0)?;
     for net in nets {
-        timings.push(NetTiming {
-            timing: design.timing(*net),
-            wires: SmallVec::from_slice(alloc, design.wires_of(*net))?,
-        })?;
+        timings.push(design.timing(*net))?;
+        wires.push(design.wires_of(*net))?;
     }
-    Ok(timings)
+    Ok(NetTimings { timings, wires })
 }
 
 /// Returns the stimuli of these nets, in order.
-fn stimuli_of(alloc: Global, design: &Design, nets: &[u32]) -> Result<Vec<Vec<Change>>, AllocError>
+fn stimuli_of(alloc: Global, design: &Design, nets: &[u32]) -> Result<FlatLists<Change>, AllocError>
     requires { All (λ net. net < length design.now.circuit) nets.now }
-    ensures { IfOk result
-        (λ stimuli. map (λ v. v.items) stimuli.items ≡ map (stimuli_in design.now.circuit) nets.now) }
+    ensures { IfOk result (λ stimuli. stimuli ≡ map (stimuli_in design.now.circuit) nets.now) }
 {
-    let mut stimuli = Vec::new(alloc);
+    let mut stimuli = FlatLists::with_capacity(alloc, nets.len(), 0)?;
     for net in nets {
-        stimuli.push(Vec::from_slice(alloc, design.stimuli(*net))?)?;
+        stimuli.push(design.stimuli(*net))?;
     }
     Ok(stimuli)
 }

@@ -49,8 +49,8 @@ fn read_back(rt: HostRuntime) -> Result<(), Fail> {
     let text = text_of(alloc, S27_BENCH, &drives, (1, 6), 13)??;
     let stimuli = read_stimuli(alloc, &netlist, text.as_slice())?;
     assert!(&rt; stimuli.len() == 17);
-    for (changes, signal) in stimuli.iter().zip(&SIGNALS) {
-        shows(&rt, changes.as_slice(), signal);
+    for (net, signal) in SIGNALS.iter().enumerate() {
+        shows(&rt, stimuli.list(net), signal);
     }
     Ok(())
 }

@@ -1,7 +1,8 @@
-use Rattle.std.proofs.Common.{◌≡◌, IfSome, [], length, refl, sym, ap, subst, ◌∙◌, arith}
+use Rattle.std.proofs.Common.{◌≡◌, ◌<◌, All, IfSome, [], length, refl, sym, ap, subst, ◌∙◌, arith}
 use Rattle.std.proofs.lemmas.Bool.Decides.{nat_tests}
 use Rattle.std.proofs.lemmas.List.{nil_from_length}
 use Rattle.netlist.specs.Netlist.{NetlistView}
+use Rattle.design.proofs.CallerLemmas.{length-circuit}
 use Rattle.fanin_cone.specs.Extract.{IsDesignOfCones}
 use Rattle.prepared_runs.specs.Source.{signals_of}
 use Rattle.prepared_runs.specs.Prepared.{seen_run}
@@ -9,6 +10,11 @@ use Rattle.kernel_runs.proofs.Completed.{no_events_known}
 use Rattle.kernel_runs.proofs.ConesShown.{CanShow-outputs, signals_alone}
 use Rattle.kernel_runs.proofs.alone.cones_of.Goals as goal
 use Rattle.kernel_runs.proofs.alone.cones_of.Goals.{In_ok-nets}
+
+pub cones_alone-requires-clause-nets : goal.cones_alone-requires-clause-nets
+cones_alone-requires-clause-nets c =
+    subst (λ nets. All (λ net. net < nets) c.as_slice.result.now) (length-circuit c.args.run.design c.requires.design)
+    (subst (All (λ net. net < length c.args.run.design.circuit)) (sym c.as_slice.ensures.value) c.requires.there)
 
 -- the design that is run
 part : (c : In_ok-nets) → IsDesignOfCones c.args.run.design c.args.nets.items c.in-Some.design

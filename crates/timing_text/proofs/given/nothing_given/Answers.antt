@@ -3,7 +3,7 @@ use Rattle.netlist.specs.Netlist.{net_at}
 use Rattle.netlist.proofs.CallerLemmas.{no_net}
 use Rattle.timing_text.specs.declared.given.NetGiven.{NetGiven}
 use Rattle.timing_text.specs.GivenSoFar.{given_to_net, seen_given}
-use Rattle.timing_text.proofs.NetTimings.{map-both_more, no_wires-replicate}
+use Rattle.timing_text.proofs.GivenTimings.{map-both_more, no_wires-replicate}
 use Rattle.timing_text.proofs.given.nothing_given.Goals as goal
 
 pub loop-net-preserved : goal.loop-net-preserved

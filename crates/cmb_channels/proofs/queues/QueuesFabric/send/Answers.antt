@@ -10,41 +10,41 @@ use Rattle.cmb_channels.proofs.Appended.{appended-fed}
 use Rattle.cmb_channels.proofs.FedPins.{pins_at}
 use Rattle.cmb_channels.proofs.WaitingLemmas.{length-appended}
 use Rattle.cmb_channels.proofs.queues.QueuesFabric.send.Goals as goal
-use Rattle.cmb_channels.proofs.queues.QueuesFabric.send.Goals.{After-of-pins, After-push_at_all}
+use Rattle.cmb_channels.proofs.queues.QueuesFabric.send.Goals.{After-list-pins, After-push_at_all}
 
-abbrev sources : (c : After-of-pins) → List ℕ
+abbrev sources : (c : After-list-pins) → List ℕ
 sources c = sources_in c.self.inside.fed (length c.self.inside.queues.items)
 
-fed : (c : After-of-pins) → c.of-pins.result.now ≡ pins_fed c.args.net (sources c)
+fed : (c : After-list-pins) → c.list-pins.result.now ≡ pins_fed c.args.net (sources c)
 fed c =
     let nets = ap (λ (channels : Channels). channels.nets) c.self.view_is in
-    c.of-pins.ensures ∙ pins_at c.self.inside.fed _ c.args.net (sources c) c.self.invariant (omega (arith, c.requires, nets))
+    c.list-pins.ensures ∙ pins_at c.self.inside.fed _ c.args.net (sources c) c.self.invariant (omega (arith, c.requires, nets))
 
 -- there is a source for each queue
-long : (c : After-of-pins) → length (sources c) ≡ length c.self.inside.queues.items
+long : (c : After-list-pins) → length (sources c) ≡ length c.self.inside.queues.items
 long c = length-map-range_with_len (source_in c.self.inside.fed) 0 (length c.self.inside.queues.items)
 
 pub reserve_places-requires : goal.reserve_places-requires
 reserve_places-requires c = λ k d within.
     let at = goal.at.reserve_places-requires c in
-    let same = fed at.After-of-pins in
-    let below = pins_fed-within c.args.net (sources at.After-of-pins) k d (omega (arith, within, ap length same)) in
-    omega (arith, ap (λ pins. slice_index_or pins k d) same, below, long at.After-of-pins, c.self.inside.queues.ok.0)
+    let same = fed at.After-list-pins in
+    let below = pins_fed-within c.args.net (sources at.After-list-pins) k d (omega (arith, within, ap length same)) in
+    omega (arith, ap (λ pins. slice_index_or pins k d) same, below, long at.After-list-pins, c.self.inside.queues.ok.0)
 
 pub push_at_all-requires-clause-rising : goal.push_at_all-requires-clause-rising
 push_at_all-requires-clause-rising c = λ i j d before within.
     let at = goal.at.push_at_all-requires-clause-rising c in
-    let same = fed at.After-of-pins in
+    let same = fed at.After-list-pins in
     let first = ap (λ pins. slice_index_or pins i d) same in
     let second = ap (λ pins. slice_index_or pins j d) same in
     omega
-    (arith, first, second, pins_fed-rising c.args.net (sources at.After-of-pins) i j d before (omega (arith, within, ap length same)))
+    (arith, first, second, pins_fed-rising c.args.net (sources at.After-list-pins) i j d before (omega (arith, within, ap length same)))
 
 pub push_at_all-requires-clause-exist : goal.push_at_all-requires-clause-exist
 push_at_all-requires-clause-exist c = λ k d within.
     let at = goal.at.push_at_all-requires-clause-exist c in
-    let same = fed at.After-of-pins in
-    let below = pins_fed-within c.args.net (sources at.After-of-pins) k d (omega (arith, within, ap length same)) in
+    let same = fed at.After-list-pins in
+    let below = pins_fed-within c.args.net (sources at.After-list-pins) k d (omega (arith, within, ap length same)) in
     let old = length-map c.self.inside.queues.items (λ queue. queue.items) in
     let new = length-map c.reserve_places.new.queues.items (λ queue. queue.items) in
     omega (
@@ -54,14 +54,14 @@ push_at_all-requires-clause-exist c = λ k d within.
       old,
       new,
       ap length c.reserve_places.ensures.lists,
-      long at.After-of-pins,
+      long at.After-list-pins,
       c.reserve_places.new.queues.ok.0,
     )
 
 same_lists : (c : After-push_at_all) → length (lists_in c.push_at_all.new.queues.items) ≡ length (lists_in c.self.inside.queues.items)
 same_lists c =
     ap length c.push_at_all.ensures
-    ∙ length-appended c.args.message c.of-pins.result.now (lists_in c.reserve_places.new.queues.items)
+    ∙ length-appended c.args.message c.list-pins.result.now (lists_in c.reserve_places.new.queues.items)
     ∙ ap length c.reserve_places.ensures.lists
 
 same_queues : (c : After-push_at_all) → length c.push_at_all.new.queues.items ≡ length c.self.inside.queues.items
@@ -78,10 +78,10 @@ invariant_of-self-2 c =
 
 pub returns-clause-ok : goal.returns-clause-ok
 returns-clause-ok c =
-    let at = (goal.at.returns-clause-ok c).After-of-pins in
+    let at = (goal.at.returns-clause-ok c).After-list-pins in
     let lists = lists_in c.self.inside.queues.items in
     c.push_at_all.ensures
-    ∙ ap (appended c.args.message c.of-pins.result.now) c.reserve_places.ensures.lists
+    ∙ ap (appended c.args.message c.list-pins.result.now) c.reserve_places.ensures.lists
     ∙ ap (λ pins. appended c.args.message pins lists) (fed at)
     ∙ appended-fed c.args.message c.args.net (sources at) lists
     (length-map c.self.inside.queues.items (λ queue. queue.items) ∙ sym (long at))

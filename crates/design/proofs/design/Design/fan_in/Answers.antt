@@ -9,17 +9,17 @@ use Rattle.design.proofs.design.Design.fan_in.Goals as goal
 use Rattle.design.proofs.design.Design.fan_in.Goals.{After-index}
 
 pub index-end-requires : goal.index-end-requires
-index-end-requires c = omega (arith, c.requires, length-first_pins c.self.invariant c.self.view_is)
+index-end-requires c = omega (arith, c.requires, length-first_pins c.self.invariant.joined c.self.view_is)
 
 pub index-requires : goal.index-requires
-index-requires c = omega (arith, c.requires, length-first_pins c.self.invariant c.self.view_is)
+index-requires c = omega (arith, c.requires, length-first_pins c.self.invariant.joined c.self.view_is)
 
 next_is : (c : After-index) →
     c.index-end.result.now ≡ c.index.result.now + length (get_or c.args.self.now.circuit c.args.net (net_in [] 0)).pins
 next_is c =
     let circuit = c.args.self.now.circuit in
-    let begin = c.index.ensures ∙ first_pin_at c.self.invariant c.self.view_is c.args.net _ (omega (arith, c.requires)) in
-    let end = c.index-end.ensures ∙ first_pin_at c.self.invariant c.self.view_is (c.args.net + 1) _ (omega (arith, c.requires)) in
+    let begin = c.index.ensures ∙ first_pin_at c.self.invariant.joined c.self.view_is c.args.net _ (omega (arith, c.requires)) in
+    let end = c.index-end.ensures ∙ first_pin_at c.self.invariant.joined c.self.view_is (c.args.net + 1) _ (omega (arith, c.requires)) in
     let next = ap (first_pin circuit) (add-one c.args.net) ∙ first_pin-next circuit c.args.net (net_in [] 0) c.requires in
     omega (arith, begin, end, next)
 

@@ -10,4 +10,4 @@ pub returns-clause-most : goal.returns-clause-most
 returns-clause-most c = omega (arith, c.nets.ensures.nets, c.nets.ensures.well_formed.net_limit)
 
 pub returns-clause-circuit : goal.returns-clause-circuit
-returns-clause-circuit c = IsCircuit-from_IsDesign c.args.self.now (well_formed c.self.invariant c.self.view_is)
+returns-clause-circuit c = IsCircuit-from_IsDesign c.args.self.now (well_formed c.self.invariant.joined c.self.view_is)

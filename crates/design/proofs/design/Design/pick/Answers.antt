@@ -1,4 +1,4 @@
-use Rattle.std.proofs.Common.{◌≡◌, length, map, All, Contains, sym, ap, subst, ◌∙◌, arith}
+use Rattle.std.proofs.Common.{◌≡◌, length, All, Contains, sym, ap, subst, ◌∙◌, arith}
 use Rattle.netlist.specs.Netlist.{net_at}
 use Rattle.netlist.specs.Pick.{picked}
 use Rattle.netlist.proofs.CallerLemmas.{pins_exist, pins_few}
@@ -10,7 +10,7 @@ use Rattle.design.proofs.design.Design.pick.Goals as goal
 use Rattle.design.proofs.design.Design.pick.Goals.{In_ok-netlist}
 
 formed : (c : In_ok-netlist) → IsDesign c.args.self.now
-formed c = well_formed c.self.invariant c.self.view_is
+formed c = well_formed c.self.invariant.joined c.self.view_is
 
 picked_so : (c : In_ok-netlist) → c.in_ok-netlist.netlist ≡ picked c.args.self.now.netlist c.args.keep.now c.args.outputs.now
 picked_so c = c.in_ok-netlist.ensures ∙ ap (λ (d : DesignView). picked d.netlist c.args.keep.now c.args.outputs.now) c.self.view_is
@@ -20,17 +20,17 @@ pick-requires-clause-pins c =
     subst (λ (d : DesignView). All (λ number. All (Contains c.args.keep.now) (net_at d.netlist number).pins) c.args.keep.now) (sym c.self.view_is) c.requires.pins
 
 pub timings_of-requires : goal.timings_of-requires
-timings_of-requires c = there c.args.self.now (well_formed c.self.invariant c.self.view_is) c.args.keep.now c.args.outputs.now c.requires.nets
+timings_of-requires c = there c.args.self.now (well_formed c.self.invariant.joined c.self.view_is) c.args.keep.now c.args.outputs.now c.requires.nets
 
 pub stimuli_of-requires : goal.stimuli_of-requires
-stimuli_of-requires c = there c.args.self.now (well_formed c.self.invariant c.self.view_is) c.args.keep.now c.args.outputs.now c.requires.nets
+stimuli_of-requires c = there c.args.self.now (well_formed c.self.invariant.joined c.self.view_is) c.args.keep.now c.args.outputs.now c.requires.nets
 
-pub invariant_of-result : goal.invariant_of-result
-invariant_of-result c =
-    let at = (goal.at.invariant_of-result c).In_ok-netlist in
+pub joined-requires : goal.joined-requires
+joined-requires c =
+    let at = (goal.at.joined-requires c).In_ok-netlist in
     IsJoined-picked c.args.self.now (formed at) c.args.keep.now c.args.outputs.now c.requires.nets
-    c.in_ok-netlist.netlist _ _ (picked_so at) c.in_ok-timings.ensures c.in_ok-stimuli.ensures
-    c.in_ok-first_pins.first_pins.items c.in_ok-sources.sources.items (map (λ v. v.items) c.in_ok-fed.fed.items)
+    c.in_ok-netlist.netlist _ _ (picked_so at) c.in_ok-timed.ensures c.in_ok-stimuli.ensures
+    c.in_ok-first_pins.first_pins.items c.in_ok-sources.sources.items c.in_ok-fed.fed
     c.in_ok-first_pins.ensures.well_formed c.in_ok-first_pins.ensures.starts c.in_ok-sources.ensures
     (c.in_ok-fed.ensures ∙ ap (all_fed c.nets.result) c.as_slice.ensures.value ∙ ap (λ nets. all_fed nets c.in_ok-sources.sources.items) c.nets.ensures.nets)
 
@@ -46,5 +46,6 @@ fed_pins-requires-clause-few c =
 pub returns : goal.returns
 returns c =
     let at = (goal.at.returns c).In_ok-netlist in
-    design_view-picked c.args.self.now (formed at) c.args.keep.now c.args.outputs.now c.requires.nets
-    c.in_ok-netlist.netlist _ _ (picked_so at) c.in_ok-timings.ensures c.in_ok-stimuli.ensures
+    c.joined.ensures
+    ∙ design_view-picked c.args.self.now (formed at) c.args.keep.now c.args.outputs.now c.requires.nets
+    c.in_ok-netlist.netlist _ _ (picked_so at) c.in_ok-timed.ensures c.in_ok-stimuli.ensures

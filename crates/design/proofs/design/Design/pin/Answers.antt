@@ -7,16 +7,16 @@ use Rattle.design.proofs.design.Design.pin.Goals as goal
 use Rattle.design.proofs.design.Design.pin.Goals.{After-index}
 
 pub index-requires : goal.index-requires
-index-requires c = omega (arith, c.requires.net, length-first_pins c.self.invariant c.self.view_is)
+index-requires c = omega (arith, c.requires.net, length-first_pins c.self.invariant.joined c.self.view_is)
 
 first_is : (c : After-index) → c.index.result.now ≡ first_pin c.args.self.now.circuit c.args.net
-first_is c = c.index.ensures ∙ first_pin_at c.self.invariant c.self.view_is c.args.net _ (omega (arith, c.requires.net))
+first_is c = c.index.ensures ∙ first_pin_at c.self.invariant.joined c.self.view_is c.args.net _ (omega (arith, c.requires.net))
 
 within : (c : After-index) → first_pin c.args.self.now.circuit c.args.net + c.args.place < pin_count c.args.self.now.circuit
 within c = pin_within c.args.self.now.circuit c.args.net c.args.place c.requires.net c.requires.place
 
 limit : (c : After-index) → pin_count c.args.self.now.circuit ≤ 1_000_000
-limit c = pin_limit c.args.self.now (well_formed c.self.invariant c.self.view_is)
+limit c = pin_limit c.args.self.now (well_formed c.self.invariant.joined c.self.view_is)
 
 pub overflow_add-result : goal.overflow_add-result
 overflow_add-result c =

@@ -13,7 +13,7 @@ index-requires c =
       arith,
       c.requires,
       length-sources c.args.self.now.circuit,
-      ap length (sources_are c.self.invariant c.self.view_is),
+      ap length (sources_are c.self.invariant.joined c.self.view_is),
       c.self.inside.sources.ok.0,
     )
 
@@ -21,10 +21,10 @@ pub returns-clause-source : goal.returns-clause-source
 returns-clause-source c =
     slice_get-get_or (sources_of c.args.self.now.circuit) c.args.pin c.index.result.now
     (omega (arith, c.requires, length-sources c.args.self.now.circuit))
-    ∙ ap Some (sym (c.index.ensures ∙ ap (λ sources. get_or sources c.args.pin c.index.result.now) (sources_are c.self.invariant c.self.view_is)))
+    ∙ ap Some (sym (c.index.ensures ∙ ap (λ sources. get_or sources c.args.pin c.index.result.now) (sources_are c.self.invariant.joined c.self.view_is)))
 
 pub returns-clause-within : goal.returns-clause-within
 returns-clause-within c =
     All-slice_get (λ source. source < length c.args.self.now.circuit) (sources_of c.args.self.now.circuit) c.args.pin c.index.result.now
-    (sources_below c.args.self.now.circuit (IsCircuit-from_IsDesign c.args.self.now (well_formed c.self.invariant c.self.view_is)))
+    (sources_below c.args.self.now.circuit (IsCircuit-from_IsDesign c.args.self.now (well_formed c.self.invariant.joined c.self.view_is)))
     (returns-clause-source c)

@@ -1,13 +1,24 @@
-use Rattle.std.proofs.Common.{◌∙◌, sym, ap, Some, arith}
-use Rattle.std.proofs.lemmas.List.{get_or-map, length-map}
-use Rattle.timing_text.specs.Timings.{seen_timing}
+use Rattle.std.proofs.Common.{◌∙◌, [], Some, ap, sym, arith}
+use Rattle.std.proofs.lemmas.Slice.Zip.{length-zip}
+use Rattle.flat_lists.specs.Parts.{parts}
+use Rattle.design.proofs.Joined.{get_or-zip}
 use Rattle.design.proofs.Stored.{length-timings, timing_at}
 use Rattle.design.proofs.design.Design.timing.Goals as goal
 
+pub index-requires : goal.index-requires
+index-requires c =
+    omega (
+      arith,
+      c.requires,
+      length-timings c.self.invariant.joined c.self.view_is,
+      length-zip c.self.inside.timings.items (parts c.self.inside.first_wires.items c.self.inside.wires.items),
+      c.self.inside.timings.ok.0,
+    )
+
 pub returns : goal.returns
 returns c =
-    let long = length-timings c.self.invariant c.self.view_is in
-    timing_at c.self.invariant c.self.view_is c.args.net (seen_timing c.index.result.now) c.requires
-    ∙ ap (λ both. Some both.0) (get_or-map seen_timing c.self.inside.timings.items c.args.net c.index.result.now _
-    (omega (arith, length-map c.self.inside.timings.items seen_timing))
-    ∙ ap seen_timing (sym c.index.ensures))
+    let timing = c.index.result.now in
+    timing_at c.self.invariant.joined c.self.view_is c.args.net (timing, []) c.requires
+    ∙ ap (λ both. Some both.0) (get_or-zip c.self.inside.timings.items (parts c.self.inside.first_wires.items c.self.inside.wires.items) c.args.net (timing, [])
+    (omega (arith, c.requires, length-timings c.self.invariant.joined c.self.view_is)))
+    ∙ ap Some (sym c.index.ensures)

@@ -7,20 +7,20 @@ use Rattle.design.proofs.design.Design.wire.Goals as goal
 use Rattle.design.proofs.design.Design.wire.Goals.{After-wires_of}
 
 pub index-requires : goal.index-requires
-index-requires c = omega (arith, c.pin_net-net.ensures.within, length-first_pins c.self.invariant c.self.view_is)
+index-requires c = omega (arith, c.pin_net-net.ensures.within, length-first_pins c.self.invariant.joined c.self.view_is)
 
 there : (c : After-wires_of) →
     (c.args.pin - c.index.result.now < length c.wires_of.result.now)
     × (slice_get (wires_of c.args.self.now.circuit) c.args.pin ≡ Some (get_or c.wires_of.result.now (c.args.pin - c.index.result.now) 0))
 there c =
-    wire_there c.args.self.now.circuit (IsCircuit-from_IsDesign c.args.self.now (well_formed c.self.invariant c.self.view_is))
+    wire_there c.args.self.now.circuit (IsCircuit-from_IsDesign c.args.self.now (well_formed c.self.invariant.joined c.self.view_is))
     c.args.pin c.pin_net-net.result _ _ c.requires c.pin_net-net.ensures.net
-    (c.index.ensures ∙ first_pin_at c.self.invariant c.self.view_is c.pin_net-net.result _ (omega (arith, c.pin_net-net.ensures.within)))
+    (c.index.ensures ∙ first_pin_at c.self.invariant.joined c.self.view_is c.pin_net-net.result _ (omega (arith, c.pin_net-net.ensures.within)))
     c.wires_of.ensures
 
 pub overflow_sub-place : goal.overflow_sub-place
 overflow_sub-place c =
-    let first = c.index.ensures ∙ first_pin_at c.self.invariant c.self.view_is c.pin_net-net.result _ (omega (arith, c.pin_net-net.ensures.within)) in
+    let first = c.index.ensures ∙ first_pin_at c.self.invariant.joined c.self.view_is c.pin_net-net.result _ (omega (arith, c.pin_net-net.ensures.within)) in
     let same = ap (first_pin c.args.self.now.circuit) c.pin_net-net.ensures.net in
     omega (arith, first_pin_le c.args.self.now.circuit c.args.pin c.requires)
 

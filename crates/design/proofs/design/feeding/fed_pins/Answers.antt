@@ -1,4 +1,4 @@
-use Rattle.std.proofs.Common.{get_or, length, take, ap, sym, ◌∙◌, arith}
+use Rattle.std.proofs.Common.{◌≡◌, get_or, length, map, take, IfOk, ap, sym, subst, ◌∙◌, arith}
 use Rattle.std.proofs.lemmas.List.{length-map, take_all}
 use Rattle.std.proofs.lemmas.Option.{slice_get-get_or}
 use Rattle.design.specs.Pins.{all_fed}
@@ -27,4 +27,8 @@ loop-pin-preserved c =
     (slice_get-get_or sources c.loop-pin.pin 0 within) (c.requires.exist c.loop-pin.pin 0 within) c.index_mut.ensures.value c.in_ok-push.ensures.items
 
 pub returns : goal.returns
-returns c = c.loop-pin.invariant ∙ ap (all_fed c.args.nets) (take_all c.loop-pin.pin c.args.sources.now (omega arith))
+returns c =
+    let all = c.as_slice.ensures.value in
+    subst (λ lists. IfOk c.of_lists.result (λ flat. flat ≡ lists))
+    (ap (map (λ v. v.items)) all ∙ c.loop-pin.invariant ∙ ap (all_fed c.args.nets) (take_all c.loop-pin.pin c.args.sources.now (omega arith)))
+    c.of_lists.ensures

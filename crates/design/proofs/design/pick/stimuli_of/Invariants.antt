@@ -4,4 +4,4 @@ use Rattle.design.proofs.design.pick.stimuli_of.Given as goal
 
 -- the stimuli so far
 abbrev pub invariant-loop-net : goal.invariant-loop-net
-invariant-loop-net l = map (λ v. v.items) l.stimuli.items ≡ map (stimuli_in l.design.circuit) (take l.net-index l.nets)
+invariant-loop-net l = l.stimuli ≡ map (stimuli_in l.design.circuit) (take l.net-index l.nets)

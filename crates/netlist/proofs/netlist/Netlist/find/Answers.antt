@@ -5,4 +5,4 @@ use Rattle.netlist.proofs.netlist.Netlist.find.Goals as goal
 pub returns : goal.returns
 returns c =
     rw (← c.self.view_is)
-    (c.find.ensures ∙ sym (net_named-netlist_view _ _ c.self.invariant.same_length c.self.inside.outputs.items c.args.name.now))
+    (c.find.ensures ∙ sym (net_named-netlist_view _ _ c.self.invariant.joined.same_length c.self.inside.outputs.items c.args.name.now))

@@ -41,7 +41,7 @@ hearer c = process_at (running c) c.args.net (rw (← c.self.view_is) at c.requi
 -- how many messages it takes of those that wait
 counted : (c : After-waiting_messages-waiting) (count : ℕ) →
     ForSome (slice_get c.self.inside.processes c.args.net) (λ (process : ProcessView).
-    count ≡ wanted_at c.args.tick process.state c.args.place c.waiting_messages-waiting.result.now) →
+    count ≡ wanted_at c.args.tick process.state c.args.place c.waiting_messages-waiting.result) →
     count ≡ wanted_at c.args.tick ((hearer c).0).state c.args.place (slice_index_or c.self.inside.fabric.lists c.args.pin [])
 counted c count is =
     is (hearer c).0 (hearer c).1
@@ -51,7 +51,7 @@ counted c count is =
 heard : (c : After-waiting_messages-waiting) (processes : List ProcessView) →
     ForSome (slice_get c.self.inside.processes c.args.net) (λ (process : ProcessView).
     processes ≡ slice_set c.self.inside.processes c.args.net
-    (running_as (heard_below c.args.tick c.args.place c.waiting_messages-waiting.result.now process.state))) →
+    (running_as (heard_below c.args.tick c.args.place c.waiting_messages-waiting.result process.state))) →
     processes ≡ slice_set c.self.inside.processes c.args.net
     (running_as (heard_below c.args.tick c.args.place (slice_index_or c.self.inside.fabric.lists c.args.pin []) ((hearer c).0).state))
 heard c processes is =

@@ -1,0 +1,41 @@
+-- Messages in four bytes.
+use Rattle.std.proofs.Common.{◌≡◌, ℕ, zero, suc, ◌+◌, ◌*◌, ◌/◌, ◌%◌, ◌<◌, Option, None, Some, refl, ◌∙◌, arith}
+use Rattle.logic3.specs.declared.value.Value.{Value}
+use Rattle.logic3.specs.declared.value.Value.TheVariants.{Zero, One, Unknown}
+use Rattle.cmb_channels.specs.declared.message.Message.{Message}
+use Rattle.cmb_channels.specs.Logs.{said_of, tick_said, value_said}
+
+-- the ticks that fit are below this number
+abbrev pub packed_ticks : ℕ
+packed_ticks = 1_073_741_824
+
+-- the value of a change by its number; a null message has 3
+abbrev pub value_of_digit : ℕ → Option Value
+value_of_digit zero = Some Zero
+value_of_digit (suc zero) = Some One
+value_of_digit (suc (suc zero)) = Some Unknown
+value_of_digit (suc (suc (suc more))) = None
+
+abbrev pub digit_of_value : Option Value → ℕ
+digit_of_value (Some Zero) = 0
+digit_of_value (Some One) = 1
+digit_of_value (Some Unknown) = 2
+digit_of_value None = 3
+
+-- four times the tick, and the number of the value
+abbrev pub message_of : ℕ → Message
+message_of code = said_of (code / 4) (value_of_digit (code % 4))
+
+abbrev pub code_of : Message → ℕ
+code_of message = tick_said message * 4 + digit_of_value (value_said message)
+
+digit_back : (tick digit : ℕ) → digit < 4 → code_of (said_of tick (value_of_digit digit)) ≡ tick * 4 + digit
+digit_back tick zero small = refl
+digit_back tick (suc zero) small = refl
+digit_back tick (suc (suc zero)) small = refl
+digit_back tick (suc (suc (suc zero))) small = refl
+digit_back tick (suc (suc (suc (suc more)))) small = absurd (omega (arith, small))
+
+-- a code is that of its message
+pub code_back : (code : ℕ) → code_of (message_of code) ≡ code
+code_back code = digit_back (code / 4) (code % 4) (omega arith) ∙ omega arith
