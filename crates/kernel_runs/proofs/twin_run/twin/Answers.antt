@@ -1,10 +1,10 @@
-use Rattle.std.proofs.Common.{◌≡◌, ◌≤◌, length, All, IfOk, IsOkAnd, Ok, subst}
+use Rattle.std.proofs.Common.{◌≡◌, ◌≤◌, length, All, IfOk, IfErr, IsOkAnd, Result, Ok, Err, subst}
 use Rattle.std.proofs.lemmas.Result.{err_from_is_err_and, IfErr-at_err, IfOk-at_ok}
 use Rattle.cmb_events.specs.Schedule.{most_events, Exists}
 use Rattle.prepared_runs.specs.declared.preparation.PreparedRun.{PreparedRun}
 use Rattle.wave_diff.specs.declared.comparison.Side.TheVariants.{First, Second}
 use Rattle.prepared_runs.specs.Ends.{IsRefusal}
-use Rattle.prepared_runs.specs.Source.{seen_source}
+use Rattle.prepared_runs.specs.Source.{seen_source, MayWantMemory}
 use Rattle.prepared_runs.specs.Prepared.{run_of_source, seen_run}
 use Rattle.kernel_runs.specs.Twins.{IsComparison, twins_in, twins_of}
 use Rattle.prepared_runs.proofs.CallerLemmas.{ready_of_run}
@@ -85,3 +85,14 @@ returns-clause-err c =
     let made_one = IfOk-at_ok (λ (run : PreparedRun). run_of_source first horizon ≡ Ok (seen_run run)) c.in_ok-one.ensures.ok c.prepare_run.ensures.ok in
     let made_other = IfOk-at_ok (λ (run : PreparedRun). run_of_source second horizon ≡ Ok (seen_run run)) c.in_ok-other.ensures.ok c.prepare_run-2.ensures.ok in
     rw (twins_of-in first second name horizon _ made_one _ made_other) c.compare.ensures.err
+
+-- whatever a refusal is
+if_refused : {A F : Type 0} (P : F → Type 0) (result : Result A F) → ((fault : F) → P fault) → IfErr result P
+if_refused P (Ok value) holds = tt
+if_refused P (Err fault) holds = holds fault
+
+pub returns-clause-memory : goal.returns-clause-memory
+returns-clause-memory c =
+    let first = seen_source c.args.first.now in
+    let may = IfOk-at_ok (λ (run : PreparedRun). MayWantMemory first c.args.horizon) c.in_ok-one.ensures.ok c.prepare_run.ensures.begun in
+    if_refused _ c.compare.result (λ fault wanted. may)
