@@ -22,9 +22,9 @@ pub use waiting::Waiting;
 /// Channels with a log for each net, of the messages that it sent, and a count for each pin, of the
 /// messages that it has taken. What waits at a pin is one slice of a log.
 ///
-/// A message needs four bytes, for all pins together, or 24 from the first on that doesn't fit in four. Sending, taking and counting take amortized
-/// constant time for each message that is sent, for any number of pins that the net feeds and of messages
-/// that are taken at once.
+/// A message needs four bytes, for all pins together, or 24 from the first on that doesn't fit in four.
+/// Sending, taking and counting take amortized constant time for each message that is sent, for any number of
+/// pins that the net feeds and of messages that are taken at once.
 ///
 /// Once every pin of a net has taken all, the net's next message empties its log. If a log has no room before
 /// that, and half of it or more has been taken by every pin, this part is removed; otherwise the log

@@ -63,7 +63,7 @@ impl<T: Copy> FlatLists<T> {
 
     /// Adds a list at the end.
     ///
-    /// All lists together have less than 2^32 items. One that would make them more is refused as if
+    /// All lists together have fewer than 2^32 items. One that would make them more is refused as if
     /// memory had run out. An `AllocError` leaves the lists unchanged.
     pub fn push(&mut self, list: &[T]) -> Result<(), AllocError>
         ensures ok { OnOk result (self.new ≡ self.old ++ list.now ∷ []) }

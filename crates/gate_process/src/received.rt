@@ -22,7 +22,7 @@ use std::marker::Model;
 #[derive(Debug, Drop)]
 pub struct Received {
     changes: KeptChanges,
-    // Four bytes hold the tick of any run. Fields lie in memory as they stand here, so the small ones are last.
+    // Four bytes hold the tick of any run. Fields lie in memory in this order, so the small ones are last.
     frontier: u32,
     // The value before the first change that is kept.
     before: Value,
