@@ -1,9 +1,15 @@
--- Messages in four bytes.
-use Rattle.std.proofs.Common.{◌≡◌, ℕ, zero, suc, ◌+◌, ◌*◌, ◌/◌, ◌%◌, ◌<◌, Option, None, Some, refl, ◌∙◌, arith}
+-- Messages and changes in four bytes.
+use Rattle.std.proofs.Common.{◌≡◌, ℕ, zero, suc, ◌+◌, ◌*◌, ◌/◌, ◌%◌, ◌<◌, List, Option, None, Some, refl, ◌∙◌, arith}
+use Rattle.std.specs.Prelude.{filter_map}
+use Rattle.std.specs.Option.{option_map_or}
+use Rattle.logic3.specs.declared.change.Change.{Change}
 use Rattle.logic3.specs.declared.value.Value.{Value}
 use Rattle.logic3.specs.declared.value.Value.TheVariants.{Zero, One, Unknown}
 use Rattle.cmb_channels.specs.declared.message.Message.{Message}
+use Rattle.cmb_channels.specs.declared.message.Message.TheVariants.{Change as Changes, Null}
 use Rattle.cmb_channels.specs.Logs.{said_of, tick_said, value_said}
+
+-- ---- messages
 
 -- the ticks that fit are below this number
 abbrev pub packed_ticks : ℕ
@@ -39,3 +45,18 @@ digit_back tick (suc (suc (suc (suc more)))) small = absurd (omega (arith, small
 -- a code is that of its message
 pub code_back : (code : ℕ) → code_of (message_of code) ≡ code
 code_back code = digit_back (code / 4) (code % 4) (omega arith) ∙ omega arith
+
+-- ---- changes
+
+-- the change that a message tells of, if any
+abbrev pub change_said : Message → Option Change
+change_said (Changes change) = Some change
+change_said (Null bound) = None
+
+-- the changes that messages tell of
+abbrev pub changes_said : List Message → List Change
+changes_said messages = filter_map change_said messages
+
+-- a change by its code, which is that of its message
+abbrev pub change_of : ℕ → Change
+change_of code = record { tick = code / 4; value = option_map_or (λ value. value) (value_of_digit (code % 4)) Unknown }

@@ -5,6 +5,7 @@ ghost use Rattle.cmb_channels.specs.declared.message.Message.{Message};
 ghost use Rattle.cmb_channels.specs.Lists.{sent, taken};
 
 use crate::message::Message;
+use crate::packed::Packed;
 use design::Design;
 use std::alloc::{AllocError, Global};
 
@@ -50,7 +51,7 @@ pub trait Fabric: Drop {
     /// Sends some messages in order, as [`send`](Self::send) sends each of them. An empty list takes no memory.
     ///
     /// After an `AllocError` the first of them may be sent.
-    fn send_all(&mut self, net: u32, messages: &[Message]) -> Result<(), AllocError>
+    fn send_all(&mut self, net: u32, messages: &[Packed]) -> Result<(), AllocError>
         requires { net < nets self.old }
         ensures ok { OnOk result (lists self.new ≡ sent net messages.now (sources self.old) (lists self.old)) }
         ensures pins { length (lists self.new) ≡ length (lists self.old) }
@@ -59,7 +60,7 @@ pub trait Fabric: Drop {
         ensures memory { OnErr result (0 < length messages.now) }
     {
         for message in messages {
-            self.send(net, *message)?;
+            self.send(net, message.message())?;
         }
         Ok(())
     }

@@ -21,9 +21,11 @@ mod fabric;
 mod fed_pins;
 mod logs;
 mod message;
+mod packed;
 mod queues;
 
 pub use fabric::Fabric;
 pub use logs::{Logs, Waiting};
 pub use message::Message;
+pub use packed::{Packed, PackedChange};
 pub use queues::Queues;

@@ -1,22 +1,24 @@
 ghost use Rattle.std.specs.Prelude.{◌≡◌, ◌<◌, ◌≤◌, [], ◌∷◌, length, slice_index_or, OnOk, OnErr};
 ghost use Rattle.design.specs.Pins.{pins_fed};
 ghost use Rattle.cmb_channels.specs.Lists.{sent, taken_many, most_waiting};
+ghost use Rattle.cmb_channels.specs.Parts.{messages_in};
 
 mod building;
 mod log;
 mod messages;
-mod packed;
 mod waiting;
 
 use crate::fabric::Fabric;
 use crate::fed_pins::fed_pins;
 use crate::message::Message;
+use crate::packed::Packed;
 use building::{no_counts, pin_sources, read_logs};
 use design::Design;
 use flat_lists::FlatLists;
 use log::Log;
 use std::alloc::{AllocError, Global};
 use std::marker::Model;
+use waiting::Part;
 pub use waiting::Waiting;
 
 /// Channels with a log for each net, of the messages that it sent, and a count for each pin, of the
@@ -127,6 +129,25 @@ impl Logs {
         let kept = self.to_keep(net, more);
         self.logs[net as usize].cut_to(kept);
     }
+
+    /// Adds these messages at the end of the log of a net. An `AllocError` changes no list.
+    fn send_part(&mut self, net: u32, messages: Part<'_>) -> Result<(), AllocError>
+        requires { net < self.old.nets }
+        ensures ok { OnOk result (self.new.lists ≡ sent net (messages_in messages.entry) self.old.sources self.old.lists) }
+        ensures err { OnErr result (self.new.lists ≡ self.old.lists) }
+        ensures pins { length self.new.lists ≡ length self.old.lists }
+        ensures sources { self.new.sources ≡ self.old.sources }
+        ensures nets { self.new.nets ≡ self.old.nets }
+        ensures memory { OnErr result (0 < length (messages_in messages.entry)) }
+        ensures fed { OnErr result (0 < length (pins_fed net self.old.sources)) }
+    {
+        if messages.is_empty() {
+            return Ok(());
+        }
+        self.make_room(net, messages.len());
+        self.logs[net as usize].write(messages)?;
+        Ok(())
+    }
 }
 
 impl Fabric for Logs {
@@ -162,10 +183,10 @@ impl Fabric for Logs {
         // A send from a net that feeds no pin allocates nothing.
         ensures memory { OnErr result (0 < length (pins_fed net self.old.sources)) }
     {
-        self.send_all(net, &[message])
+        self.send_part(net, Part::Wide(&[message]))
     }
 
-    fn send_all(&mut self, net: u32, messages: &[Message]) -> Result<(), AllocError>
+    fn send_all(&mut self, net: u32, messages: &[Packed]) -> Result<(), AllocError>
         requires { net < self.old.nets }
         ensures ok { OnOk result (self.new.lists ≡ sent net messages.now self.old.sources self.old.lists) }
         // No message is sent if there is no memory for all of them.
@@ -176,12 +197,7 @@ impl Fabric for Logs {
         ensures memory { OnErr result (0 < length messages.now) }
         ensures fed { OnErr result (0 < length (pins_fed net self.old.sources)) }
     {
-        if messages.is_empty() {
-            return Ok(());
-        }
-        self.make_room(net, messages.len());
-        self.logs[net as usize].write(messages)?;
-        Ok(())
+        self.send_part(net, Part::Packed(messages))
     }
 
     fn take(&mut self, pin: u32) -> Option<Message> {

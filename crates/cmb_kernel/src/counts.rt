@@ -1,7 +1,7 @@
 ghost use Rattle.std.specs.Prelude.{◌≡◌, ◌+◌, ◌^◌, ◌<◌, length};
 ghost use Rattle.cmb_kernel.specs.Step.{counted, counted_silent};
 
-use cmb_channels::Message;
+use cmb_channels::Packed;
 
 /// How much has happened in a kernel since it was made.
 #[derive(Clone, Copy, Debug, PartialEq, Eq)]
@@ -18,15 +18,15 @@ pub struct Counts {
 
 impl Counts {
     /// Counts an event that sent these messages.
-    pub(crate) fn add_event(&mut self, messages: &[Message])
+    pub(crate) fn add_event(&mut self, messages: &[Packed])
         requires { self.old.changes + self.old.nulls + length messages.now < 2 ^ 64 }
         ensures { self.new ≡ counted self.old messages.now }
     {
         self.events = self.events.saturating_add(1);
         for message in messages {
-            match message {
-                Message::Change(_) => self.changes += 1,
-                Message::Null(_) => self.nulls += 1,
+            match message.change() {
+                Some(_) => self.changes += 1,
+                None => self.nulls += 1,
             }
         }
     }

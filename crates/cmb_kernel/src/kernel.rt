@@ -17,9 +17,9 @@ mod useful;
 
 use crate::counts::Counts;
 use crate::fault::KernelFault;
-use cmb_channels::{Fabric, Message};
+use cmb_channels::{Fabric, Packed};
 use design::Design;
-use gate_process::Processes;
+use gate_process::{KeptWave, Processes};
 use logic3::Waveform;
 use std::alloc::Global;
 use std::marker::Model;
@@ -36,19 +36,19 @@ use timing_text::Horizon;
 /// Nets and pins are numbered as in the design, and a reader that takes such a number requires one that
 /// exists.
 #[derive(Drop)]
-pub struct Kernel<'d, F: Fabric> {
+pub struct Kernel<'d, F: Fabric, W: KeptWave = Waveform> {
     design: &'d Design,
     // The first tick after the horizon.
     end: u64,
-    processes: Processes<'d>,
+    processes: Processes<'d, W>,
     fabric: F,
     counts: Counts,
     // The messages of an advance, before they are sent. Kept only to reuse its memory.
-    news: Vec<Message>,
+    news: Vec<Packed>,
     failed: bool,
 }
 
-impl<'d, F: Fabric> Model for Kernel<'d, F> {
+impl<'d, F: Fabric, W: KeptWave> Model for Kernel<'d, F, W> {
     ghost use Rattle.std.specs.Prelude.{◌≡◌, false};
     ghost use Rattle.cmb_kernel.specs.State.{KernelView};
     ghost use Rattle.cmb_kernel.specs.Running.{state_of, IsRunning};
@@ -67,35 +67,30 @@ impl<'d, F: Fabric> Model for Kernel<'d, F> {
         (state_of k.processes (F.lists k.fabric) k.counts) };
 }
 
-impl<'d, F: Fabric> Kernel<'d, F> {
-    /// Returns a kernel before any event, which runs up to the horizon, over new channels: each frontier is
-    /// 0, no message waits, and all counts are 0.
+impl<'d, F: Fabric, W: KeptWave> Kernel<'d, F, W> {
+    /// Returns a kernel before any event, as [`new`](Kernel::new) does, which keeps what its nets show as its
+    /// type says.
     ///
     /// # Errors
     /// [`KernelFault::Memory`]; nothing stays allocated.
-    pub fn new(
+    pub fn keeping(
         alloc: Global,
         design: &'d Design,
         horizon: Horizon,
-    ) -> Result<Kernel<'d, F>, KernelFault>
+    ) -> Result<Kernel<'d, F, W>, KernelFault>
         ensures { result ≢ Err KernelFault.Memory → result ≡ Ok (fresh design.now.circuit (horizon + 1)) }
     {
         let fabric = F::empty_for(alloc, design)?;
-        Kernel::over(alloc, design, horizon, fabric)
+        Kernel::keeping_over(alloc, design, horizon, fabric)
     }
 
-    /// Returns a kernel as [`new`](Self::new) does, but over these channels: those of the design, with
-    /// nothing in them. Use it for channels with settings or statistics of their own, which
-    /// [`fabric`](Self::fabric) returns.
-    ///
-    /// # Errors
-    /// [`KernelFault::Memory`]; the channels are dropped.
-    pub fn over(
+    /// Returns such a kernel over these channels: those of the design, with nothing in them.
+    fn keeping_over(
         alloc: Global,
         design: &'d Design,
         horizon: Horizon,
         fabric: F,
-    ) -> Result<Kernel<'d, F>, KernelFault>
+    ) -> Result<Kernel<'d, F, W>, KernelFault>
         requires lists { F.lists fabric ≡ replicate (pin_count design.now.circuit) [] }
         requires sources { F.sources fabric ≡ sources_of design.now.circuit }
         requires nets { F.nets fabric ≡ length design.now.circuit }
@@ -145,18 +140,6 @@ impl<'d, F: Fabric> Kernel<'d, F> {
         self.processes.of_net(net).frontier()
     }
 
-    /// Returns what a net shows at the known ticks, from its [`floor`](Self::floor) on.
-    pub fn waveform(&self, net: u32) -> &Waveform
-        requires running { self.now.failed ≡ false }
-        requires net { net < length self.now.circuit }
-        ensures waveform { result.now ≡ wave_of (value_of self.now.circuit net)
-            (floor_at self.now.state net) (frontier_at self.now.state net) }
-        ensures undrained { floor_at self.now.state net ≡ 0 →
-            result.now ≡ wave_of (value_of self.now.circuit net) 0 (frontier_at self.now.state net) }
-    {
-        self.processes.of_net(net).waveform()
-    }
-
     /// Returns the number of ticks of its source that a pin knows, in the source's own ticks, whatever the
     /// delay of its wire: at most the horizon and one more.
     pub fn received(&self, pin: u32) -> u64
@@ -178,5 +161,54 @@ impl<'d, F: Fabric> Kernel<'d, F> {
         ensures { result ≡ length (waiting_at self.now.state pin) }
     {
         self.fabric.waiting(pin)
+    }
+}
+
+impl<'d, F: Fabric> Kernel<'d, F> {
+    /// Returns a kernel before any event, which runs up to the horizon, over new channels: each frontier is
+    /// 0, no message waits, and all counts are 0.
+    ///
+    /// # Errors
+    /// [`KernelFault::Memory`]; nothing stays allocated.
+    pub fn new(
+        alloc: Global,
+        design: &'d Design,
+        horizon: Horizon,
+    ) -> Result<Kernel<'d, F>, KernelFault>
+        ensures { result ≢ Err KernelFault.Memory → result ≡ Ok (fresh design.now.circuit (horizon + 1)) }
+    {
+        Kernel::keeping(alloc, design, horizon)
+    }
+
+    /// Returns a kernel as [`new`](Self::new) does, but over these channels: those of the design, with
+    /// nothing in them. Use it for channels with settings or statistics of their own, which
+    /// [`fabric`](Self::fabric) returns.
+    ///
+    /// # Errors
+    /// [`KernelFault::Memory`]; the channels are dropped.
+    pub fn over(
+        alloc: Global,
+        design: &'d Design,
+        horizon: Horizon,
+        fabric: F,
+    ) -> Result<Kernel<'d, F>, KernelFault>
+        requires lists { F.lists fabric ≡ replicate (pin_count design.now.circuit) [] }
+        requires sources { F.sources fabric ≡ sources_of design.now.circuit }
+        requires nets { F.nets fabric ≡ length design.now.circuit }
+        ensures { result ≢ Err KernelFault.Memory → result ≡ Ok (fresh design.now.circuit (horizon + 1)) }
+    {
+        Kernel::keeping_over(alloc, design, horizon, fabric)
+    }
+
+    /// Returns what a net shows at the known ticks, from its [`floor`](Self::floor) on.
+    pub fn waveform(&self, net: u32) -> &Waveform
+        requires running { self.now.failed ≡ false }
+        requires net { net < length self.now.circuit }
+        ensures waveform { result.now ≡ wave_of (value_of self.now.circuit net)
+            (floor_at self.now.state net) (frontier_at self.now.state net) }
+        ensures undrained { floor_at self.now.state net ≡ 0 →
+            result.now ≡ wave_of (value_of self.now.circuit net) 0 (frontier_at self.now.state net) }
+    {
+        self.processes.of_net(net).wave()
     }
 }

@@ -64,6 +64,15 @@ pin_below circuit number place source net e h =
     let count = length-sources circuit in
     omega arith
 
+-- the pins of a net are among all pins
+pub pins_after : (circuit : Circuit) (number : ℕ) (net : Net) → slice_get circuit number ≡ Some net →
+    first_pin circuit number + length net.pins ≤ pin_count circuit
+pins_after [] number net at = cc
+pins_after (first ∷ nets) zero net at =
+    let same = ap (λ (n : Net). length n.pins) (same_Some first net at) in
+    omega (arith, same, pin_count-cons first nets)
+pins_after (first ∷ nets) (suc number) net at = omega (arith, pins_after nets number net at, pin_count-cons first nets)
+
 -- a pin's net and place
 pub record PinIs (circuit : Circuit) (pin number place : ℕ) : Type 0 where
   pub net : Net

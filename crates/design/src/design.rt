@@ -13,6 +13,7 @@ use flat_lists::list_of;
 use logic3::{Change, Value};
 use netlist::{Netlist, Part};
 use std::marker::Model;
+use std::ops::Range;
 use timing_text::Timing;
 
 /// A netlist with its timing, wire delays and stimuli.
@@ -116,6 +117,21 @@ impl Design {
     {
         let end = self.first_pins[net as usize + 1];
         (end - self.first_pins[net as usize]) as usize
+    }
+
+    /// Returns the numbers of a net's pins: from its first pin up to the first of the next net.
+    pub fn pin_range(&self, net: u32) -> Range<usize>
+        requires { net < length self.now.circuit }
+        ensures start { result.start ≡ first_pin self.now.circuit net }
+        ensures end { option_map (λ (n : Net). first_pin self.now.circuit net + length n.pins)
+            (slice_get self.now.circuit net) ≡ Some result.end }
+        ensures rising { result.start ≤ result.end }
+        ensures within { result.end ≤ pin_count self.now.circuit }
+        ensures most { pin_count self.now.circuit ≤ most_pins }
+    {
+        let end = self.first_pins[net as usize + 1];
+        let start = self.first_pins[net as usize];
+        start as usize..end as usize
     }
 
     /// Returns the number of the net with this name, if any.

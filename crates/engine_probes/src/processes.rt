@@ -7,9 +7,9 @@ ghost use Rattle.gate_process.specs.Step.{ProcessView};
 use crate::circuit_texts::inverter;
 use crate::telling::Teller;
 use Value::{One, Zero};
-use cmb_channels::Message;
+use cmb_channels::{Message, Packed};
 use design::Design;
-use gate_process::{Process, Processes};
+use gate_process::{PackedWave, Process, Processes};
 use logic3::{Change, Value};
 use std::alloc::{AllocError, Global};
 use std::io::Write;
@@ -59,7 +59,7 @@ impl<'d> Listener<'d> {
 
     /// Advances the process with its messages put in a list, and returns the result, or None if it has
     /// failed.
-    fn advance_into(&mut self, news: &mut Vec<Message>) -> Option<Result<(), AllocError>> {
+    fn advance_into(&mut self, news: &mut Vec<Packed>) -> Option<Result<(), AllocError>> {
         if self.process.is_failed() {
             return None;
         }
@@ -99,7 +99,7 @@ impl<'d> Listener<'d> {
 /// Processes, of which that of one net has a pin, up to this tick.
 #[derive(Drop)]
 struct Hearers<'d> {
-    processes: Processes<'d>,
+    processes: Processes<'d, PackedWave>,
     net: u32,
     end: u64,
     ghost is_net: { net < length processes },
@@ -343,7 +343,7 @@ fn all<W: Write>(
 fn hand_out<W: Write>(
     alloc: Global,
     teller: &mut Teller<W>,
-    processes: &mut Processes<'_>,
+    processes: &mut Processes<'_, PackedWave>,
 ) -> Option<()>
     requires { 0 < length processes.old }
 {
@@ -351,21 +351,23 @@ fn hand_out<W: Write>(
         return None;
     }
     let mut news = Vec::new(alloc);
-    if processes.advance_into(0, &mut news).is_err() {
+    let Ok(()) = processes.advance_into(0, &mut news) else {
         teller.refused("Processes::advance_into", processes.of_net(0).is_failed());
         return None;
-    }
+    };
     teller.fine("Processes::advance_into", news.len() == 3)?;
     let mut changes = Vec::new(alloc);
     let bound = processes.of_net(0).frontier();
-    if processes.drain_below_into(0, bound, &mut changes).is_err() {
-        let same = changes.is_empty() && processes.of_net(0).floor() == 0;
-        let again = processes.drain_below_into(0, bound, &mut changes).is_ok();
-        teller.refused(
-            "Processes::drain_below_into",
-            same && again && changes.len() == 2,
-        );
-        return None;
+    match processes.drain_below_into(0, bound, &mut changes) {
+        Ok(()) => teller.fine("Processes::drain_below_into", changes.len() == 2),
+        Err(_) => {
+            let same = changes.is_empty() && processes.of_net(0).floor() == 0;
+            let again = processes.drain_below_into(0, bound, &mut changes).is_ok();
+            teller.refused(
+                "Processes::drain_below_into",
+                same && again && changes.len() == 2,
+            );
+            None
+        }
     }
-    teller.fine("Processes::drain_below_into", changes.len() == 2)
 }

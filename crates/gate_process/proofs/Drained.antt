@@ -34,23 +34,24 @@ drained_true signals number bound process h a b =
 
 -- ---- processes without any truth
 
-module _ (process : ProcessState) (bound : ℕ) (ok : IsProcess process) (within : bound ≤ process.known.frontier) where
-  -- the net's waveform is that of what it shows, from the floor on
-  wave_is : process.known.wave ≡ wave_of (value_at process.known.wave) process.floor process.known.frontier
-  wave_is = ap (λ (k : Knowledge). k.wave) ok.known
+module _ (known : Knowledge) (floor bound : ℕ) (is : known ≡ forgetting floor known) (within : bound ≤ known.frontier) where
+  -- a net's waveform is that of what it shows, from the floor on
+  wave_is : known.wave ≡ wave_of (value_at known.wave) floor known.frontier
+  wave_is = ap (λ (k : Knowledge). k.wave) is
 
   -- what is taken out of the waveform
-  pub taken_out : changes_below bound process.known.wave.changes ≡ drained_changes bound process
+  pub taken_out : changes_below bound known.wave.changes ≡ changes_between (value_at known.wave) floor bound
   taken_out =
       ap (λ (w : Wave). changes_below bound w.changes) wave_is
-      ∙ changes_below-between (value_at process.known.wave) process.floor process.known.frontier bound within
+      ∙ changes_below-between (value_at known.wave) floor known.frontier bound within
 
   -- what is left of it
-  pub left : without_below bound process.known.wave ≡ (drained bound process).known.wave
+  pub left : without_below bound known.wave ≡ (forgetting (max floor bound) known).wave
   left =
       ap (without_below bound) wave_is
-      ∙ without_below-wave_of (value_at process.known.wave) process.floor process.known.frontier bound within
+      ∙ without_below-wave_of (value_at known.wave) floor known.frontier bound within
 
+module _ (process : ProcessState) (bound : ℕ) (ok : IsProcess process) (within : bound ≤ process.known.frontier) where
   pub drained_is_process : IsProcess (drained bound process)
   drained_is_process = record {
     timed = ok.timed;

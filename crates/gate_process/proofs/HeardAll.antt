@@ -7,6 +7,7 @@ use Rattle.std.proofs.lemmas.List.Elements.{All-nil, All-cons, All-append}
 use Rattle.std.proofs.lemmas.Option.{get_or_from_slice_get, same_Some}
 use Rattle.std.proofs.lemmas.List.Sums.{prefix_len-le-length}
 use Rattle.std.proofs.Math.Seq.{get_or-append_seam}
+use Rattle.timing_text.specs.Ranges.{most_ticks}
 use Rattle.logic3.specs.declared.value.Value.{Value}
 use Rattle.logic3.specs.declared.value.Value.TheVariants.{Unknown}
 use Rattle.logic3.specs.declared.change.Change.{Change}
@@ -16,7 +17,7 @@ use Rattle.cmb_channels.specs.declared.message.Message.{Message}
 use Rattle.cmb_channels.specs.declared.message.Message.TheVariants.{Change as Changes, Null}
 use Rattle.cmb_channels.proofs.CallerLemmas.{get_update_same, update-set}
 use Rattle.gate_process.specs.Knowledge.{Knowledge, IsKnowledge, told, told_all, wanted, forgetting, Continues, ContinueAll, Tells}
-use Rattle.gate_process.specs.Step.{ProcessState, kept_from, kept, heard, heard_all, wanted_at}
+use Rattle.gate_process.specs.Step.{ProcessState, kept_from, kept, heard, heard_all, wanted_at, wanted_messages, heard_below}
 use Rattle.gate_process.specs.Truth.{Meets, KnowsTruth, IsProcess, CanHear, CanHearAll}
 use Rattle.gate_process.proofs.Early.{early_cut}
 use Rattle.gate_process.proofs.Forgets.{forgets}
@@ -268,3 +269,34 @@ can_hear_all signals number process place source to received (message ∷ messag
 
     last : (told received message).frontier ≤ to
     last = Tells-le (signals source) (told received message).frontier to messages truth.rest_tells
+
+-- ---- messages that a pin takes until it is known up to a tick
+
+-- what a process comes to that hears the first of some messages, as long as the pin is known to less than a tick
+pub record HeardBelow (process : ProcessState) (place tick : ℕ) (known : Knowledge) (messages : List Message) : Type 0 where
+  pub count : wanted tick known.frontier messages ≡ wanted_at tick process place messages
+  pub taken : take (wanted tick known.frontier messages) messages ≡ wanted_messages tick process place messages
+  pub continue : ContinueAll (most_ticks + 1) known (take (wanted tick known.frontier messages) messages)
+  pub begins : kept_from process place (told_all known (take (wanted tick known.frontier messages) messages)).frontier ≡ 0 →
+      (told_all known (take (wanted tick known.frontier messages) messages)).wave.before ≡ Unknown
+  pub once : heard_at place (kept process place (told_all known (take (wanted tick known.frontier messages) messages))) process
+      ≡ heard_below tick place messages process
+  pub ok : IsProcess (heard_below tick place messages process)
+
+pub heard_below_at : (process : ProcessState) (place tick : ℕ) (known : Knowledge) (messages : List Message) → IsProcess process →
+    slice_get process.received place ≡ Some known → CanHearAll process place (wanted_messages tick process place messages) →
+    HeardBelow process place tick known messages
+heard_below_at process place tick known messages ok at can =
+    let count = sym (wanted_there tick process place known messages at) in
+    let taken = ap (λ n. take n messages) count in
+    let all = take (wanted tick known.frontier messages) messages in
+    let once = heard_once place all process known (keeps_so_far process place known ok at) (subst (CanHearAll process place) (sym taken) can) in
+    let same = ap (λ ms. heard_all place ms process) taken in
+    record {
+      count = count;
+      taken = taken;
+      continue = continue_within process.end (most_ticks + 1) known all ok.end once.continue;
+      begins = once.begins;
+      once = sym once.once ∙ same;
+      ok = subst IsProcess same once.keeps.ok;
+    }

@@ -1,4 +1,6 @@
+mod Added
 mod Advanced
+mod Below
 pub mod CallerLemmas
 mod Delayed
 mod Drained
@@ -23,5 +25,6 @@ mod SeenPins
 mod Starts
 mod Stays
 mod Steady
+mod Stored
 mod Told
 mod Walks

@@ -47,7 +47,7 @@ quiet_drained process bound ok quiet = quiet_of (drained bound process) ok (quie
 -- ---- a list of them
 
 -- what stands at a place after one was set
-get_of_set : {A : Type 0} (xs : List A) (place : ℕ) (x : A) (at : ℕ) (y : A) → slice_get (slice_set xs place x) at ≡ Some y →
+pub get_of_set : {A : Type 0} (xs : List A) (place : ℕ) (x : A) (at : ℕ) (y : A) → slice_get (slice_set xs place x) at ≡ Some y →
     ((at ≡ place) × (x ≡ y)) ⊎ ((at ≢ place) × (slice_get xs at ≡ Some y))
 get_of_set [] place x at y e = cc
 get_of_set (first ∷ xs) zero x zero y e = inl (refl, cc)

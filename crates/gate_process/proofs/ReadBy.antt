@@ -8,7 +8,7 @@ use Rattle.logic3.specs.declared.value.Value.TheVariants.{Unknown}
 use Rattle.logic3.specs.Gate.{value_of_gate, only_pin}
 use Rattle.logic3.specs.Summary.{summary_of}
 use Rattle.logic3.specs.declared.gates.GateKind.TheVariants.{Not, Buf}
-use Rattle.logic3.specs.Wave.{Wave, value_at, joined, changes_between}
+use Rattle.logic3.specs.Wave.{Wave, value_at, changes_between}
 use Rattle.netlist.specs.declared.part.Part.{Part}
 use Rattle.netlist.specs.declared.part.Part.TheVariants.{Input, Gate, Flop}
 use Rattle.netlist.specs.Part.{takes_pins}
@@ -182,12 +182,6 @@ module _ (net : Net) (received : List Knowledge) (read : List Wave) (is : read �
         IfOk result (λ to. to ≡ first_unknown (equation net (signals_of received)) start ticks)
     goes_to start ticks ok =
         IfOk-weaker result _ _ (λ to walked. walked ∙ ap (λ signal. first_unknown signal start ticks) shown_is) ok
-
-    pub wave_goes_on : (wave new : Wave) →
-        IfOk result (λ to. new ≡ joined wave (changes_between (continued wave from (shown net read)) from to)) →
-        IfOk result (λ to. new ≡ joined wave (changes_between (continued wave from (equation net (signals_of received))) from to))
-    wave_goes_on wave new ok =
-        IfOk-weaker result _ _ (λ to walked. walked ∙ ap (λ signal. joined wave (changes_between (continued wave from signal) from to)) shown_is) ok
 
     pub news_tell_of_it : (wave : Wave) (told : List Message) →
         IfOk result (λ to. told ≡ cond (to == from) [] (news_of (changes_between (continued wave from (shown net read)) from to) to)) →

@@ -1,18 +1,20 @@
 -- A walk over the ticks at which a signal may change finds all of its changes.
-use Rattle.std.proofs.Common.{◌≡◌, ◌≢◌, ℕ, zero, suc, ◌+◌, ◌<◌, ◌≤◌, ◌==◌, nat_lt, Bool, true, false, cond, List, [], ◌∷◌, ◌++◌, All, map, refl, ap, sym, ◌∙◌, subst, arith, append-nil, append_assoc, Result, Ok, Err}
+use Rattle.std.proofs.Common.{◌≡◌, ◌≢◌, ℕ, zero, suc, ◌+◌, ◌<◌, ◌≤◌, ◌==◌, nat_lt, Bool, true, false, cond, List, [], ◌∷◌, ◌++◌, All, map, length, refl, ap, sym, ◌∙◌, arith, append-nil, Result, Ok, Err}
 use Rattle.std.specs.Result.{IfOk}
 use Rattle.std.proofs.lemmas.Bool.{lt-ltb, le-ltb, eqb-true, eqb-false}
 use Rattle.std.proofs.lemmas.List.{map-append}
-use Rattle.std.proofs.lemmas.List.Elements.{All-head, All-tail, All-append}
+use Rattle.std.proofs.lemmas.List.Elements.{All-head, All-tail, filter_map-append}
 use Rattle.logic3.specs.declared.value.Value.{Value}
+use Rattle.logic3.specs.declared.value.Value.TheVariants.{Unknown}
 use Rattle.logic3.specs.declared.change.Change.{Change}
 use Rattle.logic3.specs.Value.{is_same, is_same_equiv}
-use Rattle.logic3.specs.Wave.{Wave, value_before, change_at, changes_between, last_value, joined}
-use Rattle.logic3.proofs.CallerLemmas.{changes_between-split, change_at-some, value_in_the_end-append, All-wave_of, one_change, quiet}
+use Rattle.logic3.specs.Wave.{Wave, value_at, value_before, change_at, changes_between, last_value}
+use Rattle.logic3.proofs.CallerLemmas.{changes_between-same, changes_between-split, change_at-some, All-wave_of, one_change, quiet}
 use Rattle.cmb_channels.specs.declared.message.Message.{Message}
 use Rattle.cmb_channels.specs.declared.message.Message.TheVariants.{Change as Changes, Null}
-use Rattle.gate_process.specs.Knowledge.{news_of}
-use Rattle.gate_process.specs.Step.{continued}
+use Rattle.cmb_channels.specs.Packed.{change_said, changes_said}
+use Rattle.gate_process.specs.Knowledge.{news_of, news_between}
+use Rattle.gate_process.specs.Step.{continued, always}
 use Rattle.gate_process.proofs.Told.{no_change}
 
 -- what some changes tell of: up to the last of them, else up to a tick
@@ -24,27 +26,16 @@ told_to-push : (from : ℕ) (changes : List Change) (change : Change) → told_t
 told_to-push from [] change = refl
 told_to-push from (first ∷ changes) change = told_to-push (first.tick + 1) changes change
 
--- how far a walk over a signal has come: the waveform, the messages and how far they tell
-pub record Walked (signal : ℕ → Value) (from to tick told : ℕ) (start wave : Wave) (messages : List Message) : Type 0 where
+-- how far a walk over a signal has come: the value that it found last, the messages and how far they tell
+pub record Walked (signal : ℕ → Value) (from to tick told : ℕ) (latest : Value) (messages : List Message) : Type 0 where
   pub after : from ≤ tick
   pub within : tick ≤ to
-  pub wave_is : wave ≡ joined start (changes_between signal from tick)
-  pub last : last_value wave ≡ value_before signal tick
+  pub latest_is : latest ≡ value_before signal tick
   pub messages_are : messages ≡ map Changes (changes_between signal from tick)
   pub told_is : told ≡ told_to from (changes_between signal from tick)
 
 pub none_between : (signal : ℕ → Value) (at : ℕ) → changes_between signal at at ≡ []
 none_between signal at = quiet signal at at (λ tick a b. absurd (omega arith))
-
--- all changes so far are past
-pub walked_past : (signal : ℕ → Value) (from to tick told : ℕ) (start wave : Wave) (messages : List Message) →
-    Walked signal from to tick told start wave messages → All (λ (change : Change). change.tick < from) start.changes →
-    All (λ (change : Change). change.tick < tick) wave.changes
-walked_past signal from to tick told start wave messages walked past =
-    subst (λ (w : Wave). All (λ (change : Change). change.tick < tick) w.changes) (sym walked.wave_is)
-    (All-append (λ (change : Change). change.tick < tick) start.changes (changes_between signal from tick)
-    (λ k d below. let old = past k d below in let after = walked.after in omega arith)
-    (All-wave_of signal from tick))
 
 -- from one tick to the next at which the signal may change
 module _ (signal : ℕ → Value) (from tick next : ℕ) (after : from ≤ tick) (later : tick < next)
@@ -68,14 +59,14 @@ module _ (signal : ℕ → Value) (from tick next : ℕ) (after : from ≤ tick)
       go zero e = absurd (omega arith)
       go (suc n) e = steady n (omega arith) (omega arith)
 
--- where the signal shows the last value there is no change
-pub walked_same : (signal : ℕ → Value) (from to tick told : ℕ) (start wave : Wave) (messages : List Message) (next : ℕ) (value : Value) →
-    Walked signal from to tick told start wave messages → tick < next → next ≤ to →
-    ((t : ℕ) → tick ≤ t → t < next → signal t ≡ signal tick) → value ≡ signal tick → value ≡ last_value wave →
-    Walked signal from to next told start wave messages
-walked_same signal from to tick told start wave messages next value walked later within steady shows same =
+-- where the signal shows the latest value there is no change
+pub walked_same : (signal : ℕ → Value) (from to tick told : ℕ) (latest : Value) (messages : List Message) (next : ℕ) (value : Value) →
+    Walked signal from to tick told latest messages → tick < next → next ≤ to →
+    ((t : ℕ) → tick ≤ t → t < next → signal t ≡ signal tick) → value ≡ signal tick → value ≡ latest →
+    Walked signal from to next told latest messages
+walked_same signal from to tick told latest messages next value walked later within steady shows same =
     let after = walked.after in
-    let before : value_before signal tick ≡ signal tick = sym walked.last ∙ sym same ∙ shows in
+    let before : value_before signal tick ≡ signal tick = sym walked.latest_is ∙ sym same ∙ shows in
     let none : change_at signal tick ≡ [] =
     no_change signal tick (ap (is_same (signal tick)) before ∙ is_same_equiv.refl (signal tick)) in
     let changes : changes_between signal from next ≡ changes_between signal from tick =
@@ -84,36 +75,30 @@ walked_same signal from to tick told start wave messages next value walked later
     record {
       after = omega arith;
       within = within;
-      wave_is = walked.wave_is ∙ ap (joined start) (sym changes);
-      last = sym same ∙ shows ∙ sym (shown_next signal from tick next after later steady);
+      latest_is = sym same ∙ shows ∙ sym (shown_next signal from tick next after later steady);
       messages_are = walked.messages_are ∙ ap (map Changes) (sym changes);
       told_is = walked.told_is ∙ ap (told_to from) (sym changes);
     }
 
 -- where it shows another value there is one
-pub walked_change : (signal : ℕ → Value) (from to tick told : ℕ) (start wave : Wave) (messages : List Message) (next : ℕ) (value : Value)
-    (more : Wave) (added : List Message) →
-    Walked signal from to tick told start wave messages → tick < next → next ≤ to →
-    ((t : ℕ) → tick ≤ t → t < next → signal t ≡ signal tick) → value ≡ signal tick → value ≢ last_value wave →
-    more ≡ joined wave (record { tick = tick; value = value } ∷ []) →
+pub walked_change : (signal : ℕ → Value) (from to tick told : ℕ) (latest : Value) (messages : List Message) (next : ℕ) (value : Value)
+    (added : List Message) →
+    Walked signal from to tick told latest messages → tick < next → next ≤ to →
+    ((t : ℕ) → tick ≤ t → t < next → signal t ≡ signal tick) → value ≡ signal tick → value ≢ latest →
     added ≡ messages ++ Changes (record { tick = tick; value = value }) ∷ [] →
-    Walked signal from to next (tick + 1) start more added
-walked_change signal from to tick told start wave messages next value more added walked later within steady shows differs more_is added_is =
+    Walked signal from to next (tick + 1) value added
+walked_change signal from to tick told latest messages next value added walked later within steady shows differs added_is =
     let after = walked.after in
     let change : Change = record { tick = tick; value = value } in
     let here : change_at signal tick ≡ change ∷ [] =
-    change_at-some signal tick (λ same. differs (shows ∙ sym same ∙ sym walked.last))
+    change_at-some signal tick (λ same. differs (shows ∙ sym same ∙ sym walked.latest_is))
     ∙ ap (λ v. record { tick = tick; value = v } ∷ []) (sym shows) in
     let changes : changes_between signal from next ≡ changes_between signal from tick ++ change ∷ [] =
     one_look signal from tick next after later steady ∙ ap (λ cs. changes_between signal from tick ++ cs) here in
     record {
       after = omega arith;
       within = within;
-      wave_is = more_is ∙ ap (λ (w : Wave). joined w (change ∷ [])) walked.wave_is
-          ∙ ap (λ cs. record { before = start.before; changes = cs }) (append_assoc start.changes (changes_between signal from tick) (change ∷ []))
-          ∙ ap (joined start) (sym changes);
-      last = ap last_value more_is ∙ value_in_the_end-append wave.before wave.changes (change ∷ []) ∙ shows
-          ∙ sym (shown_next signal from tick next after later steady);
+      latest_is = shows ∙ sym (shown_next signal from tick next after later steady);
       messages_are = added_is ∙ ap (λ ms. ms ++ Changes change ∷ []) walked.messages_are
           ∙ sym (map-append Changes (changes_between signal from tick) (change ∷ []))
           ∙ ap (map Changes) (sym changes);
@@ -161,11 +146,56 @@ news-told signal from to ahead = go (to == from) refl
 pub continued-late : (wave : Wave) (from : ℕ) (signal : ℕ → Value) (tick : ℕ) → from ≤ tick → continued wave from signal tick ≡ signal tick
 continued-late wave from signal tick late = rw (le-ltb tick from late) refl
 
+-- a walk begins at the value that was shown last
+pub walk_begins : (last : Value) (from : ℕ) (signal : ℕ → Value) → (from ≡ 0 → last ≡ Unknown) →
+    last ≡ value_before (continued (always last) from signal) from
+walk_begins last zero signal none = none refl
+walk_begins last (suc from) signal none = rw (lt-ltb from (suc from) (omega arith)) refl
+
+-- what a waveform shows last is all that counts for the changes after it
+pub steady_before : (wave : Wave) (from to : ℕ) (signal : ℕ → Value) → last_value wave ≡ value_before (value_at wave) from →
+    changes_between (continued (always (last_value wave)) from signal) from to ≡ changes_between (continued wave from signal) from to
+steady_before wave from to signal last =
+    changes_between-same (continued (always (last_value wave)) from signal) (continued wave from signal) from to (before from last)
+    (λ tick late early. continued-late (always (last_value wave)) from signal tick late ∙ sym (continued-late wave from signal tick late))
+  where
+    before : (at : ℕ) → last_value wave ≡ value_before (value_at wave) at →
+        value_before (continued (always (last_value wave)) at signal) at ≡ value_before (continued wave at signal) at
+    before zero e = refl
+    before (suc at) e = rw (lt-ltb at (suc at) (omega arith)) e
+
+-- changes tell of themselves
+changes_back : (changes : List Change) → changes_said (map Changes changes) ≡ changes
+changes_back [] = refl
+changes_back (change ∷ changes) = ap (λ cs. change ∷ cs) (changes_back changes)
+
+-- the news of a signal tell of its changes
+pub news_said : (signal : ℕ → Value) (from to : ℕ) → from ≤ to → changes_said (news_between signal from to) ≡ changes_between signal from to
+news_said signal from to ahead =
+    let changes = changes_between signal from to in
+    let more = nat_lt (told_to from changes) to in
+    ap changes_said (news-told signal from to ahead)
+    ∙ filter_map-append change_said (map Changes changes) (cond more (Null to ∷ []) [])
+    ∙ (λ i. changes_back changes i ++ none more i)
+    ∙ append-nil changes
+  where
+    none : (more : Bool) → changes_said (cond more (Null to ∷ []) []) ≡ []
+    none true = refl
+    none false = refl
+
+-- there are some only if the frontier rises
+pub news_rise : (signal : ℕ → Value) (from to : ℕ) → from ≤ to → 0 < length (news_between signal from to) → from < to
+news_rise signal from to ahead some = go (to == from) refl some
+  where
+    go : (same : Bool) → (to == from) ≡ same → 0 < length (cond same [] (news_of (changes_between signal from to) to)) → from < to
+    go true e none = absurd (omega (arith, none))
+    go false e more = let apart = eqb-false _ _ e in omega (arith, apart, ahead)
+
 -- so are those of a walk, once they tell up to its tick
-pub walked_news : (signal : ℕ → Value) (from to tick told : ℕ) (start wave : Wave) (messages all : List Message) →
-    Walked signal from to tick told start wave messages → all ≡ messages ++ cond (nat_lt told tick) (Null tick ∷ []) [] →
+pub walked_news : (signal : ℕ → Value) (from to tick told : ℕ) (latest : Value) (messages all : List Message) →
+    Walked signal from to tick told latest messages → all ≡ messages ++ cond (nat_lt told tick) (Null tick ∷ []) [] →
     all ≡ cond (tick == from) [] (news_of (changes_between signal from tick) tick)
-walked_news signal from to tick told start wave messages all walked is =
+walked_news signal from to tick told latest messages all walked is =
     is ∙ (λ i. walked.messages_are i ++ cond (nat_lt (walked.told_is i) tick) (Null tick ∷ []) [])
     ∙ sym (news-told signal from tick walked.after)
 

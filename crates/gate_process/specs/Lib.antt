@@ -1,6 +1,6 @@
 pub mod Knowledge
-pub mod KeptChanges
 pub mod LaterChanges
+pub mod Outputs
 pub mod Quiet
 pub mod Reading
 pub mod Step

@@ -121,6 +121,10 @@ abbrev pub next_frontier : ProcessState → ℕ
 next_frontier process =
     reach process.net process.end process.known.frontier (safe_of process) (signals_of (seen_by process))
 
+-- a waveform that shows one value
+abbrev pub always : Value → Wave
+always value = record { before = value; changes = [] }
+
 -- what a waveform shows up to a tick, and from there on another signal
 abbrev pub continued : Wave → ℕ → (ℕ → Value) → ℕ → Value
 continued wave from signal tick = if nat_lt tick from then value_at wave tick else signal tick

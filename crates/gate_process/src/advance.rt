@@ -1,20 +1,18 @@
 //! The steps of an advance.
 ghost use Rattle.std.specs.Prelude.{◌≡◌, ◌≢◌, ◌⊎◌, ℕ, ◌+◌, ◌-◌, ◌<◌, ◌≤◌, nat_lt, true, false, max, if◌then◌else◌, [], ◌∷◌, ◌++◌, All, slice_get, Some, length, IfOk, OnOk, OnErr};
 ghost use Rattle.logic3.specs.declared.value.Value.TheVariants.{Unknown};
-ghost use Rattle.logic3.specs.declared.change.Change.{Change};
-ghost use Rattle.logic3.specs.Wave.{value_at, value_before, last_value, joined, changes_between};
 ghost use Rattle.netlist.specs.declared.part.Part.TheVariants.{Input};
 ghost use Rattle.timing_text.specs.Ranges.{most_ticks};
 ghost use Rattle.cmb_channels.specs.declared.message.Message.TheVariants.{Null};
 ghost use Rattle.gate_process.specs.Knowledge.{Knowledge, news_between, kept_since, keeping};
 ghost use Rattle.gate_process.specs.Reading.{reads, shown};
-ghost use Rattle.gate_process.specs.Step.{signal_over, continued, first_unknown, oldest_asked, reach_of_part};
+ghost use Rattle.gate_process.specs.Step.{signal_over, continued, always, first_unknown, oldest_asked, reach_of_part};
 
 use crate::cursor::Cursor;
 use crate::own_net::OwnNet;
 use crate::received::{Received, cursors_of};
-use cmb_channels::Message;
-use logic3::{Change, Value, Waveform};
+use cmb_channels::Packed;
+use logic3::{Change, Value};
 use std::alloc::AllocError;
 
 /// The ticks at which a net is computed: those from its frontier up to `sure`, where all its pins are known,
@@ -26,8 +24,8 @@ pub struct Span {
     pub end: u64,
 }
 
-/// Extends a net's waveform by its equation as far as its pins allow, adds the messages to the list, and
-/// returns the new frontier.
+/// Computes a net by its equation as far as its pins allow, from the value that it showed last, adds the
+/// messages to the list, and returns the new frontier.
 ///
 /// It evaluates the net only at ticks at which a change of a pin or a stimulus may show, so the ticks between
 /// cost nothing. If the frontier stays, it takes no memory.
@@ -35,8 +33,8 @@ pub fn extend(
     net: &OwnNet<'_>,
     received: &[Received],
     span: Span,
-    wave: &mut Waveform,
-    messages: &mut Vec<Message>,
+    last: Value,
+    messages: &mut Vec<Packed>,
 ) -> Result<u64, AllocError>
     requires empty { messages.old.items ≡ [] }
     requires pins { length received.now ≡ length net.now.pins }
@@ -45,14 +43,11 @@ pub fn extend(
     requires inputs { net.now.part ≡ Input → span.sure ≡ span.end }
     requires ahead { span.from ≤ reach_of_part net.now.part
         (signal_over net.now received.now) span.end span.from span.sure }
-    requires past { All (λ (change : Change). change.tick < span.from) wave.old.changes }
-    requires last { last_value wave.old ≡ value_before (value_at wave.old) span.from }
+    requires begins { span.from ≡ 0 → last ≡ Unknown }
     ensures to { IfOk result (λ to. to ≡ reach_of_part net.now.part
         (signal_over net.now received.now) span.end span.from span.sure) }
-    ensures wave { IfOk result (λ to. wave.new ≡ joined wave.old (changes_between
-        (continued wave.old span.from (signal_over net.now received.now)) span.from to)) }
     ensures news { IfOk result (λ to. messages.new.items ≡
-        news_between (continued wave.old span.from (signal_over net.now received.now)) span.from to) }
+        news_between (continued (always last) span.from (signal_over net.now received.now)) span.from to) }
     ensures memory { OnErr result (span.from < reach_of_part net.now.part
         (signal_over net.now received.now) span.end span.from span.sure) }
 {
@@ -60,7 +55,7 @@ pub fn extend(
     if stays(net, received, span, most) {
         return Ok(span.from);
     }
-    reckon(net, received, span, most, wave, messages)
+    reckon(net, received, span, most, last, messages)
 }
 
 /// Returns whether [`extend`] would raise the net's frontier. Takes no memory.
@@ -77,38 +72,35 @@ pub fn goes_on(net: &OwnNet<'_>, received: &[Received], span: Span) -> bool
     !stays(net, received, span, most)
 }
 
-/// Extends a net's waveform by its equation, adds the messages to the list, and returns the new frontier: the
-/// first tick at which not all pins are known and the net would show X, or `most`.
+/// Computes a net by its equation, adds the messages to the list, and returns the new frontier: the first
+/// tick at which not all pins are known and the net would show X, or `most`.
 fn reckon(
     net: &OwnNet<'_>,
     received: &[Received],
     span: Span,
     most: u64,
-    wave: &mut Waveform,
-    messages: &mut Vec<Message>,
+    last: Value,
+    messages: &mut Vec<Packed>,
 ) -> Result<u64, AllocError>
     requires empty { messages.old.items ≡ [] }
     requires pins { length received.now ≡ length net.now.pins }
     requires ahead { span.from ≤ most }
     requires sure { span.sure ≤ most }
     requires end { most ≤ most_ticks + 1 }
-    requires past { All (λ (change : Change). change.tick < span.from) wave.old.changes }
-    requires last { last_value wave.old ≡ value_before (value_at wave.old) span.from }
+    requires begins { span.from ≡ 0 → last ≡ Unknown }
     ensures to { IfOk result (λ to. to ≡ first_unknown (signal_over net.now received.now)
         (max span.from span.sure) (most - max span.from span.sure)) }
-    ensures wave { IfOk result (λ to. wave.new ≡ joined wave.old (changes_between
-        (continued wave.old span.from (signal_over net.now received.now)) span.from to)) }
     ensures news { IfOk result (λ to. messages.new.items ≡
-        news_between (continued wave.old span.from (signal_over net.now received.now)) span.from to) }
+        news_between (continued (always last) span.from (signal_over net.now received.now)) span.from to) }
 {
     let wires = net.wires();
     // Most gates have one to three pins, which need no list of cursors. Only an input has none.
     match received {
-        [] => walk(net, &mut [net.stimuli()], span, most, wave, messages),
-        [pin] => walk(net, &mut [pin.cursor(wires[0])], span, most, wave, messages),
+        [] => walk(net, &mut [net.stimuli()], span, most, last, messages),
+        [pin] => walk(net, &mut [pin.cursor(wires[0])], span, most, last, messages),
         [first, second] => {
             let mut cursors = [first.cursor(wires[0]), second.cursor(wires[1])];
-            walk(net, &mut cursors, span, most, wave, messages)
+            walk(net, &mut cursors, span, most, last, messages)
         }
         [first, second, third] => {
             let mut cursors = [
@@ -116,13 +108,36 @@ fn reckon(
                 second.cursor(wires[1]),
                 third.cursor(wires[2]),
             ];
-            walk(net, &mut cursors, span, most, wave, messages)
+            walk(net, &mut cursors, span, most, last, messages)
         }
-        _ => {
-            let mut cursors = cursors_of(*messages.allocator(), received, wires)?;
-            walk(net, cursors.as_mut_slice(), span, most, wave, messages)
-        }
+        _ => reckon_many(net, received, span, most, last, messages),
     }
+}
+
+/// Reckons a net of any number of pins as [`reckon`] does. It is a function of its own since its list is large,
+/// and would be cleared for a net of few pins too.
+fn reckon_many(
+    net: &OwnNet<'_>,
+    received: &[Received],
+    span: Span,
+    most: u64,
+    last: Value,
+    messages: &mut Vec<Packed>,
+) -> Result<u64, AllocError>
+    requires empty { messages.old.items ≡ [] }
+    requires some { 0 < length received.now }
+    requires pins { length received.now ≡ length net.now.pins }
+    requires ahead { span.from ≤ most }
+    requires sure { span.sure ≤ most }
+    requires end { most ≤ most_ticks + 1 }
+    requires begins { span.from ≡ 0 → last ≡ Unknown }
+    ensures to { IfOk result (λ to. to ≡ first_unknown (signal_over net.now received.now)
+        (max span.from span.sure) (most - max span.from span.sure)) }
+    ensures news { IfOk result (λ to. messages.new.items ≡
+        news_between (continued (always last) span.from (signal_over net.now received.now)) span.from to) }
+{
+    let mut cursors = cursors_of(*messages.allocator(), received, net.wires())?;
+    walk(net, cursors.as_mut_slice(), span, most, last, messages)
 }
 
 /// Returns whether a net can't be computed past its frontier.
@@ -140,9 +155,8 @@ fn stays(net: &OwnNet<'_>, received: &[Received], span: Span, most: u64) -> bool
     span.sure <= span.from && net.shows(received, span.from) == Value::Unknown
 }
 
-/// Extends a net's waveform by what the net shows over what it reads, adds the messages to the list, and
-/// returns the new frontier: the first tick at which not all pins are known and the net would show X, or
-/// `most`.
+/// Computes what the net shows over what it reads, adds the messages to the list, and returns the new
+/// frontier: the first tick at which not all pins are known and the net would show X, or `most`.
 // A walk of its own for each number of pins: that of few pins keeps them in registers.
 #[inline(always)]
 fn walk(
@@ -150,41 +164,37 @@ fn walk(
     read: &mut [Cursor<'_>],
     span: Span,
     most: u64,
-    wave: &mut Waveform,
-    messages: &mut Vec<Message>,
+    last: Value,
+    messages: &mut Vec<Packed>,
 ) -> Result<u64, AllocError>
     requires empty { messages.old.items ≡ [] }
     requires read { length read.old ≡ reads net.now }
     requires ahead { span.from ≤ most }
     requires sure { span.sure ≤ most }
     requires end { most ≤ most_ticks + 1 }
-    requires past { All (λ (change : Change). change.tick < span.from) wave.old.changes }
-    requires last { last_value wave.old ≡ value_before (value_at wave.old) span.from }
+    requires begins { span.from ≡ 0 → last ≡ Unknown }
     ensures to { IfOk result (λ to. to ≡
         first_unknown (shown net.now read.old) (max span.from span.sure) (most - max span.from span.sure)) }
-    ensures wave { IfOk result (λ to. wave.new ≡ joined wave.old
-        (changes_between (continued wave.old span.from (shown net.now read.old)) span.from to)) }
     ensures news { IfOk result (λ to. messages.new.items ≡
-        news_between (continued wave.old span.from (shown net.now read.old)) span.from to) }
+        news_between (continued (always last) span.from (shown net.now read.old)) span.from to) }
 {
     // The messages so far report the net up to here.
     let mut told = span.from;
-    let mut last = wave.last_value();
+    let mut latest = last;
     let mut tick = span.from;
     while tick < most {
         let look = net.look(read, tick, limit_at(tick, span.sure, most));
         if waits(span.sure, tick, look.value) {
             return tell_up_to(tick, told, messages);
         }
-        if look.value != last {
+        if look.value != latest {
             let change = Change {
                 tick,
                 value: look.value,
             };
-            wave.push(change)?;
-            messages.push(Message::Change(change))?;
+            messages.push(Packed::changed(change))?;
             told = tick + 1;
-            last = look.value;
+            latest = look.value;
         }
         tick = look.until;
     }
@@ -214,13 +224,14 @@ fn waits(sure: u64, tick: u64, value: Value) -> bool
 
 /// Adds a null message that the net is known up to a tick, unless the messages so far say so, and returns the
 /// tick.
-fn tell_up_to(tick: u64, told: u64, messages: &mut Vec<Message>) -> Result<u64, AllocError>
+fn tell_up_to(tick: u64, told: u64, messages: &mut Vec<Packed>) -> Result<u64, AllocError>
+    requires { tick ≤ most_ticks + 1 }
     ensures to { IfOk result (λ to. to ≡ tick) }
     ensures messages { OnOk result (messages.new.items ≡
         messages.old.items ++ (if nat_lt told tick then Null tick ∷ [] else [])) }
 {
     if told < tick {
-        messages.push(Message::Null(tick))?;
+        messages.push(Packed::null(tick))?;
     }
     Ok(tick)
 }
@@ -235,7 +246,8 @@ pub fn keep_all(net: &OwnNet<'_>, received: &mut [Received], frontier: u64)
     ensures each { (place : ℕ) (known : Knowledge) → slice_get received.old place ≡ Some known →
         slice_get received.new place ≡ Some (keeping (oldest_asked net.now place frontier) known) }
 {
+    let wires = net.wires();
     for (place, pin) in received.iter_mut().enumerate() {
-        pin.keep(net, place, frontier);
+        pin.keep(net.oldest_asked(wires[place], frontier));
     }
 }

@@ -12,9 +12,9 @@ ghost use Rattle.gate_process.specs.Knowledge.{delayed, unknown_from};
 ghost use Rattle.gate_process.specs.LaterChanges.{first_tick};
 
 use crate::changes::is_unknown_at;
-use crate::kept_changes::KeptChange;
 use crate::later::Later;
 use crate::two_pins::gate_of_two;
+use cmb_channels::PackedChange;
 use logic3::{Change, GateKind, Summary, Value};
 use std::marker::Model;
 
@@ -81,7 +81,7 @@ impl<'c> Cursor<'c> {
     /// and before the tick from which on nothing is known.
     pub fn received(
         before: Value,
-        changes: &'c [KeptChange],
+        changes: &'c [PackedChange],
         frontier: u64,
         wire: u32,
     ) -> Cursor<'c>

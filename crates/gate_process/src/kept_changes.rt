@@ -1,75 +1,27 @@
-//! Changes as pins keep them.
-ghost use Rattle.std.specs.Prelude.{◌≡◌, ◌==◌, ◌+◌, ◌≤◌, [], ◌∷◌, ◌++◌, length, drop, nat_le, nat_lt, OnOk, OnErr};
+//! Changes as processes keep them.
+ghost use Rattle.std.specs.Prelude.{◌≡◌, ◌==◌, ◌+◌, ◌<◌, ◌≤◌, [], ◌∷◌, ◌++◌, length, drop, nat_le, nat_lt, OnOk, OnErr};
 ghost use Rattle.std.specs.List.{prefix_len};
 ghost use Rattle.logic3.specs.declared.change.Change.{Change};
 ghost use Rattle.logic3.specs.Rising.{TicksRise};
 ghost use Rattle.logic3.specs.Wave.{value_in_the_end};
-ghost use Rattle.timing_text.specs.Ranges.{most_ticks};
+ghost use Rattle.cmb_channels.specs.Packed.{packed_ticks, changes_said};
 
+use cmb_channels::{Packed, PackedChange};
 use logic3::{Change, Value};
+use smallvec::SmallVec;
 use std::alloc::{AllocError, Global};
 use std::marker::Model;
 
-/// A change in four bytes: four times its tick, which is that of a run, and a number for its value. Pins keep
-/// many changes.
-#[derive(Debug, Drop)]
-pub struct KeptChange {
-    code: u32,
-}
+// So many changes need no allocation. They fit in the place of a list's pointer, length and capacity.
+const FEW: usize = 4;
 
-impl Model for KeptChange {
-    ghost use Rattle.logic3.specs.declared.change.Change.{Change};
-    ghost use Rattle.gate_process.specs.KeptChanges.{change_of};
-
-    ghost Value = { Change };
-
-    ghost view = { λ c. change_of c.code };
-}
-
-impl KeptChange {
-    /// Keeps a change.
-    fn of(change: Change) -> KeptChange
-        requires { change.tick ≤ most_ticks }
-        ensures { result ≡ change }
-    {
-        KeptChange {
-            code: change.tick as u32 * 4 + change.value as u32,
-        }
-    }
-
-    /// Returns the tick at which the change is seen, later by the delay of a wire.
-    pub fn seen_tick(&self, wire: u32) -> u64
-        ensures { result ≡ self.now.tick + wire }
-    {
-        u64::from(self.code / 4) + u64::from(wire)
-    }
-
-    /// Returns the value from the change's tick on.
-    pub fn value(&self) -> Value
-        ensures { result ≡ self.now.value }
-    {
-        match self.code % 4 {
-            0 => Value::Zero,
-            1 => Value::One,
-            _ => Value::Unknown,
-        }
-    }
-
-    /// Returns whether the change is before a tick.
-    fn is_before(&self, tick: u64) -> bool
-        ensures { result ≡ nat_lt self.now.tick tick }
-    {
-        u64::from(self.code / 4) < tick
-    }
-}
-
-/// The changes that a pin keeps: added at the end, and dropped from the front.
+/// The changes that are kept of a net, in four bytes each: added at the end, and dropped from the front.
 ///
 /// Both take constant time on average. Memory is kept for later changes, so it follows the largest number of
 /// changes that were kept at a time.
 #[derive(Debug, Drop)]
 pub struct KeptChanges {
-    changes: Vec<KeptChange>,
+    changes: SmallVec<PackedChange, FEW>,
     // The changes before this place were dropped.
     start: usize,
 }
@@ -91,13 +43,13 @@ impl KeptChanges {
         ensures { result ≡ [] }
     {
         KeptChanges {
-            changes: Vec::new(alloc),
+            changes: SmallVec::new(alloc),
             start: 0,
         }
     }
 
     /// Returns the changes, in order.
-    pub fn as_slice(&self) -> &[KeptChange]
+    pub fn as_slice(&self) -> &[PackedChange]
         ensures { result.now ≡ self.now }
     {
         &self.changes.as_slice()[self.start..]
@@ -112,12 +64,24 @@ impl KeptChanges {
 
     /// Adds a change at the end. An `AllocError` changes nothing.
     pub fn push(&mut self, change: Change) -> Result<(), AllocError>
-        requires { change.tick ≤ most_ticks }
+        requires { change.tick < packed_ticks }
         ensures ok { OnOk result (self.new ≡ self.old ++ change ∷ []) }
         ensures err { OnErr result (self.new ≡ self.old) }
     {
-        self.changes.push(KeptChange::of(change))?;
+        self.changes.push(PackedChange::of(change))?;
         Ok(())
+    }
+
+    /// Adds the changes that messages tell of at the end. An `AllocError` changes nothing.
+    pub fn extend(&mut self, news: &[Packed]) -> Result<(), AllocError>
+        ensures ok { OnOk result (self.new ≡ self.old ++ changes_said news.now) }
+        ensures err { OnErr result (self.new ≡ self.old) }
+        ensures memory { OnErr result (0 < length news.now) }
+    {
+        if news.is_empty() {
+            return Ok(());
+        }
+        add_changes(&mut self.changes, news)
     }
 
     /// Drops this number of changes from the front. Their memory is kept for later ones.
@@ -125,20 +89,35 @@ impl KeptChanges {
         requires { count ≤ length self.old }
         ensures { self.new ≡ drop count self.old }
     {
+        let len = self.changes.len();
         self.start += count;
-        if self.start == self.changes.len() {
+        if self.start == len {
             self.changes.clear();
             self.start = 0;
-        } else if self.start > self.changes.len() / 2 {
-            self.changes.rotate_left(self.start);
-            self.changes.truncate(self.changes.len() - self.start);
+        } else if self.start > len / 2 {
+            self.changes.as_mut_slice().rotate_left(self.start);
+            self.changes.truncate(len - self.start);
             self.start = 0;
         }
     }
 }
 
+/// Adds the changes that messages tell of at the end of a list. An `AllocError` changes nothing.
+fn add_changes(changes: &mut SmallVec<PackedChange, FEW>, news: &[Packed]) -> Result<(), AllocError>
+    ensures ok { OnOk result (changes.new.items ≡ changes.old.items ++ changes_said news.now) }
+    ensures err { OnErr result (changes.new.items ≡ changes.old.items) }
+{
+    changes.reserve(news.len())?;
+    for message in news {
+        if let Some(change) = message.change() {
+            changes.push_reserved(change);
+        }
+    }
+    Ok(())
+}
+
 /// Returns the value of the last change, or the value before them if there is none.
-pub fn last_kept(before: Value, changes: &[KeptChange]) -> Value
+pub fn last_kept(before: Value, changes: &[PackedChange]) -> Value
     ensures { result ≡ value_in_the_end before changes.now }
 {
     match changes.last() {
@@ -148,24 +127,24 @@ pub fn last_kept(before: Value, changes: &[KeptChange]) -> Value
 }
 
 /// Returns the number of leading changes before a tick, in as many steps, or at once if all are.
-pub fn kept_below(changes: &[KeptChange], tick: u64) -> usize
+pub fn kept_below(changes: &[PackedChange], tick: u64) -> usize
     requires { TicksRise changes.now }
     ensures count { result ≡ prefix_len (λ (change : Change). nat_lt change.tick tick) changes.now }
     ensures within { result ≤ length changes.now }
 {
     if let Some(last) = changes.last() {
-        if last.is_before(tick) {
+        if last.tick() < tick {
             return changes.len();
         }
     }
     changes
         .iter()
-        .take_while(|change| change.is_before(tick))
+        .take_while(|change| change.tick() < tick)
         .count()
 }
 
 /// Returns the number of leading changes that aren't seen after a tick, in as many steps.
-pub fn kept_due(changes: &[KeptChange], wire: u32, tick: u64) -> usize
+pub fn kept_due(changes: &[PackedChange], wire: u32, tick: u64) -> usize
     ensures count { result ≡ prefix_len (λ (change : Change). nat_le (change.tick + wire) tick) changes.now }
     ensures within { result ≤ length changes.now }
 {

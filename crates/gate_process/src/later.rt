@@ -6,7 +6,8 @@ ghost use Rattle.logic3.specs.Wave.{value_in_the_end};
 ghost use Rattle.gate_process.specs.Knowledge.{delayed_changes};
 
 use crate::changes::{due_changes, last_value};
-use crate::kept_changes::{KeptChange, kept_due, last_kept};
+use crate::kept_changes::{kept_due, last_kept};
+use cmb_channels::PackedChange;
 use logic3::{Change, Value};
 use std::marker::Model;
 
@@ -22,7 +23,7 @@ enum Source<'c> {
     /// The stimuli of an input.
     Stimuli(&'c [Change]),
     /// What a pin received, which is seen later by the delay of its wire.
-    Pin(&'c [KeptChange], u32),
+    Pin(&'c [PackedChange], u32),
 }
 
 impl<'c> Model for Later<'c> {
@@ -46,7 +47,7 @@ impl<'c> Later<'c> {
     }
 
     /// Returns what a pin received, seen later by the delay of its wire.
-    pub fn received(changes: &'c [KeptChange], wire: u32) -> Later<'c>
+    pub fn received(changes: &'c [PackedChange], wire: u32) -> Later<'c>
         ensures { result ≡ delayed_changes wire changes.now }
     {
         Later {

@@ -18,13 +18,18 @@ mod advance;
 mod changes;
 mod cursor;
 mod kept_changes;
+mod kept_wave;
 mod later;
 pub mod laws;
+mod output;
 mod own_net;
 mod process;
 mod processes;
+mod reader;
 mod received;
 mod two_pins;
 
+pub use kept_wave::{KeptWave, PackedWave};
 pub use process::Process;
 pub use processes::Processes;
+pub use reader::ProcessReader;

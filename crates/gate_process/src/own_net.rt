@@ -1,4 +1,4 @@
-ghost use Rattle.std.specs.Prelude.{◌≡◌, ◌≢◌, ℕ, ◌+◌, ◌<◌, ◌≤◌, min, List, length, map, slice_get, Some};
+ghost use Rattle.std.specs.Prelude.{◌≡◌, ◌≢◌, ℕ, ◌+◌, ◌-◌, ◌<◌, ◌≤◌, min, List, length, map, slice_get, Some};
 ghost use Rattle.std.specs.Option.{option_map_or};
 ghost use Rattle.logic3.specs.declared.value.Value.{Value};
 ghost use Rattle.logic3.specs.declared.value.Value.TheVariants.{Unknown};
@@ -10,7 +10,7 @@ ghost use Rattle.design.specs.Samples.{first_asker};
 ghost use Rattle.design.specs.Equations.{equation, values_at};
 ghost use Rattle.gate_process.specs.Knowledge.{seen_pins};
 ghost use Rattle.gate_process.specs.Reading.{reads, read_tick, made_of, shown, most_of_part};
-ghost use Rattle.gate_process.specs.Step.{frontier_of, oldest_asked, signals_of};
+ghost use Rattle.gate_process.specs.Step.{frontier_of, signals_of};
 ghost use Rattle.gate_process.specs.Truth.{IsNet};
 
 use crate::cursor::{Cursor, Reading, read_at, read_gate};
@@ -109,15 +109,14 @@ impl<'d> OwnNet<'d> {
         self.design.wires_of(self.net)
     }
 
-    /// Returns a tick such that the net, from this frontier on, asks for no earlier tick of the source of the
-    /// pin at this place.
-    pub fn oldest_asked(&self, place: usize, frontier: u64) -> u64
-        requires { place < length self.now.pins }
-        ensures { result ≡ oldest_asked self.now place frontier }
+    /// Returns a tick such that the net, from this frontier on, asks for no earlier tick of the source of a pin
+    /// with this wire delay.
+    pub fn oldest_asked(&self, wire: u32, frontier: u64) -> u64
+        ensures { result ≡ frontier - self.now.timing.delay - wire }
     {
         frontier
             .saturating_sub(self.delay())
-            .saturating_sub(u64::from(self.wires()[place]))
+            .saturating_sub(u64::from(wire))
     }
 
     /// Returns how far the net can be computed if all its pins, as it sees them, are known up to `safe`.

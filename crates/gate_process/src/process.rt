@@ -3,13 +3,12 @@ ghost use Rattle.std.specs.List.{list_any};
 ghost use Rattle.timing_text.specs.Ranges.{most_ticks};
 ghost use Rattle.cmb_channels.specs.Kinds.{is_change};
 ghost use Rattle.gate_process.specs.Step.{running, started_process, pin_frontier, pin_last, heard, heard_below, wanted_at, wanted_messages, safe_of, next_frontier, advanced, news, drained, drained_changes};
-ghost use Rattle.gate_process.specs.Quiet.{IsQuiet, KnowsTo};
+ghost use Rattle.gate_process.specs.Quiet.{IsQuiet};
 ghost use Rattle.gate_process.specs.Truth.{IsProcess, CanHear, CanHearAll};
 
-use crate::advance::{Span, extend, goes_on, keep_all};
-use crate::own_net::OwnNet;
-use crate::received::{Received, least_frontier, least_received, nothing_received};
-use cmb_channels::{Message, Waiting};
+use crate::output::Output;
+use crate::received::{Received, nothing_received};
+use cmb_channels::{Message, Packed, Waiting};
 use design::Design;
 use logic3::{Change, Value, Waveform};
 use std::alloc::{AllocError, Global};
@@ -27,43 +26,22 @@ use timing_text::Horizon;
 /// failed, and only [`is_failed`](Self::is_failed) may be called.
 #[derive(Debug, Drop)]
 pub struct Process<'d> {
-    net: OwnNet<'d>,
-    // The first tick past the horizon.
-    end: u64,
-    // The waveform begins at this tick.
-    floor: u64,
-    wave: Waveform,
-    frontier: u64,
+    output: Output<'d, Waveform>,
     // What each pin has received from its source, in order.
     received: Vec<Received>,
-    failed: bool,
 }
 
 impl<'d> Model for Process<'d> {
     ghost use Rattle.std.specs.Prelude.{◌≡◌, false};
+    ghost use Rattle.gate_process.specs.Outputs.{state_of, process_of};
     ghost use Rattle.gate_process.specs.Step.{ProcessView};
     ghost use Rattle.gate_process.specs.Truth.{IsProcess};
 
     ghost Value = { ProcessView };
 
-    ghost view = { λ p. record {
-      failed = p.failed;
-      state = record {
-        net = p.net;
-        end = p.end;
-        floor = p.floor;
-        known = record { wave = p.wave; frontier = p.frontier };
-        received = p.received.items;
-      };
-    } };
+    ghost view = { λ p. process_of p.output p.received.items };
 
-    ghost invariant = { λ p. p.failed ≡ false → IsProcess (record {
-      net = p.net;
-      end = p.end;
-      floor = p.floor;
-      known = record { wave = p.wave; frontier = p.frontier };
-      received = p.received.items;
-    }) };
+    ghost invariant = { λ p. p.output.failed ≡ false → IsProcess (state_of p.output p.received.items) };
 }
 
 impl<'d> Process<'d> {
@@ -81,17 +59,9 @@ impl<'d> Process<'d> {
         ensures { IfOk result (λ process. IfSome (slice_get design.now.circuit net)
             (λ n. process ≡ running (started_process (horizon + 1) n))) }
     {
-        let own = OwnNet::of(design, net);
-        let received = nothing_received(alloc, own.pins())?;
-        Ok(Process {
-            net: own,
-            end: horizon.ticks() + 1,
-            floor: 0,
-            wave: Waveform::new(alloc),
-            frontier: 0,
-            received,
-            failed: false,
-        })
+        let output = Output::new(alloc, design, net, horizon);
+        let received = nothing_received(alloc, output.pins())?;
+        Ok(Process { output, received })
     }
 
     /// Receives a message at the pin at this place among the pins of the net, from 0 on. This doesn't compute
@@ -108,10 +78,8 @@ impl<'d> Process<'d> {
         ensures err { OnErr result (self.new ≡ self.old) }
         ensures memory { OnErr result (is_change message ≡ true) }
     {
-        let received = &mut self.received[place as usize];
-        received.hear(message)?;
-        received.keep(&self.net, place as usize, self.frontier);
-        Ok(())
+        let received = self.received.as_mut_slice();
+        self.output.receive(received, place, message)
     }
 
     /// Receives the first of some messages at the pin at this place, one after another as
@@ -135,13 +103,8 @@ impl<'d> Process<'d> {
         ensures memory { OnErr result
             (list_any is_change (wanted_messages tick self.old.state place messages.now) ≡ true) }
     {
-        self.failed = true;
-        let pin = &mut self.received[place as usize];
-        let count = pin.hear_below(messages, tick)?;
-        // Once is enough: what is kept after the last message was kept after each.
-        pin.keep(&self.net, place as usize, self.frontier);
-        self.failed = false;
-        Ok(count)
+        let received = self.received.as_mut_slice();
+        self.output.receive_below(received, place, messages, tick)
     }
 
     /// Computes the net as far as its pins allow, and returns the messages: each change, in order, and at the
@@ -161,14 +124,21 @@ impl<'d> Process<'d> {
         ensures memory { OnErr result (self.old.state.known.frontier < next_frontier self.old.state) }
         ensures quiet { OnOk result (IsQuiet self.new.state) }
     {
-        let mut messages = Vec::new(*self.received.allocator());
-        self.advance_into(&mut messages)?;
-        Ok(messages)
+        let alloc = *self.received.allocator();
+        let mut news = Vec::new(alloc);
+        self.advance_into(&mut news)?;
+        match unpacked(alloc, news.as_slice()) {
+            Ok(messages) => Ok(messages),
+            Err(error) => {
+                self.output.fail();
+                Err(error)
+            }
+        }
     }
 
     /// Advances as [`advance`](Self::advance) does, and replaces what a list held with the messages. So one
-    /// list serves many advances.
-    pub fn advance_into(&mut self, messages: &mut Vec<Message>) -> Result<(), AllocError>
+    /// list serves many advances, and a message takes four bytes.
+    pub fn advance_into(&mut self, messages: &mut Vec<Packed>) -> Result<(), AllocError>
         requires running { self.old.failed ≡ false }
         ensures news { OnOk result (messages.new.items ≡ news self.old.state) }
         ensures state { OnOk result (self.new ≡ running (advanced self.old.state)) }
@@ -177,25 +147,8 @@ impl<'d> Process<'d> {
         // Until it receives a message, another advance would change nothing.
         ensures quiet { OnOk result (IsQuiet self.new.state) }
     {
-        messages.clear();
-        let safe = least_frontier(self.end, self.received.as_slice(), self.net.wires());
-        let sure = self.net.sure_frontier(self.end, safe);
-
-        self.failed = true;
-        let to = extend(
-            &self.net,
-            self.received.as_slice(),
-            Span {
-                from: self.frontier,
-                sure,
-                end: self.end,
-            },
-            &mut self.wave,
-            messages,
-        )?;
-        self.frontier = to;
-        keep_all(&self.net, self.received.as_mut_slice(), to);
-        self.failed = false;
+        let received = self.received.as_mut_slice();
+        self.output.advance_into(received, messages)?;
         Ok(())
     }
 
@@ -205,11 +158,7 @@ impl<'d> Process<'d> {
         requires running { self.now.failed ≡ false }
         ensures { result ≡ nat_lt self.now.state.known.frontier (next_frontier self.now.state) }
     {
-        let received = self.received.as_slice();
-        let safe = least_frontier(self.end, received, self.net.wires());
-        let sure = self.net.sure_frontier(self.end, safe);
-        let (from, end) = (self.frontier, self.end);
-        goes_on(&self.net, received, Span { from, sure, end })
+        self.output.can_advance(self.received.as_slice())
     }
 
     /// Takes out the net's changes before a tick up to which it is known, returns them in order, and forgets
@@ -247,18 +196,8 @@ impl<'d> Process<'d> {
         ensures memory { OnErr result (0 < length (drained_changes bound self.old.state)) }
         ensures quiet { OnOk result (IsQuiet self.old.state → IsQuiet self.new.state) }
     {
-        self.wave.split_below_into(bound, changes)?;
-        self.floor = self.floor.max(bound);
+        self.output.drain_below_into(bound, changes)?;
         Ok(())
-    }
-
-    /// Returns a tick up to which the sources of all pins are known, at their own ticks: the least of the pins'
-    /// frontiers.
-    pub(crate) fn known_to(&self) -> u64
-        requires running { self.now.failed ≡ false }
-        ensures { KnowsTo result self.now.state }
-    {
-        least_received(self.received.as_slice())
     }
 
     /// Returns the number of ticks known at all pins, as the net sees them: the least of their frontiers,
@@ -268,7 +207,7 @@ impl<'d> Process<'d> {
         requires running { self.now.failed ≡ false }
         ensures { result ≡ safe_of self.now.state }
     {
-        least_frontier(self.end, self.received.as_slice(), self.net.wires())
+        self.output.safe(self.received.as_slice())
     }
 
     /// Returns the tick from which on the net's waveform is kept: the latest tick before which changes were
@@ -277,7 +216,7 @@ impl<'d> Process<'d> {
         requires running { self.now.failed ≡ false }
         ensures { result ≡ self.now.state.floor }
     {
-        self.floor
+        self.output.floor()
     }
 
     /// Returns the number of known ticks of the net, from tick 0 on: at most the horizon and one more.
@@ -285,7 +224,7 @@ impl<'d> Process<'d> {
         requires running { self.now.failed ≡ false }
         ensures { result ≡ self.now.state.known.frontier }
     {
-        self.frontier
+        self.output.frontier()
     }
 
     /// Returns the first tick past the horizon, at which each frontier ends: at most 10,000,001.
@@ -294,7 +233,7 @@ impl<'d> Process<'d> {
         ensures end { result ≡ self.now.state.end }
         ensures most { result ≤ most_ticks + 1 }
     {
-        self.end
+        self.output.end()
     }
 
     /// Returns the number of pins of the net, at most 1,024. They are numbered by their places, from 0.
@@ -330,7 +269,7 @@ impl<'d> Process<'d> {
         requires running { self.now.failed ≡ false }
         ensures { result.now ≡ self.now.state.known.wave }
     {
-        &self.wave
+        self.output.wave()
     }
 
     /// Returns whether an advance ran out of memory. What the process knows can't be used then.
@@ -338,6 +277,18 @@ impl<'d> Process<'d> {
         ensures failed { result ≡ self.now.failed }
         ensures well_formed { self.now.failed ≡ false → IsProcess self.now.state }
     {
-        self.failed
+        self.output.is_failed()
     }
+}
+
+/// Returns these messages, unpacked. If there are none, it takes no memory.
+fn unpacked(alloc: Global, news: &[Packed]) -> Result<Vec<Message>, AllocError>
+    ensures ok { IfOk result (λ messages. messages.items ≡ news.now) }
+    ensures memory { OnErr result (0 < length news.now) }
+{
+    let mut messages = Vec::new(alloc);
+    for message in news {
+        messages.push(message.message())?;
+    }
+    Ok(messages)
 }

@@ -5,12 +5,17 @@ ghost use Rattle.std.specs.List.{list_any};
 ghost use Rattle.std.specs.Option.{ForSome};
 ghost use Rattle.cmb_channels.specs.Kinds.{is_change};
 ghost use Rattle.design.specs.Design.{IsDesign};
+ghost use Rattle.timing_text.specs.Ranges.{most_ticks};
+ghost use Rattle.gate_process.specs.Outputs.{started_output};
 ghost use Rattle.gate_process.specs.Step.{ProcessView, running, started_process, next_frontier, advanced, news, heard, heard_below, wanted_at, wanted_messages, drained, drained_changes};
 ghost use Rattle.gate_process.specs.Quiet.{IsQuiet, KnowsTo};
 ghost use Rattle.gate_process.specs.Truth.{CanHear, CanHearAll};
 
-use crate::process::Process;
-use cmb_channels::{Message, Waiting};
+use crate::kept_wave::KeptWave;
+use crate::output::Output;
+use crate::reader::ProcessReader;
+use crate::received::{Received, least_received, nothing_received};
+use cmb_channels::{Message, Packed, Waiting};
 use design::Design;
 use logic3::Change;
 use std::alloc::{AllocError, Global};
@@ -19,47 +24,56 @@ use timing_text::Horizon;
 
 /// A process for each net of a design.
 ///
-/// It knows which processes are quiet: they have received nothing since they last advanced, so an advance
-/// would change nothing. A quiet process that is to advance is skipped, and not even fetched from memory. Nor
-/// is one that would take no messages ([`is_at_rest`](Self::is_at_rest)).
+/// They are kept in two lists, so an advance fetches little from memory: one of what belongs to a net, and one
+/// of what all pins have received. It is also known which processes are quiet: they have received nothing
+/// since they last advanced, so an advance would change nothing. A quiet process that is to advance is
+/// skipped, and not even fetched. Nor is one that would take no messages ([`is_at_rest`](Self::is_at_rest)).
 #[derive(Debug, Drop)]
-pub struct Processes<'d> {
-    processes: Vec<Process<'d>>,
+pub struct Processes<'d, W: KeptWave> {
+    design: &'d Design,
+    outputs: Vec<Output<'d, W>>,
+    // What each pin has received, by its number.
+    received: Vec<Received>,
     // Whether the process at the same place is quiet. A flag takes much less memory than a process.
     quiet: Vec<bool>,
     // The tick up to which each pin of the process at the same place is known, if it is quiet.
     heard: Vec<u64>,
 }
 
-impl<'d> Model for Processes<'d> {
+impl<'d, W: KeptWave> Model for Processes<'d, W> {
     ghost use Rattle.std.specs.Prelude.{List};
+    ghost use Rattle.gate_process.specs.Outputs.{processes_of, AreStored};
     ghost use Rattle.gate_process.specs.Step.{ProcessView};
     ghost use Rattle.gate_process.specs.Quiet.{AreAtRest};
 
     ghost Value = { List ProcessView };
 
-    ghost view = { λ p. p.processes.items };
+    ghost view = { λ p. processes_of p.outputs.items p.received.items };
 
-    ghost invariant = { λ p. AreAtRest p.processes.items p.quiet.items p.heard.items };
+    ghost invariant = { λ p. AreStored p.design.now.circuit p.outputs.items p.received.items
+        × AreAtRest (processes_of p.outputs.items p.received.items) p.quiet.items p.heard.items };
 }
 
-impl<'d> Processes<'d> {
+impl<'d, W: KeptWave> Processes<'d, W> {
     /// Returns a process for each net of a design, in order, each of which knows nothing yet. On an
     /// `AllocError` nothing stays allocated.
     pub fn new(
         alloc: Global,
         design: &'d Design,
         horizon: Horizon,
-    ) -> Result<Processes<'d>, AllocError>
+    ) -> Result<Processes<'d, W>, AllocError>
         ensures processes { IfOk result (λ processes. processes ≡
             map (λ net. running (started_process (horizon + 1) net)) design.now.circuit) }
         ensures well_formed { IsDesign design.now }
     {
-        let processes = started(alloc, design, horizon)?;
-        let quiet = none_quiet(alloc, processes.len())?;
-        let heard = none_heard(alloc, processes.len())?;
+        let outputs = started(alloc, design, horizon)?;
+        let received = nothing_received(alloc, design.pins() as usize)?;
+        let quiet = none_quiet(alloc, outputs.len())?;
+        let heard = none_heard(alloc, outputs.len())?;
         Ok(Processes {
-            processes,
+            design,
+            outputs,
+            received,
             quiet,
             heard,
         })
@@ -69,15 +83,17 @@ impl<'d> Processes<'d> {
     pub fn len(&self) -> usize
         ensures { result ≡ length self.now }
     {
-        self.processes.len()
+        self.outputs.len()
     }
 
     /// Returns the process of a net.
-    pub fn of_net(&self, net: u32) -> &Process<'d>
+    pub fn of_net(&self, net: u32) -> ProcessReader<'_, 'd, W>
         requires { net < length self.now }
-        ensures { slice_get self.now net ≡ Some result.now }
+        ensures { slice_get self.now net ≡ Some result }
     {
-        &self.processes[net as usize]
+        let pins = self.design.pin_range(net);
+        let received = &self.received.as_slice()[pins.start..pins.end];
+        ProcessReader::of(&self.outputs[net as usize], received)
     }
 
     /// Returns whether the process of a net is quiet and its pins are known up to a tick of their sources: then
@@ -97,6 +113,8 @@ impl<'d> Processes<'d> {
 
     /// Lets the process of a net receive a message, as [`Process::receive`] does. An `AllocError` changes
     /// nothing.
+    ///
+    /// [`Process::receive`]: crate::Process::receive
     pub fn receive(&mut self, net: u32, place: u32, message: Message) -> Result<(), AllocError>
         requires net { net < length self.old }
         requires running { ForSome (slice_get self.old net) (λ (process : ProcessView). process.failed ≡ false) }
@@ -110,13 +128,17 @@ impl<'d> Processes<'d> {
         ensures memory { OnErr result (is_change message ≡ true) }
     {
         self.quiet[net as usize] = false;
-        self.processes[net as usize].receive(place, message)?;
+        let pins = self.design.pin_range(net);
+        let received = &mut self.received.as_mut_slice()[pins.start..pins.end];
+        self.outputs[net as usize].receive(received, place, message)?;
         Ok(())
     }
 
     /// Lets the process of a net receive the first of some messages, as [`Process::receive_below`] does. One
     /// that receives none stays quiet. After an `AllocError` the process has failed, and the others are
     /// unchanged.
+    ///
+    /// [`Process::receive_below`]: crate::Process::receive_below
     pub fn receive_below(
         &mut self,
         net: u32,
@@ -140,7 +162,10 @@ impl<'d> Processes<'d> {
         ensures memory { OnErr result (ForSome (slice_get self.old net) (λ (process : ProcessView).
             list_any is_change (wanted_messages tick process.state place messages.now) ≡ true)) }
     {
-        let count = self.processes[net as usize].receive_below(place, messages, tick)?;
+        let pins = self.design.pin_range(net);
+        let received = &mut self.received.as_mut_slice()[pins.start..pins.end];
+        let output = &mut self.outputs[net as usize];
+        let count = output.receive_below(received, place, messages, tick)?;
         if count > 0 {
             self.quiet[net as usize] = false;
         }
@@ -150,7 +175,9 @@ impl<'d> Processes<'d> {
     /// Advances the process of a net, as [`Process::advance_into`] does. A quiet one isn't touched, sends
     /// nothing, and takes no memory. After an `AllocError` the process has failed, and the others are
     /// unchanged.
-    pub fn advance_into(&mut self, net: u32, messages: &mut Vec<Message>) -> Result<(), AllocError>
+    ///
+    /// [`Process::advance_into`]: crate::Process::advance_into
+    pub fn advance_into(&mut self, net: u32, messages: &mut Vec<Packed>) -> Result<(), AllocError>
         requires net { net < length self.old }
         requires running { ForSome (slice_get self.old net) (λ (process : ProcessView). process.failed ≡ false) }
         ensures news { OnOk result (ForSome (slice_get self.old net) (λ (process : ProcessView).
@@ -166,14 +193,17 @@ impl<'d> Processes<'d> {
             messages.clear();
             return Ok(());
         }
-        let process = &mut self.processes[net as usize];
-        process.advance_into(messages)?;
-        self.heard[net as usize] = process.known_to();
+        let pins = self.design.pin_range(net);
+        let received = &mut self.received.as_mut_slice()[pins.start..pins.end];
+        self.outputs[net as usize].advance_into(received, messages)?;
+        self.heard[net as usize] = least_received(received);
         self.quiet[net as usize] = true;
         Ok(())
     }
 
     /// Takes out changes of a net, as [`Process::drain_below_into`] does. An `AllocError` changes nothing.
+    ///
+    /// [`Process::drain_below_into`]: crate::Process::drain_below_into
     pub fn drain_below_into(
         &mut self,
         net: u32,
@@ -194,26 +224,28 @@ impl<'d> Processes<'d> {
             0 < length (drained_changes bound process.state))) }
     {
         // A quiet process stays quiet: what is taken out plays no part in what it computes.
-        self.processes[net as usize].drain_below_into(bound, changes)?;
+        self.outputs[net as usize].drain_below_into(bound, changes)?;
         Ok(())
     }
 }
 
-/// Returns a process for each net of a design, in order.
-fn started<'d>(
+/// Returns the output of each net of a design, in order, of which nothing is known.
+fn started<'d, W: KeptWave>(
     alloc: Global,
     design: &'d Design,
     horizon: Horizon,
-) -> Result<Vec<Process<'d>>, AllocError>
-    ensures processes { IfOk result (λ processes. processes.items ≡
-        map (λ net. running (started_process (horizon + 1) net)) design.now.circuit) }
+) -> Result<Vec<Output<'d, W>>, AllocError>
+    ensures outputs { IfOk result (λ outputs. outputs.items ≡ map (started_output (horizon + 1)) design.now.circuit) }
     ensures well_formed { IsDesign design.now }
+    ensures within { horizon ≤ most_ticks }
 {
-    let mut processes = Vec::with_capacity(alloc, design.nets() as usize)?;
+    // Called for its contract: the horizon is in its range.
+    horizon.ticks();
+    let mut outputs = Vec::with_capacity(alloc, design.nets() as usize)?;
     for net in 0..design.nets() {
-        processes.push(Process::new(alloc, design, net, horizon)?)?;
+        outputs.push(Output::new(alloc, design, net, horizon))?;
     }
-    Ok(processes)
+    Ok(outputs)
 }
 
 /// Returns the flags of this number of processes, none of which has advanced yet.

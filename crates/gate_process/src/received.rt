@@ -7,11 +7,10 @@ ghost use Rattle.timing_text.specs.Ranges.{most_delay, most_ticks, HasWires};
 ghost use Rattle.design.specs.Equations.{values_at};
 ghost use Rattle.cmb_channels.specs.Kinds.{is_change};
 ghost use Rattle.gate_process.specs.Knowledge.{Knowledge, seen, seen_pins, as_known, nothing_known, told, told_all, wanted, ContinueAll, kept_since, forgetting, keeping};
-ghost use Rattle.gate_process.specs.Step.{least_or, oldest_asked, signals_of};
+ghost use Rattle.gate_process.specs.Step.{least_or, signals_of};
 
 use crate::cursor::{Cursor, FEW};
 use crate::kept_changes::{KeptChanges, kept_below, last_kept};
-use crate::own_net::OwnNet;
 use cmb_channels::{Message, Waiting};
 use logic3::{Summary, Value};
 use smallvec::SmallVec;
@@ -100,19 +99,12 @@ impl Received {
         Ok(count)
     }
 
-    /// Forgets the ticks before the oldest that a net, from a frontier on, asks of the source of its pin at
-    /// this place, but never the last one known.
-    pub fn keep(&mut self, net: &OwnNet<'_>, place: usize, frontier: u64)
-        requires place { place < length net.now.pins }
-        requires begin { kept_since (oldest_asked net.now place frontier) self.old.frontier ≡ 0 →
-            self.old.wave.before ≡ Unknown }
-        ensures { self.new ≡ keeping (oldest_asked net.now place frontier) self.old }
+    /// Forgets the ticks before the oldest that the pin's net still asks of its source, but never the last one
+    /// known.
+    pub fn keep(&mut self, oldest: u64)
+        requires { kept_since oldest self.old.frontier ≡ 0 → self.old.wave.before ≡ Unknown }
+        ensures { self.new ≡ keeping oldest self.old }
     {
-        // Most pins keep no change, and then the net needn't be asked.
-        if self.changes.is_empty() {
-            return;
-        }
-        let oldest = net.oldest_asked(place, frontier);
         let last = u64::from(self.frontier).saturating_sub(1);
         self.forget_before(oldest.min(last));
     }

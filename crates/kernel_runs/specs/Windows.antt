@@ -3,18 +3,22 @@ use Rattle.std.specs.Prelude.{ℕ, ◌*◌, ◌/◌, nat_lt, if◌then◌else◌
 
 -- the most changes that a sweep over few nets should send
 abbrev pub most_sent_by_few : ℕ
-most_sent_by_few = 57_344
+most_sent_by_few = 16_384
 
--- the most changes that a sweep over this number of nets should send: two for each net, if they are many
+-- the most changes that a sweep should send, unless two for each net are more
+abbrev pub most_sent_by_many : ℕ
+most_sent_by_many = 57_344
+
+-- the most changes that a sweep over this number of nets should send: four for each net, within these bounds
 abbrev pub most_sent : ℕ → ℕ
-most_sent nets = max most_sent_by_few (2 * nets)
+most_sent nets = max (2 * nets) (max most_sent_by_few (min most_sent_by_many (4 * nets)))
 
 -- the widest window: past the longest run
 abbrev pub widest : ℕ
 widest = 16_777_216
 
 -- the width of the next window, after a sweep over a window of this width that sent this number of changes: twice as
--- wide if they are fewer than a third of the most that it should send, and half as wide if they are more than the most
+-- wide if they are fewer than a quarter of the most that it should send, and half as wide if they are more than the most
 abbrev pub next_width : ℕ → ℕ → ℕ → ℕ
 next_width width sent most =
-    if nat_lt sent (most / 3) then min (width * 2) widest else if nat_lt most sent then max (width / 2) 1 else width
+    if nat_lt sent (most / 4) then min (width * 2) widest else if nat_lt most sent then max (width / 2) 1 else width

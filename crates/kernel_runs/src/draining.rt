@@ -8,7 +8,7 @@ ghost use Rattle.vcd_dump.specs.Spans.{with_parts};
 ghost use Rattle.kernel_runs.specs.Drained.{EachFloor, DrainsTo};
 
 use crate::kernel_calls::drain_below_into;
-use crate::simulation::RunKernel;
+use crate::simulation::StreamKernel;
 use prepared_runs::SimFault;
 use std::alloc::{AllocError, Global};
 use vcd_dump::Stream;
@@ -17,7 +17,7 @@ use vcd_dump::Stream;
 /// tick.
 pub(crate) fn give_parts(
     alloc: Global,
-    kernel: &mut RunKernel<'_>,
+    kernel: &mut StreamKernel<'_>,
     nets: &[u32],
     bound: u64,
     stream: &mut Stream,
@@ -52,7 +52,7 @@ pub(crate) fn give_parts(
 /// Forgets what these nets showed before the tick.
 pub(crate) fn forget_below(
     alloc: Global,
-    kernel: &mut RunKernel<'_>,
+    kernel: &mut StreamKernel<'_>,
     nets: &[u32],
     bound: u64,
 ) -> Result<(), AllocError>

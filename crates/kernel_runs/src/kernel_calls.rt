@@ -11,17 +11,20 @@ ghost use Rattle.kernel_runs.specs.Paces.{LeastRises, RaisesLeast};
 ghost use Rattle.kernel_runs.specs.Simulated.{kernel_after_events};
 ghost use Rattle.prepared_runs.specs.Prepared.{seen_run};
 
-use crate::simulation::RunKernel;
+use crate::simulation::StreamKernel;
+use cmb_channels::Logs;
 use cmb_events::Event;
+use cmb_kernel::Kernel;
+use gate_process::KeptWave;
 use logic3::Change;
 use prepared_runs::PreparedRun;
 use std::alloc::{AllocError, Global};
 
 /// Returns the kernel of a prepared run after the picked events, over new channels.
-pub(crate) fn kernel_after_events<'r>(
+pub(crate) fn kernel_after_events<'r, W: KeptWave>(
     alloc: Global,
     run: &'r PreparedRun,
-) -> Result<RunKernel<'r>, AllocError>
+) -> Result<Kernel<'r, Logs, W>, AllocError>
     requires exist { All (Exists run.now.design.circuit) run.now.schedule }
     requires few { length run.now.schedule ≤ most_events }
     ensures ok { IfOk result (λ kernel. kernel ≡ kernel_after_events (seen_run run.now)) }
@@ -34,17 +37,23 @@ pub(crate) fn kernel_after_events<'r>(
 }
 
 /// Returns the kernel of a prepared run before any event.
-fn new_kernel<'r>(alloc: Global, run: &'r PreparedRun) -> Result<RunKernel<'r>, AllocError>
+fn new_kernel<'r, W: KeptWave>(
+    alloc: Global,
+    run: &'r PreparedRun,
+) -> Result<Kernel<'r, Logs, W>, AllocError>
     ensures { IfOk result (λ kernel. kernel ≡ fresh run.now.design.circuit (run.now.horizon + 1)) }
 {
-    match RunKernel::new(alloc, &run.design, run.horizon) {
+    match Kernel::keeping(alloc, &run.design, run.horizon) {
         Ok(kernel) => Ok(kernel),
         Err(_) => Err(AllocError),
     }
 }
 
 /// Applies the picked events.
-fn apply_all(kernel: &mut RunKernel<'_>, events: &[Event]) -> Result<(), AllocError>
+fn apply_all<W: KeptWave>(
+    kernel: &mut Kernel<'_, Logs, W>,
+    events: &[Event],
+) -> Result<(), AllocError>
     requires running { kernel.old.failed ≡ false }
     requires exist { All (Exists kernel.old.circuit) events.now }
     requires few { length events.now ≤ most_events }
@@ -59,7 +68,7 @@ fn apply_all(kernel: &mut RunKernel<'_>, events: &[Event]) -> Result<(), AllocEr
 }
 
 /// Advances the run by a round.
-pub(crate) fn round(kernel: &mut RunKernel<'_>) -> Result<(), AllocError>
+pub(crate) fn round(kernel: &mut StreamKernel<'_>) -> Result<(), AllocError>
     requires running { kernel.old.failed ≡ false }
     ensures ok { OnOk result (kernel.new ≡ record kernel.old { state = round_of kernel.old.state }) }
     ensures raises { OnOk result (RaisesLeast kernel.old kernel.new) }
@@ -74,7 +83,7 @@ pub(crate) fn round(kernel: &mut RunKernel<'_>) -> Result<(), AllocError>
 
 /// Takes out a net's changes below a tick up to which every net is known, and adds them to the end of a list.
 pub(crate) fn drain_below_into(
-    kernel: &mut RunKernel<'_>,
+    kernel: &mut StreamKernel<'_>,
     net: u32,
     bound: u64,
     changes: &mut Vec<Change>,

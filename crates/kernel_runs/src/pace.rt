@@ -7,7 +7,7 @@ ghost use Rattle.kernel_runs.specs.Paces.{LeastRises, RaisesLeast, Suits};
 ghost use Rattle.kernel_runs.specs.declared.pace.Pace.TheVariants.{Rounds};
 
 use crate::kernel_calls::round;
-use crate::simulation::RunKernel;
+use crate::simulation::StreamKernel;
 use crate::sweeps::Sweeps;
 use design::Design;
 use std::alloc::{AllocError, Global};
@@ -35,7 +35,11 @@ impl Pace {
     }
 
     /// Advances a run, given the number of ticks known of every net.
-    pub(crate) fn go_on(&mut self, kernel: &mut RunKernel<'_>, known: u64) -> Result<(), AllocError>
+    pub(crate) fn go_on(
+        &mut self,
+        kernel: &mut StreamKernel<'_>,
+        known: u64,
+    ) -> Result<(), AllocError>
         requires running { kernel.old.failed ≡ false }
         requires known { known ≡ least_frontier kernel.old.end kernel.old.state }
         requires suits { Suits self.old kernel.old.circuit kernel.old.end }

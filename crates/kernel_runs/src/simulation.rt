@@ -17,6 +17,7 @@ use crate::pace::Pace;
 use crate::streaming::stream_to_end;
 use cmb_channels::Logs;
 use cmb_kernel::{Counts, Kernel};
+use gate_process::PackedWave;
 use prepared_runs::{
     DumpView, PreparedRun, Progress, Silent, SimFault, Source, View, prepare_run, shown_nets,
 };
@@ -24,8 +25,11 @@ use std::alloc::Global;
 use std::io::Write;
 use vcd_dump::TimeUnit;
 
-/// The kernel of every run, and the channels that its messages go through.
+/// The kernel of a run whose waveforms are read at its end, and the channels that its messages go through.
 pub(crate) type RunKernel<'r> = Kernel<'r, Logs>;
+
+/// The kernel of a run whose dump is written as it advances.
+pub(crate) type StreamKernel<'r> = Kernel<'r, Logs, PackedWave>;
 
 /// How much happened in a run.
 #[derive(Clone, Copy, Debug, PartialEq, Eq)]

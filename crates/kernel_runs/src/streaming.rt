@@ -19,7 +19,7 @@ ghost use Rattle.kernel_runs.specs.declared.pace.Pace.TheVariants.{Rounds};
 use crate::draining::{forget_below, give_parts};
 use crate::hiding::hidden_nets;
 use crate::pace::Pace;
-use crate::simulation::RunKernel;
+use crate::simulation::StreamKernel;
 use prepared_runs::{PreparedRun, Progress, SimFault};
 use std::alloc::Global;
 use std::io::Write;
@@ -29,7 +29,7 @@ use vcd_dump::{Stream, TimeUnit};
 /// reports how much that is.
 pub(crate) fn stream_to_end<W: Write, P: Progress>(
     alloc: Global,
-    kernel: &mut RunKernel<'_>,
+    kernel: &mut StreamKernel<'_>,
     run: &PreparedRun,
     unit: TimeUnit,
     nets: &[u32],
@@ -84,7 +84,7 @@ pub(crate) fn stream_to_end<W: Write, P: Progress>(
 /// `hidden` are the nets that aren't shown.
 fn write_known<W: Write>(
     alloc: Global,
-    kernel: &mut RunKernel<'_>,
+    kernel: &mut StreamKernel<'_>,
     nets: &[u32],
     hidden: &[u32],
     known: u64,

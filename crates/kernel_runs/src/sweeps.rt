@@ -10,10 +10,11 @@ ghost use Rattle.design.specs.Segments.{IsCutUp};
 ghost use Rattle.kernel_runs.specs.Paces.{AllFarther, Covers, GoesOn, LeastRises, RaisesLeast};
 ghost use Rattle.kernel_runs.specs.Windows.{next_width};
 
-use crate::simulation::RunKernel;
 use crate::windows::{FIRST_WIDTH, most_sent, next_width, reach};
-use cmb_kernel::laws;
+use cmb_channels::Logs;
+use cmb_kernel::{Kernel, laws};
 use design::{Design, Segment, flow_order, segments_of};
+use gate_process::KeptWave;
 use std::alloc::{AllocError, Global};
 use timing_text::Horizon;
 
@@ -51,7 +52,11 @@ impl Sweeps {
     }
 
     /// Sweeps over all nets, up to the end of the window, given the number of ticks known of every net.
-    pub(crate) fn sweep(&mut self, kernel: &mut RunKernel<'_>, known: u64) -> Result<(), AllocError>
+    pub(crate) fn sweep<W: KeptWave>(
+        &mut self,
+        kernel: &mut Kernel<'_, Logs, W>,
+        known: u64,
+    ) -> Result<(), AllocError>
         requires running { kernel.old.failed ≡ false }
         requires covers { Covers self.old kernel.old.circuit kernel.old.end }
         requires known { known ≡ least_frontier kernel.old.end kernel.old.state }
@@ -77,8 +82,8 @@ impl Sweeps {
 }
 
 /// Sweeps over all nets up to a tick, segment by segment.
-fn pass(
-    kernel: &mut RunKernel<'_>,
+fn pass<W: KeptWave>(
+    kernel: &mut Kernel<'_, Logs, W>,
     order: &[u32],
     segments: &[Segment],
     tick: u64,
@@ -103,8 +108,8 @@ fn pass(
 }
 
 /// Sweeps over the nets of a segment up to a tick: once, or for a loop as often as that advances it.
-fn sweep_segment(
-    kernel: &mut RunKernel<'_>,
+fn sweep_segment<W: KeptWave>(
+    kernel: &mut Kernel<'_, Logs, W>,
     nets: &[u32],
     loops: bool,
     tick: u64,
@@ -124,7 +129,11 @@ fn sweep_segment(
 }
 
 /// Sweeps over these nets up to a tick, once.
-fn sweep_once(kernel: &mut RunKernel<'_>, nets: &[u32], tick: u64) -> Result<(), AllocError>
+fn sweep_once<W: KeptWave>(
+    kernel: &mut Kernel<'_, Logs, W>,
+    nets: &[u32],
+    tick: u64,
+) -> Result<(), AllocError>
     requires running { kernel.old.failed ≡ false }
     requires nets { All (λ net. net < length kernel.old.circuit) nets.now }
     ensures goes { OnOk result (GoesOn kernel.old kernel.new) }
@@ -142,7 +151,11 @@ fn sweep_once(kernel: &mut RunKernel<'_>, nets: &[u32], tick: u64) -> Result<(),
 
 /// Sweeps over the nets of a loop repeatedly, until each of them is known up to the tick or a sweep doesn't
 /// advance them, since too little is known of nets outside the loop.
-fn sweep_loop(kernel: &mut RunKernel<'_>, nets: &[u32], tick: u64) -> Result<(), AllocError>
+fn sweep_loop<W: KeptWave>(
+    kernel: &mut Kernel<'_, Logs, W>,
+    nets: &[u32],
+    tick: u64,
+) -> Result<(), AllocError>
     requires running { kernel.old.failed ≡ false }
     requires nets { All (λ net. net < length kernel.old.circuit) nets.now }
     requires sound { IsSound kernel.old.circuit kernel.old.end kernel.old.state }
@@ -161,7 +174,7 @@ fn sweep_loop(kernel: &mut RunKernel<'_>, nets: &[u32], tick: u64) -> Result<(),
 }
 
 /// Returns how many ticks are known of each of these nets, or this tick if it is less.
-fn known_of(kernel: &RunKernel<'_>, nets: &[u32], tick: u64) -> u64
+fn known_of<W: KeptWave>(kernel: &Kernel<'_, Logs, W>, nets: &[u32], tick: u64) -> u64
     requires running { kernel.now.failed ≡ false }
     requires nets { All (λ net. net < length kernel.now.circuit) nets.now }
     ensures within { result ≤ tick }

@@ -9,17 +9,24 @@ ghost use Rattle.kernel_runs.specs.Windows.{most_sent, next_width};
 pub(crate) const FIRST_WIDTH: u64 = 64;
 
 /// The most changes that a sweep over few nets should send.
-const MOST_SENT_BY_FEW: u64 = 57_344;
+const MOST_SENT_BY_FEW: u64 = 16_384;
+
+/// The most changes that a sweep should send, unless two for each net are more.
+const MOST_SENT_BY_MANY: u64 = 57_344;
 
 /// The greatest width: longer than the longest run.
 const WIDEST: u64 = 16_777_216;
 
-/// Returns the most changes that a sweep over this number of nets should send. It decides how much is in
-/// flight in a run, and how often each net is looked at.
+/// Returns the most changes that a sweep over this number of nets should send: four for each net, within
+/// bounds. It decides how much is in flight in a run, and how often each net is looked at.
 pub(crate) fn most_sent(nets: u32) -> u64
     ensures { result ≡ most_sent nets }
 {
-    MOST_SENT_BY_FEW.max(2 * u64::from(nets))
+    let nets = u64::from(nets);
+    (4 * nets)
+        .min(MOST_SENT_BY_MANY)
+        .max(MOST_SENT_BY_FEW)
+        .max(2 * nets)
 }
 
 /// Returns the tick up to which the next sweep goes, given the number of ticks known of every net.
@@ -34,7 +41,7 @@ pub(crate) fn reach(known: u64, width: u64, end: u64) -> u64
 pub(crate) fn next_width(width: u64, sent: u64, most: u64) -> u64
     ensures { result ≡ next_width width sent most }
 {
-    if sent < most / 3 {
+    if sent < most / 4 {
         WIDEST.min(width.saturating_mul(2))
     } else if sent > most {
         1.max(width / 2)

@@ -1,10 +1,10 @@
 //! The log of one net.
 ghost use Rattle.std.specs.Prelude.{◌≡◌, ◌<◌, ◌≤◌, ◌↔◌, ◌^◌, IsTrue, length, drop, OnOk, OnErr};
 ghost use Rattle.cmb_channels.specs.Logs.{past, empty_log, written, cut_to, passed};
+ghost use Rattle.cmb_channels.specs.Parts.{messages_in};
 
 use crate::logs::messages::Messages;
-use crate::logs::waiting::Waiting;
-use crate::message::Message;
+use crate::logs::waiting::{Part, Waiting};
 use std::alloc::{AllocError, Global};
 use std::marker::Model;
 
@@ -80,8 +80,8 @@ impl Log {
     /// allocates nothing.
     ///
     /// An `AllocError` leaves the log unchanged.
-    pub fn write(&mut self, messages: &[Message]) -> Result<(), AllocError>
-        ensures ok { OnOk result (self.new ≡ written messages.now self.old) }
+    pub fn write(&mut self, messages: Part<'_>) -> Result<(), AllocError>
+        ensures ok { OnOk result (self.new ≡ written (messages_in messages.entry) self.old) }
         ensures err { OnErr result (self.new ≡ self.old) }
         ensures memory { OnErr result (0 < self.old.readers) }
     {

@@ -3,12 +3,17 @@ ghost use Rattle.std.specs.Prelude.{◌≡◌, ◌<◌, ◌≤◌, nat_lt, [], �
 ghost use Rattle.std.specs.List.{list_all};
 ghost use Rattle.cmb_channels.specs.Logs.{tick_said};
 ghost use Rattle.cmb_channels.specs.Packed.{packed_ticks};
+ghost use Rattle.cmb_channels.specs.Parts.{messages_in};
 
-use crate::logs::packed::Packed;
-use crate::logs::waiting::Waiting;
+use crate::logs::waiting::{Part, Waiting};
 use crate::message::Message;
+use crate::packed::Packed;
+use smallvec::SmallVec;
 use std::alloc::{AllocError, Global};
 use std::marker::Model;
+
+// So many messages need no allocation.
+const FEW: usize = 4;
 
 /// Messages, the oldest first: in four bytes each while all of them fit, and from then on in 24.
 #[derive(Debug, Drop)]
@@ -18,7 +23,7 @@ pub struct Messages {
 
 #[derive(Debug, Drop)]
 enum Stored {
-    Packed(Vec<Packed>),
+    Packed(SmallVec<Packed, FEW>),
     Wide(Vec<Message>),
 }
 
@@ -38,7 +43,7 @@ impl Messages {
         ensures { result ≡ [] }
     {
         Messages {
-            stored: Stored::Packed(Vec::new(alloc)),
+            stored: Stored::Packed(SmallVec::new(alloc)),
         }
     }
 
@@ -48,7 +53,7 @@ impl Messages {
         ensures few { result < 2 ^ 63 }
     {
         match &self.stored {
-            Stored::Packed(packed) => packed.len(),
+            Stored::Packed(packed) => packed.as_slice().len(),
             Stored::Wide(wide) => wide.len(),
         }
     }
@@ -73,14 +78,36 @@ impl Messages {
     }
 
     /// Adds messages at the end. An `AllocError` changes nothing.
-    pub fn extend(&mut self, messages: &[Message]) -> Result<(), AllocError>
+    pub fn extend(&mut self, more: Part<'_>) -> Result<(), AllocError>
+        ensures ok { OnOk result (self.new ≡ self.old ++ messages_in more.entry) }
+        ensures err { OnErr result (self.new ≡ self.old) }
+    {
+        match more {
+            Part::Packed(messages) => self.extend_packed(messages),
+            Part::Wide(messages) => self.extend_wide(messages),
+        }
+    }
+
+    /// Adds packed messages at the end. An `AllocError` changes nothing.
+    fn extend_packed(&mut self, messages: &[Packed]) -> Result<(), AllocError>
+        ensures ok { OnOk result (self.new ≡ self.old ++ messages.now) }
+        ensures err { OnErr result (self.new ≡ self.old) }
+    {
+        match &mut self.stored {
+            Stored::Packed(packed) => packed.extend_from_slice(messages),
+            Stored::Wide(wide) => unpack(wide, messages),
+        }
+    }
+
+    /// Adds messages at the end, packed if all fit. An `AllocError` changes nothing.
+    fn extend_wide(&mut self, messages: &[Message]) -> Result<(), AllocError>
         ensures ok { OnOk result (self.new ≡ self.old ++ messages.now) }
         ensures err { OnErr result (self.new ≡ self.old) }
     {
         match &mut self.stored {
             Stored::Packed(packed) => {
                 if fit(messages) {
-                    return extend_packed(packed, messages);
+                    return pack(packed, messages);
                 }
                 let wide = widened(packed.as_slice(), messages, *packed.allocator())?;
                 self.stored = Stored::Wide(wide);
@@ -97,7 +124,7 @@ impl Messages {
     {
         match &mut self.stored {
             Stored::Packed(packed) => {
-                packed.copy_within(count.., 0);
+                packed.as_mut_slice().copy_within(count.., 0);
                 packed.truncate(packed.len() - count);
             }
             Stored::Wide(wide) => {
@@ -116,7 +143,7 @@ fn fit(messages: &[Message]) -> bool
 }
 
 /// Packs messages and adds them at the end. An `AllocError` changes nothing.
-fn extend_packed(packed: &mut Vec<Packed>, messages: &[Message]) -> Result<(), AllocError>
+fn pack(packed: &mut SmallVec<Packed, FEW>, messages: &[Message]) -> Result<(), AllocError>
     requires { All (λ message. tick_said message < packed_ticks) messages.now }
     ensures ok { OnOk result (packed.new.items ≡ packed.old.items ++ messages.now) }
     ensures err { OnErr result (packed.new.items ≡ packed.old.items) }
@@ -128,14 +155,24 @@ fn extend_packed(packed: &mut Vec<Packed>, messages: &[Message]) -> Result<(), A
     Ok(())
 }
 
+/// Unpacks messages and adds them at the end. An `AllocError` changes nothing.
+fn unpack(wide: &mut Vec<Message>, messages: &[Packed]) -> Result<(), AllocError>
+    ensures ok { OnOk result (wide.new.items ≡ wide.old.items ++ messages.now) }
+    ensures err { OnErr result (wide.new.items ≡ wide.old.items) }
+{
+    wide.reserve(messages.len())?;
+    for message in messages {
+        wide.push_reserved(message.message());
+    }
+    Ok(())
+}
+
 /// Returns packed messages and then more, in 24 bytes each.
 fn widened(packed: &[Packed], more: &[Message], alloc: Global) -> Result<Vec<Message>, AllocError>
     ensures { IfOk result (λ wide. wide.items ≡ packed.now ++ more.now) }
 {
     let mut wide = Vec::new(alloc);
-    for message in packed {
-        wide.push(message.message())?;
-    }
+    unpack(&mut wide, packed)?;
     wide.extend_from_slice(more)?;
     Ok(wide)
 }

@@ -1,8 +1,9 @@
 //! The messages that wait at a pin.
-ghost use Rattle.std.specs.Prelude.{◌≡◌, ◌<◌, ◌^◌, length, slice_get};
+ghost use Rattle.std.specs.Prelude.{◌≡◌, ◌==◌, ◌<◌, ◌^◌, length, slice_get};
+ghost use Rattle.cmb_channels.specs.Parts.{messages_in};
 
-use crate::logs::packed::Packed;
 use crate::message::Message;
+use crate::packed::Packed;
 use std::marker::Model;
 
 /// Messages that wait at a pin, the oldest first: a part of the log of its source.
@@ -11,11 +12,30 @@ pub struct Waiting<'l> {
     part: Part<'l>,
 }
 
-/// The messages as the log stores them.
+/// Messages one after another, packed or not.
 #[derive(Clone, Copy, Debug)]
-enum Part<'l> {
+pub enum Part<'l> {
     Packed(&'l [Packed]),
     Wide(&'l [Message]),
+}
+
+impl<'l> Part<'l> {
+    /// Returns the number of messages.
+    pub fn len(&self) -> usize
+        ensures { result ≡ length (messages_in self.now) }
+    {
+        match self {
+            Part::Packed(messages) => messages.len(),
+            Part::Wide(messages) => messages.len(),
+        }
+    }
+
+    /// Returns whether there are none.
+    pub fn is_empty(&self) -> bool
+        ensures { result ≡ (length (messages_in self.now) == 0) }
+    {
+        self.len() == 0
+    }
 }
 
 impl<'l> Model for Waiting<'l> {
@@ -53,10 +73,7 @@ impl<'l> Waiting<'l> {
     pub fn len(&self) -> usize
         ensures { result ≡ length self.now }
     {
-        match self.part {
-            Part::Packed(messages) => messages.len(),
-            Part::Wide(messages) => messages.len(),
-        }
+        self.part.len()
     }
 
     /// Returns the message at a place, from 0 on, if there is one.

@@ -11,9 +11,10 @@ use crate::fault::KernelFault;
 use crate::kernel::Kernel;
 use cmb_channels::Logs;
 use cmb_events::Event;
+use gate_process::KeptWave;
 use std::alloc::AllocError;
 
-impl<'d> Kernel<'d, Logs> {
+impl<'d, W: KeptWave> Kernel<'d, Logs, W> {
     /// Sweeps as [`sweep`](Self::sweep) does, but faster: each pin takes all that it needs at once, as a part
     /// of its source's log, and a net that needs nothing is only counted.
     ///

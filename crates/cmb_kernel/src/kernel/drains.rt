@@ -8,9 +8,10 @@ ghost use Rattle.cmb_kernel.specs.Sound.{IsSound};
 use crate::fault::KernelFault;
 use crate::kernel::Kernel;
 use cmb_channels::Fabric;
+use gate_process::KeptWave;
 use logic3::Change;
 
-impl<'d, F: Fabric> Kernel<'d, F> {
+impl<'d, F: Fabric, W: KeptWave> Kernel<'d, F, W> {
     /// Returns the tick from which on a net's waveform is kept: 0 until changes of the net are taken out. It
     /// is never past the net's frontier.
     pub fn floor(&self, net: u32) -> u64

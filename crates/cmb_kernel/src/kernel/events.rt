@@ -15,9 +15,10 @@ use crate::kernel::Kernel;
 use cmb_channels::Fabric;
 use cmb_events::{Event, MOST_EVENTS};
 use design::Design;
+use gate_process::KeptWave;
 use std::alloc::AllocError;
 
-impl<'d, F: Fabric> Kernel<'d, F> {
+impl<'d, F: Fabric, W: KeptWave> Kernel<'d, F, W> {
     /// Applies an event, and returns whether it was useful: whether it raised a frontier, of a net or of a
     /// pin. An event that raises none is counted, changes nothing else, and takes no memory.
     ///

@@ -6,8 +6,9 @@ ghost use Rattle.cmb_kernel.specs.Sound.{waves_kept};
 
 use crate::kernel::Kernel;
 use cmb_channels::Fabric;
+use gate_process::KeptWave;
 
-impl<'d, F: Fabric> Kernel<'d, F> {
+impl<'d, F: Fabric, W: KeptWave> Kernel<'d, F, W> {
     /// Returns the least frontier of all nets: up to there every net is known, and can be drained. It looks
     /// at each net once.
     pub fn least_frontier(&self) -> u64

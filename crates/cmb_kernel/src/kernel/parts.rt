@@ -7,8 +7,9 @@ ghost use Rattle.design.specs.Pins.{sources_of};
 use crate::kernel::Kernel;
 use cmb_channels::Fabric;
 use design::Design;
+use gate_process::KeptWave;
 
-impl<'d, F: Fabric> Kernel<'d, F> {
+impl<'d, F: Fabric, W: KeptWave> Kernel<'d, F, W> {
     /// Returns the design that runs.
     pub fn design(&self) -> &'d Design
         ensures { result.now.circuit ≡ self.now.circuit }

@@ -13,9 +13,10 @@ use crate::fault::KernelFault;
 use crate::kernel::Kernel;
 use cmb_channels::Fabric;
 use cmb_events::Event;
+use gate_process::KeptWave;
 use std::alloc::AllocError;
 
-impl<'d, F: Fabric> Kernel<'d, F> {
+impl<'d, F: Fabric, W: KeptWave> Kernel<'d, F, W> {
     /// Lets each pin in order of number take all messages that wait there, and then advances each net in
     /// order of number. Every net is then known at least the least delay past the old least frontier, or to
     /// the end.

@@ -11,9 +11,10 @@ use crate::fault::KernelFault;
 use crate::kernel::Kernel;
 use cmb_channels::Fabric;
 use cmb_events::Event;
+use gate_process::KeptWave;
 use std::alloc::AllocError;
 
-impl<'d, F: Fabric> Kernel<'d, F> {
+impl<'d, F: Fabric, W: KeptWave> Kernel<'d, F, W> {
     /// Lets the nets of a list, one after another, take what they need to reach a tick, and advance: each pin
     /// of the net in order takes messages as long as it is known up to less than the tick, and then the net
     /// advances.

@@ -10,8 +10,9 @@ ghost use Rattle.cmb_events.specs.Schedule.{Exists};
 use crate::kernel::Kernel;
 use cmb_channels::Fabric;
 use cmb_events::Event;
+use gate_process::KeptWave;
 
-impl<'d, F: Fabric> Kernel<'d, F> {
+impl<'d, F: Fabric, W: KeptWave> Kernel<'d, F, W> {
     /// Returns an event that raises a frontier, or `None` if each net is known up to the horizon. In that
     /// case each waveform is whole, from the net's [`floor`](Self::floor) on; messages may still wait.
     ///

@@ -1,10 +1,11 @@
-use Rattle.std.proofs.Common.{◌≡◌, ◌∷◌, [], ◌-◌, max, ap, ◌∙◌, arith}
+use Rattle.std.proofs.Common.{◌≡◌, ◌∷◌, [], ◌-◌, max, ap, ◌∙◌}
 use Rattle.logic3.specs.Wave.{Wave}
 use Rattle.gate_process.specs.Knowledge.{seen_pins}
 use Rattle.gate_process.specs.Reading.{read_by}
-use Rattle.gate_process.proofs.ReadBy.{stimuli_read, one_read, two_read, three_read, all_read, count_read, goes_to, wave_goes_on, news_tell_of_it}
+use Rattle.gate_process.specs.Step.{always}
+use Rattle.gate_process.proofs.ReadBy.{stimuli_read, one_read, two_read, three_read, count_read, goes_to, news_tell_of_it}
 use Rattle.gate_process.proofs.advance.reckon.Goals as goal
-use Rattle.gate_process.proofs.advance.reckon.Goals.{After-stimuli, After-cursor, After-cursor-in-len2-2, After-cursor-in-len3-3, After-as_mut_slice}
+use Rattle.gate_process.proofs.advance.reckon.Goals.{After-stimuli, After-cursor, After-cursor-in-len2-2, After-cursor-in-len3-3}
 
 -- ---- what is read, by how many pins there are
 
@@ -33,12 +34,6 @@ three c =
     ∙ three_read c.args.net.now c.args.received.now c.wires-wires.ensures.well_formed c.requires.pins c.wires-wires.result.now c.wires-wires.ensures.wires
     c.first-item-then-received-lt4.result c.second-item-then-received-lt4.result c.third-item.result c.in-len3.len_at_least c.in-len3.len_below c.first-item-then-received-lt4.is c.second-item-then-received-lt4.is c.third-item.is
 
-more : (c : After-as_mut_slice) → c.as_mut_slice.result.now ≡ read_by c.args.net.now (seen_pins c.args.net.now.wires c.args.received.now)
-more c =
-    c.as_mut_slice.ensures.value ∙ c.in_ok-cursors-in_default.ensures
-    ∙ all_read c.args.net.now c.args.received.now c.wires-wires.ensures.well_formed c.requires.pins c.wires-wires.result.now c.wires-wires.ensures.wires
-    (let some = c.in_default.len_at_least in omega arith)
-
 pub walk-requires-clause-read : goal.walk-requires-clause-read
 walk-requires-clause-read c =
     count_read c.args.net.now c.args.received.now c.wires-wires.ensures.well_formed c.requires.pins _ (none (goal.at.walk-requires-clause-read c).After-stimuli)
@@ -55,16 +50,12 @@ pub walk-requires-in-len3-clause-read : goal.walk-requires-in-len3-clause-read
 walk-requires-in-len3-clause-read c =
     count_read c.args.net.now c.args.received.now c.wires-wires.ensures.well_formed c.requires.pins _ (three (goal.at.walk-requires-in-len3-clause-read c).After-cursor-in-len3-3)
 
-pub walk-requires-in_default-clause-read : goal.walk-requires-in_default-clause-read
-walk-requires-in_default-clause-read c =
-    count_read c.args.net.now c.args.received.now c.wires-wires.ensures.well_formed c.requires.pins _ (more (goal.at.walk-requires-in_default-clause-read c).After-as_mut_slice)
-
 -- ---- what comes of it
 
 pub returns-in-empty-clause-news : goal.returns-in-empty-clause-news
 returns-in-empty-clause-news c =
     news_tell_of_it c.args.net.now (seen_pins c.args.net.now.wires c.args.received.now) _ (none (goal.at.returns-in-empty-clause-news c).After-stimuli) c.walk.result c.args.span.from
-    c.args.wave.now _ c.walk.ensures.news
+    (always c.args.last) _ c.walk.ensures.news
 
 pub returns-in-len1-clause-to : goal.returns-in-len1-clause-to
 returns-in-len1-clause-to c =
@@ -72,15 +63,10 @@ returns-in-len1-clause-to c =
     (max c.args.span.from c.args.span.sure) (c.args.most - max c.args.span.from c.args.span.sure)
     c.walk-in-len1.ensures.to
 
-pub returns-in-len1-clause-wave : goal.returns-in-len1-clause-wave
-returns-in-len1-clause-wave c =
-    wave_goes_on c.args.net.now (seen_pins c.args.net.now.wires c.args.received.now) _ (one (goal.at.returns-in-len1-clause-wave c).After-cursor) c.walk-in-len1.result c.args.span.from
-    c.args.wave.now _ c.walk-in-len1.ensures.wave
-
 pub returns-in-len1-clause-news : goal.returns-in-len1-clause-news
 returns-in-len1-clause-news c =
     news_tell_of_it c.args.net.now (seen_pins c.args.net.now.wires c.args.received.now) _ (one (goal.at.returns-in-len1-clause-news c).After-cursor) c.walk-in-len1.result c.args.span.from
-    c.args.wave.now _ c.walk-in-len1.ensures.news
+    (always c.args.last) _ c.walk-in-len1.ensures.news
 
 pub returns-in-len2-clause-to : goal.returns-in-len2-clause-to
 returns-in-len2-clause-to c =
@@ -88,15 +74,10 @@ returns-in-len2-clause-to c =
     (max c.args.span.from c.args.span.sure) (c.args.most - max c.args.span.from c.args.span.sure)
     c.walk-in-len2.ensures.to
 
-pub returns-in-len2-clause-wave : goal.returns-in-len2-clause-wave
-returns-in-len2-clause-wave c =
-    wave_goes_on c.args.net.now (seen_pins c.args.net.now.wires c.args.received.now) _ (two (goal.at.returns-in-len2-clause-wave c).After-cursor-in-len2-2) c.walk-in-len2.result c.args.span.from
-    c.args.wave.now _ c.walk-in-len2.ensures.wave
-
 pub returns-in-len2-clause-news : goal.returns-in-len2-clause-news
 returns-in-len2-clause-news c =
     news_tell_of_it c.args.net.now (seen_pins c.args.net.now.wires c.args.received.now) _ (two (goal.at.returns-in-len2-clause-news c).After-cursor-in-len2-2) c.walk-in-len2.result c.args.span.from
-    c.args.wave.now _ c.walk-in-len2.ensures.news
+    (always c.args.last) _ c.walk-in-len2.ensures.news
 
 pub returns-in-len3-clause-to : goal.returns-in-len3-clause-to
 returns-in-len3-clause-to c =
@@ -104,28 +85,7 @@ returns-in-len3-clause-to c =
     (max c.args.span.from c.args.span.sure) (c.args.most - max c.args.span.from c.args.span.sure)
     c.walk-in-len3.ensures.to
 
-pub returns-in-len3-clause-wave : goal.returns-in-len3-clause-wave
-returns-in-len3-clause-wave c =
-    wave_goes_on c.args.net.now (seen_pins c.args.net.now.wires c.args.received.now) _ (three (goal.at.returns-in-len3-clause-wave c).After-cursor-in-len3-3) c.walk-in-len3.result c.args.span.from
-    c.args.wave.now _ c.walk-in-len3.ensures.wave
-
 pub returns-in-len3-clause-news : goal.returns-in-len3-clause-news
 returns-in-len3-clause-news c =
     news_tell_of_it c.args.net.now (seen_pins c.args.net.now.wires c.args.received.now) _ (three (goal.at.returns-in-len3-clause-news c).After-cursor-in-len3-3) c.walk-in-len3.result c.args.span.from
-    c.args.wave.now _ c.walk-in-len3.ensures.news
-
-pub returns-in_ok-cursors-in_default-clause-to : goal.returns-in_ok-cursors-in_default-clause-to
-returns-in_ok-cursors-in_default-clause-to c =
-    goes_to c.args.net.now (seen_pins c.args.net.now.wires c.args.received.now) _ (more (goal.at.returns-in_ok-cursors-in_default-clause-to c).After-as_mut_slice) c.walk-in_default.result c.args.span.from
-    (max c.args.span.from c.args.span.sure) (c.args.most - max c.args.span.from c.args.span.sure)
-    c.walk-in_default.ensures.to
-
-pub returns-in_ok-cursors-in_default-clause-wave : goal.returns-in_ok-cursors-in_default-clause-wave
-returns-in_ok-cursors-in_default-clause-wave c =
-    wave_goes_on c.args.net.now (seen_pins c.args.net.now.wires c.args.received.now) _ (more (goal.at.returns-in_ok-cursors-in_default-clause-wave c).After-as_mut_slice) c.walk-in_default.result c.args.span.from
-    c.args.wave.now _ c.walk-in_default.ensures.wave
-
-pub returns-in_ok-cursors-in_default-clause-news : goal.returns-in_ok-cursors-in_default-clause-news
-returns-in_ok-cursors-in_default-clause-news c =
-    news_tell_of_it c.args.net.now (seen_pins c.args.net.now.wires c.args.received.now) _ (more (goal.at.returns-in_ok-cursors-in_default-clause-news c).After-as_mut_slice) c.walk-in_default.result c.args.span.from
-    c.args.wave.now _ c.walk-in_default.ensures.news
+    (always c.args.last) _ c.walk-in-len3.ensures.news

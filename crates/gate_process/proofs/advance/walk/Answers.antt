@@ -1,39 +1,51 @@
-use Rattle.std.proofs.Common.{◌≡◌, ◌≢◌, ℕ, ◌-◌, ◌<◌, ◌≤◌, ◌==◌, max, cond, [], ap, sym, ◌∙◌, false, arith, rules, ◌⊎◌, inl, inr}
+use Rattle.std.proofs.Common.{◌≡◌, ◌≢◌, ℕ, ◌-◌, ◌<◌, ◌≤◌, ◌==◌, max, cond, [], ◌∷◌, ◌++◌, map, refl, ap, sym, ◌∙◌, false, arith, rules, ◌⊎◌, inl, inr}
 use Rattle.std.proofs.lemmas.Bool.{cases_lt}
 use Rattle.logic3.specs.declared.value.Value.TheVariants.{Unknown}
 use Rattle.std.proofs.lemmas.Result.{IfOk-weaker}
-use Rattle.logic3.specs.Wave.{last_value, changes_between}
-use Rattle.logic3.proofs.CallerLemmas.{value_in_the_end-append}
+use Rattle.logic3.specs.Wave.{changes_between}
+use Rattle.cmb_channels.specs.declared.message.Message.TheVariants.{Change as Changes}
 use Rattle.gate_process.specs.Knowledge.{news_of}
 use Rattle.gate_process.specs.Reading.{shown}
-use Rattle.gate_process.specs.Step.{continued, first_unknown}
+use Rattle.gate_process.specs.Step.{continued, always, first_unknown}
 use Rattle.gate_process.proofs.Reach.{first_unknown-is}
-use Rattle.gate_process.proofs.Walks.{walked_past, walked_same, walked_change, walked_news, continued-late, IfOk-both}
+use Rattle.gate_process.proofs.Walks.{told_to, none_between, walk_begins, walked_same, walked_change, walked_news, continued-late, IfOk-both}
 use Rattle.gate_process.proofs.advance.walk.Goals as goal
 use Rattle.gate_process.proofs.advance.walk.Goals.{After-look-look, After-waits}
 
-pub push-requires-clause-later : goal.push-requires-clause-later
-push-requires-clause-later c =
-    walked_past _ c.args.span.from c.args.most c.loop-tick.tick c.loop-tick.told c.args.wave.now c.loop-tick.wave c.loop-tick.messages.items
-    c.loop-tick.invariant.walked c.requires.past
+pub loop-tick-init : goal.loop-tick-init
+loop-tick-init c =
+    let signal = continued (always c.args.last) c.args.span.from (shown c.args.net.now c.args.read.now) in
+    let none = none_between signal c.args.span.from in
+    record {
+      walked = record {
+        after = omega arith;
+        within = c.requires.ahead;
+        latest_is = walk_begins c.args.last c.args.span.from (shown c.args.net.now c.args.read.now) c.requires.begins;
+        messages_are = c.requires.empty ∙ ap (map Changes) (sym none);
+        told_is = ap (told_to c.args.span.from) (sym none);
+      };
+      left = λ t late. refl;
+      count = c.requires.read;
+      settled = λ t late early. absurd (omega (arith, late, early));
+    }
 
 shows : (c : After-look-look) → c.look-look.result.value
-    ≡ continued c.args.wave.now c.args.span.from (shown c.args.net.now c.args.read.now) c.loop-tick.tick
+    ≡ continued (always c.args.last) c.args.span.from (shown c.args.net.now c.args.read.now) c.loop-tick.tick
 shows c =
     c.look-look.ensures.value
     ∙ c.loop-tick.invariant.left c.loop-tick.tick (omega arith)
-    ∙ sym (continued-late c.args.wave.now c.args.span.from (shown c.args.net.now c.args.read.now) c.loop-tick.tick c.loop-tick.invariant.walked.after)
+    ∙ sym (continued-late (always c.args.last) c.args.span.from (shown c.args.net.now c.args.read.now) c.loop-tick.tick c.loop-tick.invariant.walked.after)
 
 steady : (c : After-look-look) → (t : ℕ) → c.loop-tick.tick ≤ t → t < c.look-look.result.until →
-    continued c.args.wave.now c.args.span.from (shown c.args.net.now c.args.read.now) t
-    ≡ continued c.args.wave.now c.args.span.from (shown c.args.net.now c.args.read.now) c.loop-tick.tick
+    continued (always c.args.last) c.args.span.from (shown c.args.net.now c.args.read.now) t
+    ≡ continued (always c.args.last) c.args.span.from (shown c.args.net.now c.args.read.now) c.loop-tick.tick
 steady c t late early =
     let after = c.loop-tick.invariant.walked.after in
-    continued-late c.args.wave.now c.args.span.from (shown c.args.net.now c.args.read.now) t (omega (arith, after, late))
+    continued-late (always c.args.last) c.args.span.from (shown c.args.net.now c.args.read.now) t (omega (arith, after, late))
     ∙ sym (c.loop-tick.invariant.left t late)
     ∙ c.look-look.ensures.steady t late early
     ∙ c.loop-tick.invariant.left c.loop-tick.tick (omega arith)
-    ∙ sym (continued-late c.args.wave.now c.args.span.from (shown c.args.net.now c.args.read.now) c.loop-tick.tick after)
+    ∙ sym (continued-late (always c.args.last) c.args.span.from (shown c.args.net.now c.args.read.now) c.loop-tick.tick after)
 
 left : (c : After-look-look) → (t : ℕ) → c.look-look.result.until ≤ t →
     shown c.args.net.now c.look-look.new.read t ≡ shown c.args.net.now c.args.read.now t
@@ -55,19 +67,18 @@ settled c goes_on t late early = go (cases_lt t c.loop-tick.tick) (c.waits.ensur
     go (inr now) (inr known) = λ unknown.
         known (c.look-look.ensures.value ∙ sym (c.look-look.ensures.steady t now early) ∙ c.loop-tick.invariant.left t now ∙ unknown)
 
-pub loop-tick-preserved-in_ok-push-2 : goal.loop-tick-preserved-in_ok-push-2
-loop-tick-preserved-in_ok-push-2 c =
-    let at = (goal.at.loop-tick-preserved-in_ok-push-2 c).After-look-look in
-    let more = (goal.at.loop-tick-preserved-in_ok-push-2 c).After-waits in
-    let differs : c.look-look.result.value ≢ c.loop-tick.last = search rules in
+pub loop-tick-preserved-in_ok-push : goal.loop-tick-preserved-in_ok-push
+loop-tick-preserved-in_ok-push c =
+    let at = (goal.at.loop-tick-preserved-in_ok-push c).After-look-look in
+    let more = (goal.at.loop-tick-preserved-in_ok-push c).After-waits in
+    let differs : c.look-look.result.value ≢ c.loop-tick.latest = search rules in
     record {
-      walked = walked_change (continued c.args.wave.now c.args.span.from (shown c.args.net.now c.args.read.now)) c.args.span.from c.args.most c.loop-tick.tick
-          c.loop-tick.told c.args.wave.now c.loop-tick.wave c.loop-tick.messages.items c.look-look.result.until c.look-look.result.value _ _
+      walked = walked_change (continued (always c.args.last) c.args.span.from (shown c.args.net.now c.args.read.now)) c.args.span.from c.args.most c.loop-tick.tick
+          c.loop-tick.told c.loop-tick.latest c.loop-tick.messages.items c.look-look.result.until c.look-look.result.value _
           c.loop-tick.invariant.walked c.look-look.ensures.later (omega (arith, c.look-look.ensures.within, c.limit_at.ensures.within)) (steady at) (shows at)
-          (λ same. differs (same ∙ sym c.loop-tick.invariant.last_is)) c.in_ok-push.ensures.ok c.in_ok-push-2.ensures.items;
+          differs (c.in_ok-push.ensures.items ∙ ap (λ message. c.loop-tick.messages.items ++ message ∷ []) c.changed.ensures);
       left = left at;
       count = c.look-look.ensures.length ∙ c.loop-tick.invariant.count;
-      last_is = sym (ap last_value c.in_ok-push.ensures.ok ∙ value_in_the_end-append c.loop-tick.wave.before c.loop-tick.wave.changes _);
       settled = settled more c.if-waits.false;
     }
 
@@ -75,15 +86,14 @@ pub loop-tick-preserved : goal.loop-tick-preserved
 loop-tick-preserved c =
     let at = (goal.at.loop-tick-preserved c).After-look-look in
     let more = (goal.at.loop-tick-preserved c).After-waits in
-    let same : c.look-look.result.value ≡ c.loop-tick.last = search rules in
+    let same : c.look-look.result.value ≡ c.loop-tick.latest = search rules in
     record {
-      walked = walked_same (continued c.args.wave.now c.args.span.from (shown c.args.net.now c.args.read.now)) c.args.span.from c.args.most c.loop-tick.tick
-          c.loop-tick.told c.args.wave.now c.loop-tick.wave c.loop-tick.messages.items c.look-look.result.until c.look-look.result.value
+      walked = walked_same (continued (always c.args.last) c.args.span.from (shown c.args.net.now c.args.read.now)) c.args.span.from c.args.most c.loop-tick.tick
+          c.loop-tick.told c.loop-tick.latest c.loop-tick.messages.items c.look-look.result.until c.look-look.result.value
           c.loop-tick.invariant.walked c.look-look.ensures.later (omega (arith, c.look-look.ensures.within, c.limit_at.ensures.within)) (steady at) (shows at)
-          (same ∙ c.loop-tick.invariant.last_is);
+          same;
       left = left at;
       count = c.look-look.ensures.length ∙ c.loop-tick.invariant.count;
-      last_is = c.loop-tick.invariant.last_is;
       settled = settled more c.if-waits.false;
     }
 
@@ -102,10 +112,10 @@ returns-then-waits-clause-to c =
 pub returns-then-waits-clause-news : goal.returns-then-waits-clause-news
 returns-then-waits-clause-news c =
     IfOk-both c.tell_up_to.result _ _ _ (λ to is told.
-    walked_news _ c.args.span.from c.args.most c.loop-tick.tick c.loop-tick.told c.args.wave.now c.loop-tick.wave c.loop-tick.messages.items _
+    walked_news _ c.args.span.from c.args.most c.loop-tick.tick c.loop-tick.told c.loop-tick.latest c.loop-tick.messages.items _
     c.loop-tick.invariant.walked told
     ∙ ap (λ n. cond (n == c.args.span.from) []
-    (news_of (changes_between (continued c.args.wave.now c.args.span.from (shown c.args.net.now c.args.read.now)) c.args.span.from n) n)) (sym is))
+    (news_of (changes_between (continued (always c.args.last) c.args.span.from (shown c.args.net.now c.args.read.now)) c.args.span.from n) n)) (sym is))
     c.tell_up_to.ensures.to c.tell_up_to.ensures.messages
 
 -- else it comes to the limit
@@ -124,8 +134,8 @@ returns-clause-to c =
 pub returns-clause-news : goal.returns-clause-news
 returns-clause-news c =
     IfOk-both c.tell_up_to-2.result _ _ _ (λ to is told.
-    walked_news _ c.args.span.from c.args.most c.loop-tick.tick c.loop-tick.told c.args.wave.now c.loop-tick.wave c.loop-tick.messages.items _
+    walked_news _ c.args.span.from c.args.most c.loop-tick.tick c.loop-tick.told c.loop-tick.latest c.loop-tick.messages.items _
     c.loop-tick.invariant.walked told
     ∙ ap (λ n. cond (n == c.args.span.from) []
-    (news_of (changes_between (continued c.args.wave.now c.args.span.from (shown c.args.net.now c.args.read.now)) c.args.span.from n) n)) (sym is))
+    (news_of (changes_between (continued (always c.args.last) c.args.span.from (shown c.args.net.now c.args.read.now)) c.args.span.from n) n)) (sym is))
     c.tell_up_to-2.ensures.to c.tell_up_to-2.ensures.messages

@@ -6,7 +6,7 @@ use Rattle.kernel_runs.proofs.Passes.{all_less}
 use Rattle.kernel_runs.proofs.sweeps.known_of.Goals as goal
 
 pub loop-net-preserved : goal.loop-net-preserved
-loop-net-preserved c =
+loop-net-preserved g c =
     let state = c.args.kernel.now.state in
     record {
       within = omega (arith, c.loop-net.invariant.within, c.min-known.ensures);
@@ -16,5 +16,5 @@ loop-net-preserved c =
     }
 
 pub returns-clause-each : goal.returns-clause-each
-returns-clause-each c =
+returns-clause-each g c =
     rw (← take_all c.loop-net.net-index c.args.nets.now (omega (arith, c.loop-net-test.false))) c.loop-net.invariant.each

@@ -6,7 +6,7 @@ use Rattle.kernel_runs.proofs.Streamed.{least_within}
 use Rattle.kernel_runs.proofs.sweeps.pass.Goals as goal
 
 pub loop-segment-preserved : goal.loop-segment-preserved
-loop-segment-preserved c =
+loop-segment-preserved g c =
     let start = c.args.kernel.now in
     let order = c.args.order.now in
     let begin = c.loop-segment.begin in
@@ -29,13 +29,13 @@ loop-segment-preserved c =
     }
 
 pub returns-clause-raises : goal.returns-clause-raises
-returns-clause-raises c =
+returns-clause-raises g c =
     let so_far = c.loop-segment.invariant in
     covered so_far.goes c.args.order.now c.args.segments.now c.loop-segment.begin c.loop-segment.segment-index
     (omega (arith, c.loop-segment-test.false)) c.requires.all so_far.farther so_far.left
 
 pub returns-clause-rises : goal.returns-clause-rises
-returns-clause-rises c =
+returns-clause-rises g c =
     let start = c.args.kernel.now in
     let so_far = c.loop-segment.invariant in
     rises_by_delay start.circuit start.end _ _ (c.is_failed.ensures.circuit c.requires.running)

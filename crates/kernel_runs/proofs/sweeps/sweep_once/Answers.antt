@@ -4,7 +4,7 @@ use Rattle.cmb_kernel.specs.Sweeps.{EventsLead}
 use Rattle.kernel_runs.proofs.sweeps.sweep_once.Goals as goal
 
 pub returns-in-Ok-clause-goes : goal.returns-in-Ok-clause-goes
-returns-in-Ok-clause-goes c =
+returns-in-Ok-clause-goes g c =
     let start = c.args.kernel.now in
     let outcome = c.in-Ok.ensures.outcome in
     let state = sym (ap (λ (k : KernelView). k.state) outcome.ok) in
@@ -19,4 +19,4 @@ returns-in-Ok-clause-goes c =
     }
 
 pub returns-in-Ok-clause-farther : goal.returns-in-Ok-clause-farther
-returns-in-Ok-clause-farther c = c.in-Ok.ensures.reaches.farther
+returns-in-Ok-clause-farther g c = c.in-Ok.ensures.reaches.farther

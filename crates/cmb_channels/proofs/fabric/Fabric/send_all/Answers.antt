@@ -25,7 +25,8 @@ loop-message-init g c = record {
 
 pub loop-message-preserved : goal.loop-message-preserved
 loop-message-preserved g c = record {
-  lists = sent_more c.args.net c.loop-message.message-index _ _ c.args.messages.now _ _ _ _ (omega arith) c.loop-message.invariant.sources c.loop-message.invariant.lists c.in_ok-send.ensures.ok;
+  lists = sent_more c.args.net c.loop-message.message-index _ _ c.args.messages.now _ _ _ _ (omega arith) c.loop-message.invariant.sources c.loop-message.invariant.lists
+      (c.in_ok-send.ensures.ok ∙ ap (λ m. sent c.args.net (m ∷ []) (g.Self.Fabric.sources c.loop-message.self) (g.Self.Fabric.lists c.loop-message.self)) (c.message.ensures ∙ c.message-item.is));
   pins = c.in_ok-send.ensures.pins ∙ c.loop-message.invariant.pins;
   sources = c.in_ok-send.ensures.sources ∙ c.loop-message.invariant.sources;
   nets = c.in_ok-send.ensures.nets ∙ c.loop-message.invariant.nets;

@@ -19,15 +19,15 @@ of_net-requires g c =
 pub received-requires-clause-running : goal.received-requires-clause-running
 received-requires-clause-running g c =
     let all = c.self.invariant (rw (← c.self.view_is) at c.requires.running) in
-    (runs_at all c.pin_net-net.result c.of_net.result.now c.of_net.ensures).runs
+    (runs_at all c.pin_net-net.result c.of_net.result c.of_net.ensures).runs
 
 pub received-requires-clause-place : goal.received-requires-clause-place
 received-requires-clause-place g c =
     let all = c.self.invariant (rw (← c.self.view_is) at c.requires.running) in
     let place = (place_is c.self.inside.design.now.circuit c.args.pin c.pin_net-net.result c.pin.result (rw (← c.self.view_is) at c.requires.pin)
     c.pin_net-net.ensures.net c.pin.ensures.pin).1 in
-    subst (λ at. at < length c.of_net.result.now.state.received) (sym place)
-    (place_within all c.args.pin c.pin_net-net.result c.of_net.result.now (rw (← c.self.view_is) at c.requires.pin)
+    subst (λ at. at < length c.of_net.result.state.received) (sym place)
+    (place_within all c.args.pin c.pin_net-net.result c.of_net.result (rw (← c.self.view_is) at c.requires.pin)
     c.pin_net-net.ensures.net c.of_net.ensures)
 
 pub returns-clause-received : goal.returns-clause-received
@@ -36,11 +36,11 @@ returns-clause-received g c =
     let place = (place_is c.self.inside.design.now.circuit c.args.pin c.pin_net-net.result c.pin.result (rw (← c.self.view_is) at c.requires.pin)
     c.pin_net-net.ensures.net c.pin.ensures.pin).1 in
     rw (← c.self.view_is)
-    (received_is all c.args.pin c.pin_net-net.result _ c.received.result c.of_net.result.now c.pin_net-net.ensures.net place
+    (received_is all c.args.pin c.pin_net-net.result _ c.received.result c.of_net.result c.pin_net-net.ensures.net place
     c.of_net.ensures c.received.ensures)
 
 pub returns-clause-within : goal.returns-clause-within
 returns-clause-within g c =
     let all = c.self.invariant (rw (← c.self.view_is) at c.requires.running) in
     rw (← c.self.view_is)
-    (received_in_time all c.pin_net-net.result _ c.received.result c.of_net.result.now c.of_net.ensures c.received.ensures)
+    (received_in_time all c.pin_net-net.result _ c.received.result c.of_net.result c.of_net.ensures c.received.ensures)

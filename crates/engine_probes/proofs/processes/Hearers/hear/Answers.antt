@@ -9,13 +9,13 @@ use Rattle.engine_probes.proofs.processes.Hearers.hear.Goals as goal
 
 pub receive-requires-clause-running : goal.receive-requires-clause-running
 receive-requires-clause-running c = λ process at.
-    let runs : c.of_net-process.result.now.failed ≡ false = search rules in
-    let same = same_Some process c.of_net-process.result.now (sym at ∙ c.of_net-process.ensures) in
+    let runs : c.of_net-process.result.failed ≡ false = search rules in
+    let same = same_Some process c.of_net-process.result (sym at ∙ c.of_net-process.ensures) in
     ap (λ (p : ProcessView). p.failed) same ∙ runs
 
 pub receive-requires-clause-can_hear : goal.receive-requires-clause-can_hear
 receive-requires-clause-can_hear c = λ process at.
-    let mine = c.of_net-process.result.now in
+    let mine = c.of_net-process.result in
     let runs : mine.failed ≡ false = search rules in
     let same = same_Some process mine (sym at ∙ c.of_net-process.ensures) in
     let end = c.args.self.now.ends mine c.of_net-process.ensures in
@@ -26,7 +26,7 @@ receive-requires-clause-can_hear c = λ process at.
 pub invariant_of-self-2 : goal.invariant_of-self-2
 invariant_of-self-2 c =
     let old = c.args.self.now in
-    let mine = c.of_net-process.result.now in
+    let mine = c.of_net-process.result in
     let size = length_among old.processes c.receive.new.self old.net (Changes c.args.change) c.receive.result mine
     c.of_net-process.ensures c.receive.ensures.ok c.receive.ensures.err in
     record {
