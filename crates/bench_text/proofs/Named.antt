@@ -1,5 +1,6 @@
 -- The names of definitions, one after another.
-use Rattle.std.proofs.Common.{◌≡◌, [], ℕ, ◌+◌, Bool, true, false, cond, List, ◌∷◌, ◌++◌, take, drop, length, get_or, position, bytes_eq, Vec, Global, ◌<◌, Some, option_map, Result, Ok, Err, append_assoc, refl, sym, ap, ◌∙◌}
+use Rattle.std.proofs.Common.{◌≡◌, [], ℕ, ◌+◌, Bool, true, false, cond, List, ◌∷◌, ◌++◌, take, drop, length, get_or, position, bytes_eq, ◌<◌, Some, option_map, Result, Ok, Err, append_assoc, refl, sym, ap, ◌∙◌}
+use Rattle.smallvec.specs.SmallVec.{SmallVec}
 use Rattle.std.specs.List.{find, enumerate_from, filter_map}
 use Rattle.std.specs.Option.{is_some}
 use Rattle.std.proofs.lemmas.List.{at_drop_more, take_at, length_push, map_push, append-nil}
@@ -63,13 +64,13 @@ module _ (names : List (List ℕ)) (lines : List (ℕ × code.Statement)) (i : �
       ∙ ap (λ said. left ((item.0, said) ∷ drop (i + 1) lines)) says
 
   -- a name that is defined already
-  pub named_from-fault : (name : Bor (List ℕ)) (part : Part) (pins : Vec (Bor (List ℕ)) Global) → item.1 ≡ Defines name part pins →
+  pub named_from-fault : (name : Bor (List ℕ)) (part : Part) (pins : SmallVec (Bor (List ℕ))) → item.1 ≡ Defines name part pins →
       is_some (position (bytes_eq name.now) names) ≡ true → left (drop i lines) ≡ Err (DefinedTwice item.0)
   named_from-fault name part pins says found =
       next _ says ∙ rw (sym (is_some-position (bytes_eq name.now) names) ∙ found) refl
 
   -- a new name
-  pub named_from-name : (name : Bor (List ℕ)) (part : Part) (pins : Vec (Bor (List ℕ)) Global) → item.1 ≡ Defines name part pins →
+  pub named_from-name : (name : Bor (List ℕ)) (part : Part) (pins : SmallVec (Bor (List ℕ))) → item.1 ≡ Defines name part pins →
       is_some (position (bytes_eq name.now) names) ≡ false →
       named_from (names ++ name.now ∷ []) (filter_map definition_in (seen_lines (drop (i + 1) lines))) ≡ left (drop i lines)
   named_from-name name part pins says found =

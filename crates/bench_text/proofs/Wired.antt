@@ -1,5 +1,6 @@
 -- The wiring of lines, one after another.
-use Rattle.std.proofs.Common.{◌≡◌, [], ℕ, ◌+◌, ◌<◌, not, Bool, true, false, cond, ltb, List, ◌∷◌, ◌++◌, map, length, get_or, drop, Vec, Global, position, Option, Some, None, option_map, Result, Ok, Err, bytes_eq, append_assoc, refl, sym, ap, ◌∙◌}
+use Rattle.std.proofs.Common.{◌≡◌, [], ℕ, ◌+◌, ◌<◌, not, Bool, true, false, cond, ltb, List, ◌∷◌, ◌++◌, map, length, get_or, drop, position, Option, Some, None, option_map, Result, Ok, Err, bytes_eq, append_assoc, refl, sym, ap, ◌∙◌}
+use Rattle.smallvec.specs.SmallVec.{SmallVec}
 use Rattle.std.specs.List.{flat_map}
 use Rattle.std.specs.Option.{option_or, ok_or}
 use Rattle.std.proofs.lemmas.List.Folds.{find-append}
@@ -96,7 +97,7 @@ module _ (names : List (List ℕ)) (nets : List Net) (outputs : List ℕ) (lines
       ∙ ap (λ said. left ((item.0, said) ∷ drop (i + 1) lines)) says
 
   -- a pin of a net is the first that has no number
-  pub wired_from-fault : (name : Bor (List ℕ)) (part : Part) (pins : Vec (Bor (List ℕ)) Global) (slice : List (Bor (List ℕ))) (fault : BenchFault) →
+  pub wired_from-fault : (name : Bor (List ℕ)) (part : Part) (pins : SmallVec (Bor (List ℕ))) (slice : List (Bor (List ℕ))) (fault : BenchFault) →
       item.1 ≡ Defines name part pins → slice ≡ pins.items → Err fault ≡ numbers_from names item.0 [] (seen_names slice) →
       left (drop i lines) ≡ Err fault
   wired_from-fault name part pins slice fault says same got =
@@ -105,7 +106,7 @@ module _ (names : List (List ℕ)) (nets : List Net) (outputs : List ℕ) (lines
       (unless-Err _ _ fault (got ∙ ap (λ slice. numbers_from names item.0 [] (seen_names slice)) same))
 
   -- one more net
-  pub wired_from-net : (name : Bor (List ℕ)) (pins : Vec (Bor (List ℕ)) Global) (slice : List (Bor (List ℕ))) (net : Net) →
+  pub wired_from-net : (name : Bor (List ℕ)) (pins : SmallVec (Bor (List ℕ))) (slice : List (Bor (List ℕ))) (net : Net) →
       item.1 ≡ Defines name net.part pins → slice ≡ pins.items → Ok net.pins.items ≡ numbers_from names item.0 [] (seen_names slice) →
       wired_from names (map seen_net (nets ++ net ∷ [])) outputs (seen_lines (drop (i + 1) lines)) ≡ left (drop i lines)
   wired_from-net name pins slice net says same got =

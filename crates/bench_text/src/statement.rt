@@ -13,8 +13,12 @@ use crate::fault::BenchFault;
 use crate::token::{Token, Tokens, tokens_of};
 use logic3::GateKind;
 use netlist::Part;
+use smallvec::SmallVec;
 use std::alloc::{AllocError, Global};
 use texts::is_plain;
+
+/// The names at the pins of a net. Most nets have at most two, which need no allocation.
+type Pins<'a> = SmallVec<&'a [u8], 2>;
 
 /// What a line says.
 #[derive(Drop)]
@@ -23,7 +27,7 @@ pub(crate) enum Statement<'a> {
     Defines {
         name: &'a [u8],
         part: Part,
-        pins: Vec<&'a [u8]>,
+        pins: Pins<'a>,
     },
     NamesOutput {
         name: &'a [u8],
@@ -40,7 +44,7 @@ enum Form<'a> {
     Assignment {
         name: &'a [u8],
         keyword: &'a [u8],
-        pins: Vec<&'a [u8]>,
+        pins: Pins<'a>,
     },
 }
 
@@ -87,7 +91,7 @@ fn port<'a>(
         Ok(Statement::Defines {
             name,
             part: Part::Input,
-            pins: Vec::new(alloc),
+            pins: SmallVec::new(alloc),
         })
     } else if is_keyword(b"OUTPUT", keyword) {
         check_names(line, name, &[])?;
@@ -102,7 +106,7 @@ fn assignment<'a>(
     line: u64,
     name: &'a [u8],
     keyword: &'a [u8],
-    pins: Vec<&'a [u8]>,
+    pins: Pins<'a>,
 ) -> Result<Statement<'a>, BenchFault>
     ensures { result_map_both seen_statement (λ fault. fault) result
         ≡ statement_of_form line (Some (assignment name.now keyword.now (seen_names pins.entry.items))) }
@@ -115,7 +119,7 @@ fn assignment<'a>(
 fn definition_of<'a>(
     line: u64,
     name: &'a [u8],
-    pins: Vec<&'a [u8]>,
+    pins: Pins<'a>,
     part: Option<Part>,
 ) -> Result<Statement<'a>, BenchFault>
     ensures { result_map_both seen_statement (λ fault. fault) result
@@ -265,10 +269,10 @@ fn assignment_after<'a>(
 }
 
 /// Returns the names up to the closing mark: an empty list, or names with a comma between each two.
-fn names_of<'a>(alloc: Global, mut tokens: Tokens<'a>) -> Result<Option<Vec<&'a [u8]>>, AllocError>
+fn names_of<'a>(alloc: Global, mut tokens: Tokens<'a>) -> Result<Option<Pins<'a>>, AllocError>
     ensures { IfOk result (λ names. option_map (λ names. seen_names names.items) names ≡ names_of tokens.entry) }
 {
-    let mut names = Vec::new(alloc);
+    let mut names = SmallVec::new(alloc);
     match tokens.next() {
         Some(Token::Right) => Ok(tokens.next().is_none().then_some(names)),
         Some(Token::Word(name)) => {
@@ -281,9 +285,9 @@ fn names_of<'a>(alloc: Global, mut tokens: Tokens<'a>) -> Result<Option<Vec<&'a 
 
 /// Returns these names and those that follow them, each after a comma, up to the closing mark.
 fn more_names<'a>(
-    mut names: Vec<&'a [u8]>,
+    mut names: Pins<'a>,
     mut tokens: Tokens<'a>,
-) -> Result<Option<Vec<&'a [u8]>>, AllocError>
+) -> Result<Option<Pins<'a>>, AllocError>
     ensures { IfOk result (λ all. option_map (λ names. seen_names names.items) all
         ≡ option_map (λ more. seen_names names.entry.items ++ more) (more_names tokens.entry)) }
 {

@@ -12,6 +12,9 @@ use std::marker::Model;
 /// The ticks that fit are below this number, 2^30. So are those of any run.
 const TICKS: u64 = 1 << 30;
 
+// The values of changes by their numbers. No change has the last number, which is that of null messages.
+static VALUES: [Value; 4] = [Value::Zero, Value::One, Value::Unknown, Value::Unknown];
+
 /// A message in four bytes: four times its tick, and a number for the value of a change, or for a null
 /// message.
 #[derive(Clone, Copy, Debug, Default)]
@@ -89,6 +92,13 @@ impl Packed {
         Message::Change(Change { tick, value })
     }
 
+    /// Returns the tick of the change, or up to which the net is known by a null message.
+    pub fn tick(&self) -> u64
+        ensures { result ≡ tick_said self.now }
+    {
+        u64::from(self.code) / 4
+    }
+
     /// Returns the change, unless this is a null message.
     pub fn change(&self) -> Option<PackedChange>
         ensures { result ≡ change_said self.now }
@@ -154,10 +164,6 @@ impl PackedChange {
     pub fn value(&self) -> Value
         ensures { result ≡ self.now.value }
     {
-        match self.code % 4 {
-            0 => Value::Zero,
-            1 => Value::One,
-            _ => Value::Unknown,
-        }
+        VALUES[(self.code % 4) as usize]
     }
 }

@@ -1,5 +1,5 @@
 -- The pins that nets feed.
-use Rattle.std.proofs.Common.{◌≡◌, ℕ, zero, suc, ◌+◌, ◌<◌, ◌≤◌, ◌==◌, Bool, true, false, cond, List, [], ◌∷◌, ◌++◌, map, length, take, replicate, Vec, Some, slice_get, slice_index_or, slice_set, All, refl, ap, sym, ◌∙◌, arith, zero-add}
+use Rattle.std.proofs.Common.{◌≡◌, ℕ, zero, suc, ◌+◌, ◌<◌, ◌≤◌, ◌==◌, Bool, true, false, cond, List, [], ◌∷◌, ◌++◌, map, length, take, replicate, Some, slice_get, slice_index_or, slice_set, All, refl, ap, sym, ◌∙◌, arith, zero-add}
 use Rattle.std.proofs.lemmas.List.{length-map, length-set, map-append, get_or-map, get_or-set_same, get_or-set_other, take_more, length-take-le, map-set}
 use Rattle.std.proofs.lemmas.Option.{slice_get_within, get_or_from_slice_get}
 use Rattle.std.proofs.lemmas.List.FromFn.{length-map-range_with_len, get_or-map-range_with_len, fill_by_all}
@@ -125,27 +125,26 @@ take-source sources pin source e =
     take_more sources pin source (slice_get_within sources pin source e)
     ∙ ap (λ n. take pin sources ++ n ∷ []) (get_or_from_slice_get sources pin source source e)
 
-module _ {A : Type 0} where
+module _ {V : Type 0} (items : V → List ℕ) where
   -- the pins that are stored for each net
-  abbrev pins_in : List (Vec ℕ A) → List (List ℕ)
-  pins_in fed = map (λ pins. pins.items) fed
+  abbrev pins_in : List V → List (List ℕ)
+  pins_in fed = map items fed
 
-  pins_in-at : (fed : List (Vec ℕ A)) (net : ℕ) (pins : Vec ℕ A) → net < length fed → pins ≡ slice_index_or fed net pins →
-      slice_index_or (pins_in fed) net [] ≡ pins.items
-  pins_in-at fed net pins within read =
-      get_or-map (λ (pins : Vec ℕ A). pins.items) fed net pins [] within ∙ ap (λ (pins : Vec ℕ A). pins.items) (sym read)
+  pins_in-at : (fed : List V) (net : ℕ) (pins : V) → net < length fed → pins ≡ slice_index_or fed net pins →
+      slice_index_or (pins_in fed) net [] ≡ items pins
+  pins_in-at fed net pins within read = get_or-map items fed net pins [] within ∙ ap items (sym read)
 
   -- a pin stored for its source
-  pub stored_more : (fed : List (Vec ℕ A)) (nets pin source : ℕ) (sources : List ℕ) (old new : Vec ℕ A) →
+  pub stored_more : (fed : List V) (nets pin source : ℕ) (sources : List ℕ) (old new : V) →
       pins_in fed ≡ all_fed nets (take pin sources) → slice_get sources pin ≡ Some source → source < nets →
-      old ≡ slice_index_or fed source old → new.items ≡ old.items ++ pin ∷ [] →
+      old ≡ slice_index_or fed source old → items new ≡ items old ++ pin ∷ [] →
       pins_in (slice_set fed source new) ≡ all_fed nets (take (pin + 1) sources)
   stored_more fed nets pin source sources old new e at below read more =
-      let long = length-map fed (λ (pins : Vec ℕ A). pins.items) in
+      let long = length-map fed items in
       let within : source < length fed = omega (arith, below, long, ap length e, length-all_fed nets (take pin sources)) in
       let stands = slice_get_within sources pin source at in
       let done : length (take pin sources) ≡ pin = length-take-le pin sources (omega arith) in
-      map-set (λ (pins : Vec ℕ A). pins.items) fed source new
+      map-set items fed source new
       ∙ ap (λ pins. slice_set (pins_in fed) source pins)
       (more ∙ ap (λ pins. pins ++ pin ∷ []) (sym (pins_in-at fed source old within read))
       ∙ ap (λ n. slice_index_or (pins_in fed) source [] ++ n ∷ []) (sym done))

@@ -2,6 +2,7 @@ ghost use Rattle.std.specs.Prelude.{◌≡◌, ◌<◌, ◌≤◌, [], ◌∷◌
 ghost use Rattle.flat_lists.specs.Parts.{parts, AreBounds};
 
 use std::alloc::{AllocError, Global};
+use std::convert::AsSlice;
 use std::marker::Model;
 
 /// Lists, numbered from 0, whose items are in one block of memory: one list after another.
@@ -44,8 +45,8 @@ impl<T: Copy> FlatLists<T> {
     }
 
     /// Returns copies of these lists, in order.
-    pub fn of_lists(alloc: Global, lists: &[Vec<T>]) -> Result<FlatLists<T>, AllocError>
-        ensures { IfOk result (λ flat. flat ≡ map (λ v. v.items) lists.now) }
+    pub fn of_lists<L: AsSlice<T>>(alloc: Global, lists: &[L]) -> Result<FlatLists<T>, AllocError>
+        ensures { IfOk result (λ flat. flat ≡ map L.items lists.now) }
     {
         let mut flat = FlatLists::with_capacity(alloc, lists.len(), 0)?;
         for list in lists {

@@ -1,18 +1,17 @@
 -- A waveform that is seen later, by the delay of a wire.
-use Rattle.std.proofs.Common.{◌≡◌, ℕ, zero, suc, ◌+◌, ◌-◌, ◌<◌, ◌≤◌, nat_le, nat_lt, Bool, true, false, cond, List, [], ◌∷◌, ◌++◌, length, take, drop, Option, None, Some, slice_get, refl, ap, sym, ◌∙◌, arith, leb-true, ltb-true, ltb-false, ◌⊎◌, inl, inr}
-use Rattle.std.specs.List.{prefix_len}
+use Rattle.std.proofs.Common.{◌≡◌, ℕ, ◌+◌, ◌-◌, ◌<◌, ◌≤◌, nat_le, nat_lt, Bool, true, false, cond, List, [], ◌∷◌, ◌++◌, length, Option, None, Some, slice_get, refl, ap, sym, ◌∙◌, arith, leb-true, ltb-true, ltb-false, ◌⊎◌, inl, inr, one-add}
 use Rattle.std.specs.Option.{option_map, option_map_or}
 use Rattle.std.proofs.lemmas.Bool.{cases_lt, le-leb, lt-leb}
-use Rattle.std.proofs.lemmas.List.{drop-map, get_or-map, length-map, map-append}
+use Rattle.std.proofs.lemmas.List.{get_or-map, length-map, map-append}
 use Rattle.std.proofs.lemmas.Option.{same_Some}
 use Rattle.logic3.specs.declared.value.Value.{Value}
 use Rattle.logic3.specs.declared.value.Value.TheVariants.{Unknown}
 use Rattle.logic3.specs.declared.change.Change.{Change}
 use Rattle.logic3.specs.Rising.{TicksRise}
-use Rattle.logic3.specs.Wave.{Wave, value_after, value_at, value_in_the_end}
+use Rattle.logic3.specs.Wave.{Wave, value_after, value_at}
 use Rattle.design.specs.Equations.{later}
 use Rattle.gate_process.specs.Knowledge.{Knowledge, delayed, delayed_changes, unknown_from, as_known}
-use Rattle.gate_process.proofs.Passed.{due_by}
+use Rattle.gate_process.specs.LaterChanges.{due_by, passed_value, passed_left}
 
 -- a change, so many ticks later
 abbrev pub delayed_change : ℕ → Change → Change
@@ -97,10 +96,6 @@ pub none_delayed : (wire : ℕ) (changes : List Change) → slice_get changes 0 
 none_delayed wire [] is = refl
 none_delayed wire (change ∷ changes) is = cc
 
--- what is left of them is what is left of the delayed ones
-pub rest_delayed : (wire count : ℕ) (changes : List Change) → delayed_changes wire (drop count changes) ≡ drop count (delayed_changes wire changes)
-rest_delayed wire count changes = sym (drop-map (delayed_change wire) count changes)
-
 -- X at the end is seen later, too
 pub delayed_with : (wire frontier : ℕ) (changes : List Change) →
     delayed_changes wire (changes ++ unknown_from (Some frontier)) ≡ delayed_changes wire changes ++ unknown_from (Some (frontier + wire))
@@ -123,17 +118,31 @@ undelayed (first ∷ changes) =
     let here : first.tick + 0 ≡ first.tick = omega arith in
     λ i. record { tick = here i; value = first.value } ∷ undelayed changes i
 
--- as many are due
-pub due_delayed : (wire tick : ℕ) (changes : List Change) →
-    prefix_len (λ (change : Change). nat_le (change.tick + wire) tick) changes ≡ due_by tick (delayed_changes wire changes)
-due_delayed wire tick [] = refl
-due_delayed wire tick (first ∷ changes) =
-    ap (λ n. cond (nat_le (first.tick + wire) tick) (1 + n) 0) (due_delayed wire tick changes)
+-- ---- a walk along the changes of a pin
 
--- and they end in the same value
-pub last_delayed : (wire : ℕ) (before : Value) (changes : List Change) (count : ℕ) →
-    value_in_the_end before (take count (delayed_changes wire changes)) ≡ value_in_the_end before (take count changes)
-last_delayed wire before [] zero = refl
-last_delayed wire before [] (suc count) = refl
-last_delayed wire before (first ∷ changes) zero = refl
-last_delayed wire before (first ∷ changes) (suc count) = last_delayed wire first.value changes count
+-- those that are left come to what all come to
+pub record Passes (wire tick : ℕ) (value : Value) (left : List Change) (before : Value) (changes : List Change) : Type 0 where
+  pub value_is : passed_value wire tick value left ≡ passed_value wire tick before changes
+  pub left_is : passed_left wire tick left ≡ passed_left wire tick changes
+
+module _ (wire tick : ℕ) (value : Value) (first : Change) (others : List Change) where
+  pub passes_one : (before : Value) (changes : List Change) → nat_le (first.tick + wire) tick ≡ true →
+      Passes wire tick value (first ∷ others) before changes → Passes wire tick first.value others before changes
+  passes_one before changes due passes =
+      let one : passed_value wire tick value (first ∷ others) ≡ passed_value wire tick first.value others = rw (due, one-add) refl in
+      let rest : passed_left wire tick (first ∷ others) ≡ passed_left wire tick others = rw (due, one-add) refl in
+      record { value_is = sym one ∙ passes.value_is; left_is = sym rest ∙ passes.left_is }
+
+  pub value_stops : nat_le (first.tick + wire) tick ≡ false → passed_value wire tick value (first ∷ others) ≡ value
+  value_stops late = rw late refl
+
+  pub left_stops : nat_le (first.tick + wire) tick ≡ false → passed_left wire tick (first ∷ others) ≡ delayed_changes wire (first ∷ others)
+  left_stops late = rw late refl
+
+pub value_at_end : (wire tick : ℕ) (value : Value) (left : List Change) → length left ≡ 0 → passed_value wire tick value left ≡ value
+value_at_end wire tick value [] none = refl
+value_at_end wire tick value (first ∷ others) none = absurd (omega (arith, none))
+
+pub left_at_end : (wire tick : ℕ) (left : List Change) → length left ≡ 0 → passed_left wire tick left ≡ delayed_changes wire left
+left_at_end wire tick [] none = refl
+left_at_end wire tick (first ∷ others) none = absurd (omega (arith, none))

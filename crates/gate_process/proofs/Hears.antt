@@ -10,11 +10,18 @@ use Rattle.timing_text.specs.Ranges.{most_ticks}
 use Rattle.cmb_channels.specs.declared.message.Message.{Message}
 use Rattle.cmb_channels.specs.declared.message.Message.TheVariants.{Change as Changes, Null}
 use Rattle.cmb_channels.specs.Kinds.{is_change}
+use Rattle.cmb_channels.specs.Logs.{tick_said}
+use Rattle.cmb_channels.specs.Packed.{packed_ticks}
 use Rattle.gate_process.specs.Knowledge.{Knowledge, told, told_all, known_after, wanted, Continues, ContinueAll}
 
 pub known_after-told : (known : Knowledge) (message : Message) → known_after message ≡ (told known message).frontier
 known_after-told known (Changes change) = refl
 known_after-told known (Null bound) = refl
+
+-- one that leaves a pin known to no more than all ticks of a run fits in four bytes
+pub told_fits : (known : Knowledge) (message : Message) → (told known message).frontier ≤ most_ticks + 1 → tick_said message < packed_ticks
+told_fits known (Changes change) within = omega (arith, within)
+told_fits known (Null bound) within = omega (arith, within)
 
 -- ---- how many it takes
 

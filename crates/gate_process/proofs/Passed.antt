@@ -1,7 +1,6 @@
 -- The changes that are left of a list whose ticks rise, once those up to a tick are passed.
 use Rattle.std.proofs.Common.{◌≡◌, ℕ, zero, suc, ◌+◌, ◌<◌, ◌≤◌, nat_le, Bool, true, false, cond, List, [], ◌∷◌, ◌++◌, length, All, take, drop, refl, ap, sym, ◌∙◌, arith, leb-true, leb-false, one-add, Option, None, Some, slice_get}
 use Rattle.std.specs.Option.{option_map, unwrap_or}
-use Rattle.std.specs.List.{prefix_len}
 use Rattle.std.proofs.lemmas.Bool.{le-leb, lt-leb}
 use Rattle.std.proofs.lemmas.List.Elements.{All-head, All-tail, All-append}
 use Rattle.std.proofs.lemmas.List.Kept.{AllPairs-cons}
@@ -11,11 +10,7 @@ use Rattle.logic3.specs.declared.change.Change.{Change}
 use Rattle.logic3.specs.Rising.{TicksRise}
 use Rattle.logic3.specs.Wave.{value_after, value_in_the_end}
 use Rattle.gate_process.specs.Knowledge.{unknown_from}
-use Rattle.gate_process.specs.LaterChanges.{first_tick}
-
--- how many changes come first that aren't after a tick
-abbrev pub due_by : ℕ → List Change → ℕ
-due_by tick changes = prefix_len (λ (change : Change). nat_le change.tick tick) changes
+use Rattle.gate_process.specs.LaterChanges.{first_tick, due_by}
 
 rise_tail : (first : Change) (changes : List Change) → TicksRise (first ∷ changes) → TicksRise changes
 rise_tail first changes rise i j d low inside = rise (suc i) (suc j) d (omega arith) (omega arith)

@@ -1,13 +1,15 @@
 //! Changes as processes keep them.
-ghost use Rattle.std.specs.Prelude.{◌≡◌, ◌==◌, ◌+◌, ◌<◌, ◌≤◌, [], ◌∷◌, ◌++◌, length, drop, nat_le, nat_lt, OnOk, OnErr};
+ghost use Rattle.std.specs.Prelude.{◌≡◌, ◌==◌, ◌+◌, ◌<◌, ◌≤◌, [], ◌∷◌, ◌++◌, length, drop, nat_lt, OnOk, OnErr};
 ghost use Rattle.std.specs.List.{prefix_len};
 ghost use Rattle.logic3.specs.declared.change.Change.{Change};
 ghost use Rattle.logic3.specs.Rising.{TicksRise};
 ghost use Rattle.logic3.specs.Wave.{value_in_the_end};
-ghost use Rattle.cmb_channels.specs.Packed.{packed_ticks, changes_said};
+ghost use Rattle.cmb_channels.specs.Packed.{changes_said};
+ghost use Rattle.gate_process.specs.Knowledge.{delayed_changes};
+ghost use Rattle.gate_process.specs.LaterChanges.{passed_left, passed_value};
 
 use cmb_channels::{Packed, PackedChange};
-use logic3::{Change, Value};
+use logic3::Value;
 use smallvec::SmallVec;
 use std::alloc::{AllocError, Global};
 use std::marker::Model;
@@ -63,12 +65,11 @@ impl KeptChanges {
     }
 
     /// Adds a change at the end. An `AllocError` changes nothing.
-    pub fn push(&mut self, change: Change) -> Result<(), AllocError>
-        requires { change.tick < packed_ticks }
+    pub fn push(&mut self, change: PackedChange) -> Result<(), AllocError>
         ensures ok { OnOk result (self.new ≡ self.old ++ change ∷ []) }
         ensures err { OnErr result (self.new ≡ self.old) }
     {
-        self.changes.push(PackedChange::of(change))?;
+        self.changes.push(change)?;
         Ok(())
     }
 
@@ -143,13 +144,26 @@ pub fn kept_below(changes: &[PackedChange], tick: u64) -> usize
         .count()
 }
 
-/// Returns the number of leading changes that aren't seen after a tick, in as many steps.
-pub fn kept_due(changes: &[PackedChange], wire: u32, tick: u64) -> usize
-    ensures count { result ≡ prefix_len (λ (change : Change). nat_le (change.tick + wire) tick) changes.now }
-    ensures within { result ≤ length changes.now }
+/// Passes the leading changes that aren't seen after a tick, later by the delay of a wire, in as many steps.
+/// Returns the value of the last of them, or the value before them if there is none, and the changes that are
+/// left.
+pub fn pass_due(
+    changes: &[PackedChange],
+    wire: u32,
+    before: Value,
+    tick: u64,
+) -> (Value, &[PackedChange])
+    ensures value { result.0 ≡ passed_value wire tick before changes.now }
+    ensures left { delayed_changes wire result.1.now ≡ passed_left wire tick changes.now }
 {
-    changes
-        .iter()
-        .take_while(|change| change.seen_tick(wire) <= tick)
-        .count()
+    let mut value = before;
+    let mut left = changes;
+    while let Some((first, others)) = left.split_first() {
+        if first.seen_tick(wire) > tick {
+            break;
+        }
+        value = first.value();
+        left = others;
+    }
+    (value, left)
 }

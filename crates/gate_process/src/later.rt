@@ -1,12 +1,12 @@
 //! The changes that a walk hasn't passed yet.
-ghost use Rattle.std.specs.Prelude.{◌≡◌, take, drop, nat_le, option_map, slice_get};
-ghost use Rattle.std.specs.List.{prefix_len};
+ghost use Rattle.std.specs.Prelude.{◌≡◌, take, drop, option_map, slice_get};
 ghost use Rattle.logic3.specs.declared.change.Change.{Change};
 ghost use Rattle.logic3.specs.Wave.{value_in_the_end};
 ghost use Rattle.gate_process.specs.Knowledge.{delayed_changes};
+ghost use Rattle.gate_process.specs.LaterChanges.{due_by};
 
 use crate::changes::{due_changes, last_value};
-use crate::kept_changes::{kept_due, last_kept};
+use crate::kept_changes::pass_due;
 use cmb_channels::PackedChange;
 use logic3::{Change, Value};
 use std::marker::Model;
@@ -68,9 +68,8 @@ impl<'c> Later<'c> {
     /// Passes the changes up to and including a tick, and returns the value of the last of them, or the value
     /// before them if there is none.
     pub fn pass(&mut self, before: Value, tick: u64) -> Value
-        ensures value { result ≡ value_in_the_end before
-            (take (prefix_len (λ (change : Change). nat_le change.tick tick) self.old) self.old) }
-        ensures left { self.new ≡ drop (prefix_len (λ (change : Change). nat_le change.tick tick) self.old) self.old }
+        ensures value { result ≡ value_in_the_end before (take (due_by tick self.old) self.old) }
+        ensures left { self.new ≡ drop (due_by tick self.old) self.old }
     {
         match self.source {
             Source::Stimuli(changes) => {
@@ -79,9 +78,9 @@ impl<'c> Later<'c> {
                 last_value(before, passed)
             }
             Source::Pin(changes, wire) => {
-                let (passed, left) = changes.split_at(kept_due(changes, wire, tick));
+                let (value, left) = pass_due(changes, wire, before, tick);
                 self.source = Source::Pin(left, wire);
-                last_kept(before, passed)
+                value
             }
         }
     }

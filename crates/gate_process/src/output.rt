@@ -138,7 +138,7 @@ impl<'d, W: KeptWave> Output<'d, W> {
         ensures memory { OnErr result (is_change message ≡ true) }
     {
         let pin = &mut received[place as usize];
-        pin.hear(message)?;
+        pin.hear(Packed::of(message))?;
         pin.keep(self.oldest_asked(place as usize));
         Ok(())
     }

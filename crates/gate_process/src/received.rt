@@ -11,7 +11,7 @@ ghost use Rattle.gate_process.specs.Step.{least_or, signals_of};
 
 use crate::cursor::{Cursor, FEW};
 use crate::kept_changes::{KeptChanges, kept_below, last_kept};
-use cmb_channels::{Message, Waiting};
+use cmb_channels::{Packed, Waiting};
 use logic3::{Summary, Value};
 use smallvec::SmallVec;
 use std::alloc::{AllocError, Global};
@@ -59,7 +59,7 @@ impl Received {
     }
 
     /// Adds a message to what is known. A null message takes no memory. An `AllocError` changes nothing.
-    pub fn hear(&mut self, message: Message) -> Result<(), AllocError>
+    pub fn hear(&mut self, message: Packed) -> Result<(), AllocError>
         requires raises { self.old.frontier < (told self.old message).frontier }
         requires fits { (told self.old message).frontier ≤ most_ticks + 1 }
         requires wave { IsWave (told self.old message).wave }
@@ -67,12 +67,13 @@ impl Received {
         ensures err { OnErr result (self.new ≡ self.old) }
         ensures memory { OnErr result (is_change message ≡ true) }
     {
-        match message {
-            Message::Change(change) => {
+        let tick = message.tick() as u32;
+        match message.change() {
+            Some(change) => {
                 self.changes.push(change)?;
-                self.frontier = change.tick as u32 + 1;
+                self.frontier = tick + 1;
             }
-            Message::Null(bound) => self.frontier = bound as u32,
+            None => self.frontier = tick,
         }
         Ok(())
     }
@@ -89,10 +90,10 @@ impl Received {
             (take (wanted tick self.old.frontier messages.now) messages.now) ≡ true) }
     {
         let mut count = 0;
-        while let Some(message) = messages.get(count) {
-            if u64::from(self.frontier) >= tick {
+        while u64::from(self.frontier) < tick {
+            let Some(message) = messages.packed_at(count) else {
                 break;
-            }
+            };
             self.hear(message)?;
             count += 1;
         }
@@ -101,6 +102,8 @@ impl Received {
 
     /// Forgets the ticks before the oldest that the pin's net still asks of its source, but never the last one
     /// known.
+    // It is called for each pin at each visit of a net, and mostly forgets nothing.
+    #[inline(always)]
     pub fn keep(&mut self, oldest: u64)
         requires { kept_since oldest self.old.frontier ≡ 0 → self.old.wave.before ≡ Unknown }
         ensures { self.new ≡ keeping oldest self.old }

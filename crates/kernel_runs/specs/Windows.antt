@@ -1,5 +1,5 @@
 -- How far past what every net knows a sweep goes.
-use Rattle.std.specs.Prelude.{ℕ, ◌*◌, ◌/◌, nat_lt, if◌then◌else◌, min, max}
+use Rattle.std.specs.Prelude.{ℕ, ◌*◌, ◌/◌, ◌-◌, ◌==◌, nat_lt, if◌then◌else◌, min, max}
 
 -- the most changes that a sweep over few nets should send
 abbrev pub most_sent_by_few : ℕ
@@ -7,7 +7,7 @@ most_sent_by_few = 16_384
 
 -- the most changes that a sweep should send, unless two for each net are more
 abbrev pub most_sent_by_many : ℕ
-most_sent_by_many = 57_344
+most_sent_by_many = 65_536
 
 -- the most changes that a sweep over this number of nets should send: four for each net, within these bounds
 abbrev pub most_sent : ℕ → ℕ
@@ -17,8 +17,13 @@ most_sent nets = max (2 * nets) (max most_sent_by_few (min most_sent_by_many (4 
 abbrev pub widest : ℕ
 widest = 16_777_216
 
--- the width of the next window, after a sweep over a window of this width that sent this number of changes: twice as
--- wide if they are fewer than a quarter of the most that it should send, and half as wide if they are more than the most
-abbrev pub next_width : ℕ → ℕ → ℕ → ℕ
-next_width width sent most =
-    if nat_lt sent (most / 4) then min (width * 2) widest else if nat_lt most sent then max (width / 2) 1 else width
+-- the width of the next window, after a sweep over a window of this width that sent this number of changes, before which
+-- so many ticks were known: as wide after the first one, and else twice as wide if they are fewer than a quarter of the
+-- most that it should send, a quarter narrower if they are more than the most, and half as wide if they are more than
+-- twice as many
+abbrev pub next_width : ℕ → ℕ → ℕ → ℕ → ℕ
+next_width known width sent most =
+    if known == 0 then width
+    else if nat_lt sent (most / 4) then min (width * 2) widest
+    else if nat_lt most (sent / 2) then max (width / 2) 1
+    else if nat_lt most sent then max (width - width / 4) 1 else width

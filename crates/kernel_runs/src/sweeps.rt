@@ -64,7 +64,7 @@ impl Sweeps {
         ensures raises { OnOk result (RaisesLeast kernel.old kernel.new) }
         ensures rises { OnOk result (LeastRises kernel.old kernel.new) }
         ensures width { OnOk result (self.new ≡ record self.old {
-          width = next_width self.old.width (kernel.new.state.counts.changes - kernel.old.state.counts.changes) self.old.most;
+          width = next_width known self.old.width (kernel.new.state.counts.changes - kernel.old.state.counts.changes) self.old.most;
         }) }
     {
         let before = kernel.counts().changes;
@@ -76,7 +76,7 @@ impl Sweeps {
             tick,
         )?;
         let sent = kernel.counts().changes.saturating_sub(before);
-        self.width = next_width(self.width, sent, self.most);
+        self.width = next_width(known, self.width, sent, self.most);
         Ok(())
     }
 }

@@ -6,13 +6,13 @@ ghost use Rattle.std.specs.Prelude.{◌≡◌, ◌+◌, min};
 ghost use Rattle.kernel_runs.specs.Windows.{most_sent, next_width};
 
 /// The width of a run's first window, in ticks.
-pub(crate) const FIRST_WIDTH: u64 = 64;
+pub(crate) const FIRST_WIDTH: u64 = 16;
 
 /// The most changes that a sweep over few nets should send.
 const MOST_SENT_BY_FEW: u64 = 16_384;
 
 /// The most changes that a sweep should send, unless two for each net are more.
-const MOST_SENT_BY_MANY: u64 = 57_344;
+const MOST_SENT_BY_MANY: u64 = 65_536;
 
 /// The greatest width: longer than the longest run.
 const WIDEST: u64 = 16_777_216;
@@ -37,14 +37,19 @@ pub(crate) fn reach(known: u64, width: u64, end: u64) -> u64
 }
 
 /// Returns the width of the next window, after a sweep over one of this width with `sent` changes, if it
-/// should send at most `most`.
-pub(crate) fn next_width(width: u64, sent: u64, most: u64) -> u64
-    ensures { result ≡ next_width width sent most }
+/// should send at most `most`. Before that sweep, `known` ticks were known of every net.
+pub(crate) fn next_width(known: u64, width: u64, sent: u64, most: u64) -> u64
+    ensures { result ≡ next_width known width sent most }
 {
-    if sent < most / 4 {
+    // In the first sweep inputs send all their stimuli, and each net changes from X.
+    if known == 0 {
+        width
+    } else if sent < most / 4 {
         WIDEST.min(width.saturating_mul(2))
-    } else if sent > most {
+    } else if sent / 2 > most {
         1.max(width / 2)
+    } else if sent > most {
+        1.max(width - width / 4)
     } else {
         width
     }

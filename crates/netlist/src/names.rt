@@ -1,14 +1,18 @@
 ghost use Rattle.std.specs.Prelude.{◌≡◌, ◌<◌, ◌^◌, ◌++◌, ◌∷◌, [], OnOk, OnErr, bytes_eq, length, position, slice_get};
 ghost use Rattle.netlist.specs.Names.{IsNames};
 
-use indexmap::IndexSet;
+use indexmap::{Equivalent, IndexSet};
+use smallvec::SmallVec;
 use std::alloc::{AllocError, Global};
 use std::marker::Model;
+
+// Names of so many bytes need no allocation. They fit in the place of a list's pointer, length and capacity.
+const SHORT: usize = 16;
 
 /// Distinct names, numbered from 0 in the order in which they were added.
 #[derive(Debug, Drop)]
 pub struct Names {
-    set: IndexSet<Vec<u8>>,
+    set: IndexSet<SmallVec<u8, SHORT>>,
 }
 
 impl Model for Names {
@@ -52,7 +56,7 @@ impl Names {
     pub fn find(&self, name: &[u8]) -> Option<u32>
         ensures { result ≡ position (bytes_eq name.now) self.now }
     {
-        let index = self.set.get_index_of(name)?;
+        let index = self.set.get_index_of(Spelling { bytes: name })?;
         Some(index as u32)
     }
 
@@ -66,8 +70,31 @@ impl Names {
         ensures ok { OnOk result (self.new ≡ self.old ++ name.now ∷ []) }
         ensures err { OnErr result (self.new ≡ self.old) }
     {
-        let key = Vec::from_slice(*self.set.allocator(), name)?;
+        let key = SmallVec::from_slice(*self.set.allocator(), name)?;
         self.set.insert(key)?;
         Ok(())
+    }
+}
+
+/// What a name is looked up by.
+#[derive(Clone, Copy, PartialEq, Eq, Hash)]
+struct Spelling<'n> {
+    bytes: &'n [u8],
+}
+
+impl<'n> Equivalent<SmallVec<u8, SHORT>> for Spelling<'n> {
+    ghost use Rattle.std.specs.Prelude.{bytes_eq};
+    ghost use Rattle.std.specs.Cmp.Lexicographic.{bytes_decides, nat_list_eq_equiv};
+    ghost use Rattle.std.specs.Hash as fed;
+    ghost use Rattle.std.proofs.Common.{ap};
+
+    ghost equivalent = { λ q k. bytes_eq q.bytes.now k.items };
+
+    ghost respects_hash = { λ q k h. ap (fed.slice fed.u8) ((bytes_decides q.bytes.now k.items).0 h) };
+
+    ghost respects_eq = { λ q x y. nat_list_eq_equiv.congr q.bytes.now x.items y.items };
+
+    fn equivalent(&self, key: &SmallVec<u8, SHORT>) -> bool {
+        self.bytes == key.as_slice()
     }
 }

@@ -59,7 +59,7 @@ pub(crate) fn nothing_given(alloc: Global, netlist: &Netlist) -> Result<Vec<NetG
     ensures given { IfOk result (λ given. map seen_given given.items ≡ given_to_nets netlist.now []) }
     ensures well_formed { IsNetlist netlist.now }
 {
-    let mut given = Vec::new(alloc);
+    let mut given = Vec::with_capacity(alloc, netlist.nets() as usize)?;
     for net in 0..netlist.nets() {
         given.push(NetGiven {
             properties: Properties::none(),

@@ -56,7 +56,7 @@ fn no_changes(alloc: Global, nets: u32) -> Result<Vec<Vec<Change>>, AllocError>
     ensures { IfOk result (λ stimuli.
         map (λ changes. changes.items) stimuli.items ≡ replicate nets []) }
 {
-    let mut stimuli = Vec::new(alloc);
+    let mut stimuli = Vec::with_capacity(alloc, nets as usize)?;
     for _net in 0..nets {
         stimuli.push(Vec::new(alloc))?;
     }

@@ -44,7 +44,7 @@ pub fn read_timings(
     ensures at_once { longest_text < length text.now → result ≡ Err DelayFault.TooLong }
 {
     let given = properties_given(alloc, netlist, text)?;
-    let mut timings = Vec::new(alloc);
+    let mut timings = Vec::with_capacity(alloc, netlist.nets() as usize)?;
     let mut wires = FlatLists::with_capacity(alloc, netlist.nets() as usize, 0)?;
     for net in 0..netlist.nets() {
         let given = &given[net as usize];

@@ -1,5 +1,8 @@
 //! The messages that wait at a pin.
-ghost use Rattle.std.specs.Prelude.{◌≡◌, ◌==◌, ◌<◌, ◌^◌, length, slice_get};
+ghost use Rattle.std.specs.Prelude.{◌≡◌, ◌==◌, ◌<◌, ◌^◌, length, slice_get, Some};
+ghost use Rattle.cmb_channels.specs.declared.message.Message.{Message};
+ghost use Rattle.cmb_channels.specs.Logs.{tick_said};
+ghost use Rattle.cmb_channels.specs.Packed.{packed_ticks};
 ghost use Rattle.cmb_channels.specs.Parts.{messages_in};
 
 use crate::message::Message;
@@ -84,6 +87,18 @@ impl<'l> Waiting<'l> {
         match self.part {
             Part::Packed(messages) => Some(messages.get(place)?.message()),
             Part::Wide(messages) => Some(*messages.get(place)?),
+        }
+    }
+
+    /// Returns the message at a place, from 0 on, if there is one, in four bytes. It has to fit.
+    pub fn packed_at(&self, place: usize) -> Option<Packed>
+        requires { (message : Message) → slice_get self.now place ≡ Some message → tick_said message < packed_ticks }
+        ensures message { result ≡ slice_get self.now place }
+        ensures few { length self.now < 2 ^ 63 }
+    {
+        match self.part {
+            Part::Packed(messages) => Some(*messages.get(place)?),
+            Part::Wide(messages) => Some(Packed::of(*messages.get(place)?)),
         }
     }
 }

@@ -4,7 +4,11 @@ ghost use Rattle.netlist.specs.Netlist.{most_pins};
 ghost use Rattle.design.specs.Pins.{all_fed};
 
 use flat_lists::FlatLists;
+use smallvec::SmallVec;
 use std::alloc::{AllocError, Global};
+
+// Most nets feed at most so many pins, whose numbers need no allocation.
+const FEW: usize = 4;
 
 /// Returns the pins that each of `nets` nets feeds, in rising order, given the net that feeds each
 /// pin.
@@ -25,12 +29,12 @@ pub(super) fn fed_pins(
 }
 
 /// Returns an empty list of pins for each of `nets` nets.
-fn no_pins(alloc: Global, nets: u32) -> Result<Vec<Vec<u32>>, AllocError>
+fn no_pins(alloc: Global, nets: u32) -> Result<Vec<SmallVec<u32, FEW>>, AllocError>
     ensures { IfOk result (λ fed. map (λ v. v.items) fed.items ≡ replicate nets []) }
 {
     let mut fed = Vec::with_capacity(alloc, nets as usize)?;
     for _net in 0..nets {
-        fed.push(Vec::new(alloc))?;
+        fed.push(SmallVec::new(alloc))?;
     }
     Ok(fed)
 }

@@ -6,5 +6,5 @@ use Rattle.bench_text.proofs.statement.assignment.Goals as goal
 pub returns : goal.returns
 returns c =
     let names = c.args.name.now ∷ seen_names c.args.pins.items in
-    let may = rw c.as_slice.ensures.value at c.in_ok-check_names.ensures in
+    let may = rw c.as_slice.ensures at c.in_ok-check_names.ensures in
     rw (c.definition_of.ensures, c.part_of.ensures) (sym (with_names-ok c.args.line names _ (sym may)))

@@ -23,8 +23,8 @@ pub loop-pin-preserved : goal.loop-pin-preserved
 loop-pin-preserved c =
     let sources = c.args.sources.now in
     let within = c.loop-pin-test.true in
-    stored_more c.loop-pin.fed.items c.args.nets c.loop-pin.pin (get_or sources c.loop-pin.pin 0) sources _ _ c.loop-pin.invariant
-    (slice_get-get_or sources c.loop-pin.pin 0 within) (c.requires.exist c.loop-pin.pin 0 within) c.index_mut.ensures.value c.in_ok-push.ensures.items
+    stored_more (λ v. v.items) c.loop-pin.fed.items c.args.nets c.loop-pin.pin (get_or sources c.loop-pin.pin 0) sources _ _ c.loop-pin.invariant
+    (slice_get-get_or sources c.loop-pin.pin 0 within) (c.requires.exist c.loop-pin.pin 0 within) c.index_mut.ensures.value c.in_ok-push.ensures.ok
 
 pub returns : goal.returns
 returns c =

@@ -6,7 +6,8 @@ use Rattle.logic3.specs.declared.change.Change.{Change}
 use Rattle.logic3.specs.Wave.{Wave, value_at, value_after, value_in_the_end}
 use Rattle.gate_process.specs.Knowledge.{unknown_from}
 use Rattle.gate_process.proofs.Delayed.{not_due, unknown_there}
-use Rattle.gate_process.proofs.Passed.{due_by, due_with, due_within, left_shows, left_after, left_rises, value_now}
+use Rattle.gate_process.specs.LaterChanges.{due_by}
+use Rattle.gate_process.proofs.Passed.{due_with, due_within, left_shows, left_after, left_rises, value_now}
 use Rattle.gate_process.proofs.cursor.Cursor.pass.Goals as goal
 
 -- where nothing is known at the tick

@@ -1,4 +1,4 @@
-use Rattle.std.proofs.Common.{◌≡◌, ◌≤◌, ap, sym, subst, ◌∙◌}
+use Rattle.std.proofs.Common.{◌≤◌, ap, sym, subst, ◌∙◌}
 use Rattle.gate_process.specs.Outputs.{state_of}
 use Rattle.gate_process.specs.Quiet.{IsQuiet}
 use Rattle.gate_process.specs.Step.{ProcessState, ProcessView, drained}

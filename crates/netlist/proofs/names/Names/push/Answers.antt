@@ -7,8 +7,8 @@ pub returns-clause-ok : goal.returns-clause-ok
 returns-clause-ok c =
     ap (map (λ v. v.items)) c.in_ok-insert.ensures.keys
     ∙ names-insert_key (λ v. v.items) c.self.inside.set.keys c.in_ok-key.key
-    (rw (c.in_ok-key.ensures.items, c.self.view_is) c.requires.new)
-    ∙ (λ i. c.self.view_is i ++ c.in_ok-key.ensures.items i ∷ [])
+    (rw (c.in_ok-key.ensures.ok, c.self.view_is) c.requires.new)
+    ∙ (λ i. c.self.view_is i ++ c.in_ok-key.ensures.ok i ∷ [])
 
 pub invariant_of-self-2 : goal.invariant_of-self-2
 invariant_of-self-2 c =
