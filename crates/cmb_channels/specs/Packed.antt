@@ -48,12 +48,12 @@ code_back code = digit_back (code / 4) (code % 4) (omega arith) ∙ omega arith
 
 -- ---- changes
 
--- the change that a message tells of, if any
+-- the change that a message reports, if any
 abbrev pub change_said : Message → Option Change
 change_said (Changes change) = Some change
 change_said (Null bound) = None
 
--- the changes that messages tell of
+-- the changes that messages report
 abbrev pub changes_said : List Message → List Change
 changes_said messages = filter_map change_said messages
 

@@ -12,7 +12,7 @@ use std::marker::Model;
 /// The ticks that fit are below this number, 2^30. So are those of any run.
 const TICKS: u64 = 1 << 30;
 
-// The values of changes by their numbers. No change has the last number, which is that of null messages.
+// The values of changes by their numbers. The last number is that of null messages, so no change has it.
 static VALUES: [Value; 4] = [Value::Zero, Value::One, Value::Unknown, Value::Unknown];
 
 /// A message in four bytes: four times its tick, and a number for the value of a change, or for a null
@@ -92,7 +92,7 @@ impl Packed {
         Message::Change(Change { tick, value })
     }
 
-    /// Returns the tick of the change, or up to which the net is known by a null message.
+    /// Returns the tick of the change, or the number of ticks that the null message reports as known.
     pub fn tick(&self) -> u64
         ensures { result ≡ tick_said self.now }
     {

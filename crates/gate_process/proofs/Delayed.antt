@@ -120,7 +120,7 @@ undelayed (first ∷ changes) =
 
 -- ---- a walk along the changes of a pin
 
--- those that are left come to what all come to
+-- what is left of them ends in the same value and leaves the same changes
 pub record Passes (wire tick : ℕ) (value : Value) (left : List Change) (before : Value) (changes : List Change) : Type 0 where
   pub value_is : passed_value wire tick value left ≡ passed_value wire tick before changes
   pub left_is : passed_left wire tick left ≡ passed_left wire tick changes

@@ -18,7 +18,7 @@ pub known_after-told : (known : Knowledge) (message : Message) → known_after m
 known_after-told known (Changes change) = refl
 known_after-told known (Null bound) = refl
 
--- one that leaves a pin known to no more than all ticks of a run fits in four bytes
+-- a message after which at most the ticks of a run are known fits in four bytes
 pub told_fits : (known : Knowledge) (message : Message) → (told known message).frontier ≤ most_ticks + 1 → tick_said message < packed_ticks
 told_fits known (Changes change) within = omega (arith, within)
 told_fits known (Null bound) within = omega (arith, within)

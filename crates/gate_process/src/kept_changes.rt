@@ -14,7 +14,8 @@ use smallvec::SmallVec;
 use std::alloc::{AllocError, Global};
 use std::marker::Model;
 
-// So many changes need no allocation. They fit in the place of a list's pointer, length and capacity.
+// Up to this number of changes need no allocation: they fit in the place of a list's pointer, length and
+// capacity.
 const FEW: usize = 4;
 
 /// The changes that are kept of a net, in four bytes each: added at the end, and dropped from the front.
@@ -73,7 +74,7 @@ impl KeptChanges {
         Ok(())
     }
 
-    /// Adds the changes that messages tell of at the end. An `AllocError` changes nothing.
+    /// Adds the changes that messages report at the end. An `AllocError` changes nothing.
     pub fn extend(&mut self, news: &[Packed]) -> Result<(), AllocError>
         ensures ok { OnOk result (self.new ≡ self.old ++ changes_said news.now) }
         ensures err { OnErr result (self.new ≡ self.old) }
@@ -103,7 +104,7 @@ impl KeptChanges {
     }
 }
 
-/// Adds the changes that messages tell of at the end of a list. An `AllocError` changes nothing.
+/// Adds the changes that messages report at the end of a list. An `AllocError` changes nothing.
 fn add_changes(changes: &mut SmallVec<PackedChange, FEW>, news: &[Packed]) -> Result<(), AllocError>
     ensures ok { OnOk result (changes.new.items ≡ changes.old.items ++ changes_said news.now) }
     ensures err { OnErr result (changes.new.items ≡ changes.old.items) }
@@ -144,9 +145,9 @@ pub fn kept_below(changes: &[PackedChange], tick: u64) -> usize
         .count()
 }
 
-/// Passes the leading changes that aren't seen after a tick, later by the delay of a wire, in as many steps.
+/// Passes the leading changes that aren't seen after a tick, where each is seen later by the delay of a wire.
 /// Returns the value of the last of them, or the value before them if there is none, and the changes that are
-/// left.
+/// left. Takes a step for each change that it passes.
 pub fn pass_due(
     changes: &[PackedChange],
     wire: u32,

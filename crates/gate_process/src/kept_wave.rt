@@ -24,7 +24,7 @@ pub trait KeptWave: Drop {
     fn last(&self) -> Value
         ensures { result ≡ last_value (wave self.now) };
 
-    /// Adds the changes that messages tell of at the end. After an `AllocError` some of them may be added.
+    /// Adds the changes that messages report at the end. After an `AllocError` some of them may be added.
     fn add(&mut self, news: &[Packed]) -> Result<(), AllocError>
         requires { IsWave (joined (wave self.old) (changes_said news.now)) }
         ensures ok { OnOk result (wave self.new ≡ joined (wave self.old) (changes_said news.now)) }

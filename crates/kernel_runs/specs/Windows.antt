@@ -17,9 +17,9 @@ most_sent nets = max (2 * nets) (max most_sent_by_few (min most_sent_by_many (4 
 abbrev pub widest : ℕ
 widest = 16_777_216
 
--- the width of the next window, after a sweep over a window of this width that sent this number of changes, before which
--- so many ticks were known: as wide after the first one, and else twice as wide if they are fewer than a quarter of the
--- most that it should send, a quarter narrower if they are more than the most, and half as wide if they are more than
+-- the width of the next window, given the ticks that were known before a sweep, the width of its window, and the number
+-- of changes that it sent: the same after the first sweep. Else it is twice as wide if they are fewer than a quarter of
+-- the most that it should send, a quarter narrower if they are more than the most, and half as wide if they are more than
 -- twice as many
 abbrev pub next_width : ℕ → ℕ → ℕ → ℕ → ℕ
 next_width known width sent most =

@@ -6,7 +6,8 @@ use smallvec::SmallVec;
 use std::alloc::{AllocError, Global};
 use std::marker::Model;
 
-// Names of so many bytes need no allocation. They fit in the place of a list's pointer, length and capacity.
+// A name of at most this number of bytes needs no allocation: it fits in the place of a list's pointer, length
+// and capacity.
 const SHORT: usize = 16;
 
 /// Distinct names, numbered from 0 in the order in which they were added.
@@ -76,7 +77,7 @@ impl Names {
     }
 }
 
-/// What a name is looked up by.
+/// The bytes of a name that is looked up, which needn't be copied for that.
 #[derive(Clone, Copy, PartialEq, Eq, Hash)]
 struct Spelling<'n> {
     bytes: &'n [u8],

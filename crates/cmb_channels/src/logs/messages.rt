@@ -12,7 +12,7 @@ use smallvec::SmallVec;
 use std::alloc::{AllocError, Global};
 use std::marker::Model;
 
-// So many messages need no allocation.
+// Up to this number of messages need no allocation.
 const FEW: usize = 4;
 
 /// Messages, the oldest first: in four bytes each while all of them fit, and from then on in 24.

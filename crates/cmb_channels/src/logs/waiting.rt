@@ -90,7 +90,8 @@ impl<'l> Waiting<'l> {
         }
     }
 
-    /// Returns the message at a place, from 0 on, if there is one, in four bytes. It has to fit.
+    /// Returns the message at a place, from 0 on, if there is one, in four bytes. Its tick has to be below 2^30,
+    /// as all ticks of a run are.
     pub fn packed_at(&self, place: usize) -> Option<Packed>
         requires { (message : Message) → slice_get self.now place ≡ Some message → tick_said message < packed_ticks }
         ensures message { result ≡ slice_get self.now place }

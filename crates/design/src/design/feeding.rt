@@ -7,7 +7,7 @@ use flat_lists::FlatLists;
 use smallvec::SmallVec;
 use std::alloc::{AllocError, Global};
 
-// Most nets feed at most so many pins, whose numbers need no allocation.
+// Most nets feed at most this number of pins, which then need no allocation.
 const FEW: usize = 4;
 
 /// Returns the pins that each of `nets` nets feeds, in rising order, given the net that feeds each
