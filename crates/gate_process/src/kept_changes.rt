@@ -128,12 +128,18 @@ pub fn last_kept(before: Value, changes: &[PackedChange]) -> Value
     }
 }
 
-/// Returns the number of leading changes before a tick, in as many steps, or at once if all are.
+/// Returns the number of leading changes before a tick, in as many steps, or at once if none or all are.
+#[inline(always)]
 pub fn kept_below(changes: &[PackedChange], tick: u64) -> usize
     requires { TicksRise changes.now }
     ensures count { result ≡ prefix_len (λ (change : Change). nat_lt change.tick tick) changes.now }
     ensures within { result ≤ length changes.now }
 {
+    // Mostly none are.
+    match changes.first() {
+        Some(first) if first.tick() < tick => {}
+        _ => return 0,
+    }
     if let Some(last) = changes.last() {
         if last.tick() < tick {
             return changes.len();

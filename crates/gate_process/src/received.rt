@@ -108,6 +108,9 @@ impl Received {
         requires { kept_since oldest self.old.frontier ≡ 0 → self.old.wave.before ≡ Unknown }
         ensures { self.new ≡ keeping oldest self.old }
     {
+        if self.changes.is_empty() {
+            return;
+        }
         let last = u64::from(self.frontier).saturating_sub(1);
         self.forget_before(oldest.min(last));
     }

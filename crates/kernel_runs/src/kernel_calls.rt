@@ -82,6 +82,8 @@ pub(crate) fn round(kernel: &mut StreamKernel<'_>) -> Result<(), AllocError>
 }
 
 /// Takes out a net's changes below a tick up to which every net is known, and adds them to the end of a list.
+// It is called for each net after each sweep, and mostly there are none.
+#[inline(always)]
 pub(crate) fn drain_below_into(
     kernel: &mut StreamKernel<'_>,
     net: u32,
