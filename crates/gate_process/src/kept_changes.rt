@@ -135,7 +135,7 @@ pub fn kept_below(changes: &[PackedChange], tick: u64) -> usize
     ensures count { result ≡ prefix_len (λ (change : Change). nat_lt change.tick tick) changes.now }
     ensures within { result ≤ length changes.now }
 {
-    // Mostly none are.
+    // Where none is, one look is enough.
     match changes.first() {
         Some(first) if first.tick() < tick => {}
         _ => return 0,
