@@ -28,6 +28,8 @@ pub(super) enum Takes {
     NetList,
     /// The same, in place of the option with this name, with which it conflicts.
     NetListFor(&'static str),
+    /// The word of a bus; may be repeated.
+    Bus,
     /// What drives an input, in this form; may be repeated.
     Drives(&'static str),
     Nothing,
@@ -118,6 +120,7 @@ fn taking<'a>(arg: Arg<'a>, takes: Takes) -> Result<Arg<'a>, AllocError> {
         Takes::Net | Takes::Nets | Takes::Fault => arg.value_name("NAME"),
         Takes::NetList => net_list(arg),
         Takes::NetListFor(other) => net_list(arg).conflicts_with(other)?,
+        Takes::Bus => arg.value_name("BUS").action(ArgAction::Append),
         Takes::Drives(form) => arg.value_name(form).action(ArgAction::Append),
         Takes::Nothing => arg.action(ArgAction::SetTrue),
     })

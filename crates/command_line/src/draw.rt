@@ -1,11 +1,14 @@
 //! The subcommand `draw`: its options, and its order.
 use crate::described::{Absent, Described, Takes};
 use crate::help::{ends, subcommand_named};
-use crate::options::{ALONE, LENGTH, SHOWN, SOURCE, number_given, selection_given, source_given};
+use crate::options::{
+    ALONE, LENGTH, SHOWN, SOURCE, names_given, number_given, selection_given, source_given,
+};
 use crate::order::Order;
 use crate::source_options::PickOptions;
+use clap::parser::ValueSource;
 use clap::{ArgMatches, Command};
-use prepared_runs::DiagramView;
+use prepared_runs::{DiagramView, Selection};
 use std::alloc::{AllocError, Global};
 use timing_diagram::Form;
 
@@ -30,7 +33,11 @@ const AT_END: &str = "Show in each column the value at its last tick, whatever i
 
 const SVG: &str = "Draw the diagram as an SVG picture, which browsers show";
 
-static OPTIONS: [Described; 5] = [
+const BUS: &str = "Also draw a bus in hexadecimal: data[7:0] is data[7] to data[0]; can be\n\
+     repeated. Without --show and --nets, only the buses are drawn";
+
+static OPTIONS: [Described; 6] = [
+    Described("bus", Takes::Bus, Absent::Nothing, BUS),
     Described("from", Takes::Number, Absent::Default("0"), FROM),
     Described("to", Takes::Number, Absent::Nothing, TO),
     Described("step", Takes::Number, Absent::Default("1"), STEP),
@@ -71,7 +78,8 @@ fn view_given<'a>(alloc: Global, options: &ArgMatches<'a>) -> Result<DiagramView
     let horizon = number_given(options, "horizon");
     let from = number_given(options, "from");
     Ok(DiagramView {
-        show: selection_given(alloc, options)?,
+        show: shown_given(alloc, options)?,
+        buses: names_given(alloc, options, "bus")?,
         horizon,
         from,
         // a first tick after the horizon is the one at fault, and not the horizon
@@ -79,6 +87,16 @@ fn view_given<'a>(alloc: Global, options: &ArgMatches<'a>) -> Result<DiagramView
         step: number_given(options, "step"),
         at_end: options.get_flag("at-end"),
     })
+}
+
+/// Returns the nets to show: none if there are only buses.
+fn shown_given<'a>(alloc: Global, options: &ArgMatches<'a>) -> Result<Selection<'a>, AllocError> {
+    let chooses = options.value_source("show") == Some(ValueSource::CommandLine)
+        || options.get_strs("nets").is_some();
+    if !chooses && options.get_strs("bus").is_some() {
+        return Ok(Selection::Named(Vec::new(alloc)));
+    }
+    selection_given(alloc, options)
 }
 
 fn form_given(options: &ArgMatches<'_>) -> Form {

@@ -4,7 +4,7 @@ use crate::telling::Teller;
 use bench_text::{read, write};
 use cmb_events::Schedule;
 use design::{Design, flow_order, plain_waves, segments_of};
-use fanin_cone::{agree, cone, cones_alone, extract, net_numbers};
+use fanin_cone::{agree, agreeing_cones, cone, cones_alone, extract, net_numbers};
 use flat_lists::FlatLists;
 use netlist::{Names, Netlist, without_repeats};
 use std::alloc::Global;
@@ -143,7 +143,10 @@ fn cones<W: Write>(alloc: Global, teller: &mut Teller<W>, design: &Design) -> Op
     }
     let agreement = agree(alloc, design, design, b"sampled", horizon()?);
     let agrees = teller.told("fanin_cone::agree", agreement)?;
-    teller.fine("fanin_cone::agree", agrees == Some(true))
+    teller.fine("fanin_cone::agree", agrees == Some(true))?;
+    let marks = agreeing_cones(alloc, design, design, horizon()?);
+    let marks = teller.told("fanin_cone::agreeing_cones", marks)?;
+    teller.fine("fanin_cone::agreeing_cones", marks.iter().all(|mark| *mark))
 }
 
 /// The design of an input and a gate that oscillates while the input is 1.

@@ -1,7 +1,7 @@
 //! Agreement of designs that differ in delays and periods; cones and extracts are in `caller_tests`.
 use crate::circuits::Circuit;
 use design::Design;
-use fanin_cone::agree;
+use fanin_cone::{agree, agreeing_cones};
 use std::alloc::Global;
 use std::process::Abort;
 use std::test::Fail;
@@ -40,6 +40,27 @@ const FLOP: Circuit = Circuit {
 
 const OTHER_FLOP: Circuit = Circuit { period: 4, ..FLOP };
 
+/// A net that feeds itself through a flip-flop, and one beside the loop.
+const LOOP: Circuit = Circuit {
+    bench: b"INPUT(e)\ny = NAND(e, q)\nq = DFF(y)\nw = NOT(e)\n",
+    stimuli: b"",
+    ..FIRST
+};
+
+/// Its flip-flop samples the input.
+const OTHER_LOOP: Circuit = Circuit {
+    bench: b"INPUT(e)\ny = NAND(e, q)\nq = DFF(e)\nw = NOT(e)\n",
+    ..LOOP
+};
+
+// Two circuits, and for each net of the first whether they agree on its cone.
+static MARKS: [(Circuit, Circuit, [bool; 4]); 4] = [
+    (FIRST, BESIDE, [true, true, true, false]),
+    (FIRST, SLOWER, [true, false, true, false]),
+    (LOOP, OTHER_LOOP, [true, false, false, true]),
+    (LOOP, LOOP, [true, true, true, true]),
+];
+
 // What `agree` returns for two circuits and a name.
 fn agree_so(
     rt: &impl Abort,
@@ -65,6 +86,17 @@ fn designs_agree_so(
     let horizon = Horizon::new(horizon)?;
     let found = agree(alloc, sides.0, sides.1, name, horizon)?;
     assert!(rt; found == answer);
+    Ok(())
+}
+
+#[test]
+fn cones_that_agree(rt: HostRuntime) -> Result<(), Fail> {
+    for &(first, second, wanted) in &MARKS {
+        let first = first.build(rt.alloc())?;
+        let second = second.build(rt.alloc())?;
+        let marks = agreeing_cones(rt.alloc(), &first, &second, Horizon::new(5)?)?;
+        assert!(rt; marks.as_slice() == wanted.as_slice());
+    }
     Ok(())
 }
 

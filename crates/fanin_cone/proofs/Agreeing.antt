@@ -47,7 +47,7 @@ module _ (a b : DesignView) (ok : IsDesign a) (horizon net : ℕ) (name : List �
   AgreesAt-none none agrees = none-some agrees.y (sym (net_of-none b name (sym none)) ∙ sym theirs ∙ agrees.second)
 
 -- each name in a cone of nets is a net's
-net_in_cone : (netlist : NetlistView) → IsNetlist netlist → (start_name : List ℕ) (first : ℕ) → first < length netlist.nets → name_at netlist first ≡ start_name →
+pub net_in_cone : (netlist : NetlistView) → IsNetlist netlist → (start_name : List ℕ) (first : ℕ) → first < length netlist.nets → name_at netlist first ≡ start_name →
     (name : List ℕ) → InCone netlist (start_name ∷ []) name → (number : ℕ) × (number < length netlist.nets) × (name_at netlist number ≡ name)
 net_in_cone netlist ok start_name first below named _ (start name at) = (first, below, named ∙ Contains-one start_name name at)
 net_in_cone netlist ok start_name first below named _ (pin net name has before at) =

@@ -1,5 +1,6 @@
 mod Agreed
 mod Agreeing
+mod AgreeingMarks
 mod AllMarked
 pub mod CallerLemmas
 mod ConeTexts
@@ -7,6 +8,7 @@ mod ConesAlone
 mod DesignNets
 mod Extracted
 mod Extracting
+mod FedNets
 mod Flipped
 mod KnownNames
 mod Least
@@ -17,5 +19,6 @@ mod NetOf
 mod Numbered
 mod SameCones
 mod SameNames
+mod Spreading
 mod Stimuli
 mod Walking

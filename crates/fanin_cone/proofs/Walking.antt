@@ -22,10 +22,10 @@ pub record IsWalk (netlist : NetlistView) (starts : List ℕ) (marks : List Bool
   pub from_waiting : HasMarks marks waiting
   pub seen : (net : ℕ) → IsTrue (is_marked marks net) → Contains waiting net ⊎ HasMarks marks (net_at netlist net).pins
 
-has_mark : (marks : List Bool) (nets : List ℕ) (net : ℕ) → HasMarks marks nets → Contains nets net → IsTrue (is_marked marks net)
+pub has_mark : (marks : List Bool) (nets : List ℕ) (net : ℕ) → HasMarks marks nets → Contains nets net → IsTrue (is_marked marks net)
 has_mark marks nets net all at = All-contains (λ n. IsTrue (is_marked marks n)) nets net all at
 
-is_below : (bound : ℕ) (nets : List ℕ) (net : ℕ) → All (λ n. n < bound) nets → Contains nets net → net < bound
+pub is_below : (bound : ℕ) (nets : List ℕ) (net : ℕ) → All (λ n. n < bound) nets → Contains nets net → net < bound
 is_below bound nets net all at = All-contains (λ n. n < bound) nets net all at
 
 module _ (netlist : NetlistView) (starts : List ℕ) where

@@ -13,5 +13,7 @@ pub use Rattle.design.specs.PickedDesign
 pub mod Cone
 pub mod Walk
 pub mod Agreement
+pub mod Dependents
+pub mod AgreeingCones
 pub mod Extract
 pub mod ConeText

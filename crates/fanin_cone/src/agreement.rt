@@ -54,7 +54,7 @@ pub fn agree(
 
 /// Returns whether the second design has a net with this one's name that is the same except for its
 /// number.
-fn agrees_at(first: &Design, net: u32, second: &Design, horizon: Horizon) -> bool
+pub(crate) fn agrees_at(first: &Design, net: u32, second: &Design, horizon: Horizon) -> bool
     requires first { IsDesign first.now }
     requires second { IsDesign second.now }
     requires net { net < length first.now.circuit }

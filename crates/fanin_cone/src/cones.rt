@@ -56,7 +56,7 @@ pub fn outside(alloc: Global, netlist: &Netlist, starts: &[u32]) -> Result<Vec<u
 }
 
 /// Inverts all marks.
-fn flip(marks: &mut [bool])
+pub(crate) fn flip(marks: &mut [bool])
     ensures { marks.new ≡ map not marks.old }
 {
     for mark in marks.iter_mut() {

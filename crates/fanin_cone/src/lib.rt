@@ -3,14 +3,17 @@
 #![tactic(auto)]
 
 mod agreement;
+mod all_cones;
 mod alone;
 mod bench_cones;
 mod cones;
+mod dependents;
 mod extraction;
 mod fault;
 pub mod laws;
 
 pub use agreement::agree;
+pub use all_cones::agreeing_cones;
 pub use alone::cones_alone;
 pub use bench_cones::cone_text;
 pub use cones::{cone, outside};

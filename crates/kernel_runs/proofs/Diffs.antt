@@ -1,6 +1,7 @@
 -- Two runs compared net by net, step by step.
 use Rattle.std.proofs.Common.{◌≡◌, ℕ, ◌+◌, ◌<◌, ◌≤◌, ◌&&◌, ◌==◌, ◌↔◌, nat_lt, Bool, true, false, cond, IsTrue, List, [], ◌∷◌, ◌++◌, take, length, map, find, get_or, bytes_eq, flat_map, All, Option, Some, None, Result, Ok, Err, IsOkAnd, Bor, refl, sym, ap, subst, ◌∙◌, arith, true≢false}
 use Rattle.std.specs.List.{list_all}
+use Rattle.std.specs.Prelude.{slice_index_or}
 use Rattle.std.proofs.lemmas.List.{flat_map_more, get_or-map, length-map, map-append, take_more}
 use Rattle.std.proofs.lemmas.List.Elements.{All-head, All-push, All-tail}
 use Rattle.std.proofs.lemmas.List.Folds.{list_all-append}
@@ -9,7 +10,7 @@ use Rattle.logic3.specs.declared.value.Value.{Value}
 use Rattle.logic3.specs.Wave.{Wave, value_at, wave_of}
 use Rattle.logic3.proofs.CallerLemmas.{value_at-wave_of}
 use Rattle.netlist.specs.Names.{seen_names}
-use Rattle.netlist.specs.Netlist.{net_named}
+use Rattle.netlist.specs.Netlist.{name_at, net_named}
 use Rattle.netlist.proofs.CallerLemmas.{All-from_no_position, net_at-named}
 use Rattle.timing_text.specs.declared.fault.OptionFault.{OptionFault}
 use Rattle.timing_text.specs.declared.fault.OptionFault.TheVariants.{BadHorizon}
@@ -21,6 +22,7 @@ use Rattle.design.specs.Equations.{value_of}
 use Rattle.design.proofs.CallerLemmas.{net_named-circuit, length-circuit}
 use Rattle.cmb_kernel.specs.State.{KernelView, frontier_at}
 use Rattle.fanin_cone.specs.Agreement.{AgreesAt, net_of}
+use Rattle.fanin_cone.specs.AgreeingCones.{MarksAgreeing}
 use Rattle.fanin_cone.specs.Cone.{start}
 use Rattle.wave_diff.specs.declared.comparison.Comparison.{Comparison}
 use Rattle.wave_diff.specs.declared.comparison.Comparison.TheVariants.{Same, Differs}
@@ -45,7 +47,7 @@ use Rattle.prepared_runs.specs.Ends.{IsRefusal}
 use Rattle.kernel_runs.specs.AtEnd.{IsAtEnd}
 use Rattle.kernel_runs.specs.Diffs.{AgreesOnCone, IsComparisonOf, IsDiff, IsDiffRefusal, IsOfDifference, IsOfNets, NetDiff, Pair, diff_line, is_known, names_compared, of_horizon, on_run, pair_by, pair_in, pair_of, ticks_of_diff}
 use Rattle.prepared_runs.specs.Source.{SourceView, or_fault}
-use Rattle.prepared_runs.specs.Prepared.{RunView, run_of_source}
+use Rattle.prepared_runs.specs.Prepared.{RunView, run_of_source, seen_run}
 use Rattle.kernel_runs.specs.Twins.{CanCompare, IsTwinRefusal, on}
 use Rattle.kernel_runs.proofs.Isolated.{same_values}
 use Rattle.prepared_runs.proofs.CallerLemmas.{ready_of_run}
@@ -303,7 +305,7 @@ named_below design name net is found =
     omega (arith, at.0, same)
 
 -- what the kernel of a run at its end knows of a net is what the equations give it
-completed_wave : (run : PreparedRun) (kernel : KernelView) (net : ℕ) (wave : Wave) → IsAtEnd run kernel → net < length run.design.circuit →
+pub completed_wave : (run : PreparedRun) (kernel : KernelView) (net : ℕ) (wave : Wave) → IsAtEnd run kernel → net < length run.design.circuit →
     wave ≡ wave_of (value_of kernel.circuit net) 0 (frontier_at kernel.state net) → wave ≡ wave_of (value_of run.design.circuit net) 0 (run.horizon + 1)
 completed_wave run kernel net wave completed below is =
     let there : net < length kernel.circuit = rw completed.circuit below in
@@ -333,6 +335,17 @@ first_difference-completed one other first second ticks name net other_net wave 
     ∙ ap (λ horizon. wave_of (value_of other.design.circuit other_net) 0 (horizon + 1)) can.horizon)
 
 -- ---- agreeing cones
+
+-- the mark of a net says whether the runs agree on the cone of its name
+pub AgreesOnCone-marked : (one other : PreparedRun) (marks : List Bool) (name : List ℕ) (net : ℕ) (agree : Bool) → IsDesign one.design →
+    MarksAgreeing one.design other.design one.horizon marks → net_named one.design.netlist name ≡ Some net → agree ≡ slice_index_or marks net false →
+    IsTrue agree ↔ AgreesOnCone (seen_run one) (seen_run other) name
+AgreesOnCone-marked one other marks name net agree formed marked found is =
+    let same : name_at one.design.netlist net ≡ name = (net_at-named one.design.netlist name net found).1 in
+    let each = marked.each net (named_below one.design name net formed found) in (
+      λ agrees. subst (λ n. AgreesOnCone (seen_run one) (seen_run other) n) same (each.0 (sym is ∙ agrees)),
+      λ on. is ∙ each.1 (subst (λ n. AgreesOnCone (seen_run one) (seen_run other) n) (sym same) on),
+    )
 
 find-None : {X : Type 0} (p : X → Bool) (xs : List X) → All (λ x. p x ≡ false) xs → find p xs ≡ None
 find-None p [] fail = refl

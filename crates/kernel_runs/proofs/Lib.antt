@@ -1,4 +1,5 @@
 pub mod CallerLemmas
+mod Causes
 mod Checks
 mod Completed
 mod ConesShown

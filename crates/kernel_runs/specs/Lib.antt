@@ -3,6 +3,7 @@ pub mod AnswerText
 pub mod AtEnd
 pub mod Checked
 pub mod Drained
+pub mod Explained
 pub mod Isolation
 pub mod KnownTicks
 pub mod Paces

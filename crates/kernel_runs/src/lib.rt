@@ -18,6 +18,7 @@ mod streaming;
 mod sweep_run;
 mod sweeps;
 mod twin_run;
+mod why_run;
 mod windows;
 
 pub use answer_text::{check_text, twin_text};
@@ -28,3 +29,4 @@ pub use simulation::{Report, simulate, simulate_with_progress};
 pub use sweep_run::{sweep, sweep_with_progress};
 pub use twin_run::{TwinAnswer, TwinFault, twin};
 pub use wave_diff::{DiffTicks, Side};
+pub use why_run::why;

@@ -1,5 +1,6 @@
 //! Comparisons of what nets show in two runs, name by name.
 ghost use Rattle.std.specs.Prelude.{◌≡◌, IfErr, IfOk};
+ghost use Rattle.fanin_cone.specs.AgreeingCones.{MarksAgreeing};
 ghost use Rattle.netlist.specs.Names.{seen_names};
 ghost use Rattle.kernel_runs.specs.Diffs.{IsComparisonOf, IsDiff, pair_by};
 ghost use Rattle.prepared_runs.specs.Prepared.{seen_run};
@@ -9,7 +10,7 @@ ghost use Rattle.kernel_runs.specs.Twins.{CanCompare};
 use crate::diff_run::DiffAnswer;
 use crate::simulation::RunKernel;
 use crate::sweep_run::complete;
-use crate::twin_run::is_agreed;
+use fanin_cone::agreeing_cones;
 use prepared_runs::{PreparedRun, SimFault};
 use std::alloc::Global;
 use wave_diff::{Compared, Comparison, Side, first_difference, push_line};
@@ -51,43 +52,45 @@ fn diff_completed(
         answer.text.items answer.same) }
     ensures err { IfErr result (λ fault. fault ≡ SimFault.Memory) }
 {
+    let agreeing = agreeing_cones(alloc, &one.design, &other.design, one.horizon)?;
     let mut text = Vec::new(alloc);
     let mut same = true;
     for name in names {
-        let comparison = comparison(alloc, one, first, other, second, name, ticks)?;
+        let comparison = comparison(one, first, other, second, agreeing.as_slice(), name, ticks);
         push_line(&mut text, name, comparison)?;
         same = same && comparison.is_same();
     }
     Ok(DiffAnswer { text, same })
 }
 
-/// Returns how what the net of a name shows in two runs at their end compares.
+/// Returns how what the net of a name shows in two runs at their end compares. The nets of the first run on
+/// whose cones the runs agree are marked.
 fn comparison(
-    alloc: Global,
     one: &PreparedRun,
     first: &RunKernel<'_>,
     other: &PreparedRun,
     second: &RunKernel<'_>,
+    agreeing: &[bool],
     name: &[u8],
     ticks: Compared,
-) -> Result<Comparison, SimFault>
+) -> Comparison
     requires runs { CanCompare one.now other.now }
     requires first { IsAtEnd one.now first.now }
     requires second { IsAtEnd other.now second.now }
+    requires agreeing { MarksAgreeing one.now.design other.now.design one.now.horizon agreeing.now }
     requires end { ticks.to ≡ one.now.horizon }
-    ensures ok { IfOk result (IsComparisonOf (seen_run one.now) (seen_run other.now) ticks name.now) }
-    ensures err { IfErr result (λ fault. fault ≡ SimFault.Memory) }
+    ensures { IsComparisonOf (seen_run one.now) (seen_run other.now) ticks name.now result }
 {
     let Some(net) = one.design.find(name) else {
-        return Ok(Comparison::OnlyIn(Side::Second));
+        return Comparison::OnlyIn(Side::Second);
     };
     let Some(other_net) = other.design.find(name) else {
-        return Ok(Comparison::OnlyIn(Side::First));
+        return Comparison::OnlyIn(Side::First);
     };
     match first_difference(first.waveform(net), second.waveform(other_net), ticks) {
-        Some(found) => Ok(Comparison::Differs(found)),
-        None => Ok(Comparison::Same {
-            agree: is_agreed(alloc, one, other, name)?,
-        }),
+        Some(found) => Comparison::Differs(found),
+        None => Comparison::Same {
+            agree: agreeing[net as usize],
+        },
     }
 }

@@ -110,7 +110,7 @@ fn compare(
 }
 
 /// Returns whether the runs agree, up to the first one's horizon, on the net's fan-in cone there.
-pub(crate) fn is_agreed(
+fn is_agreed(
     alloc: Global,
     first: &PreparedRun,
     second: &PreparedRun,

@@ -36,7 +36,7 @@ impl Texts for Shelf {
 /// Arguments and their answer.
 type Line = (&'static str, &'static [u8]);
 
-static LINES: [Line; 7] = [
+static LINES: [Line; 9] = [
     (
         "run --bench e.bench --delays e.delays --stimuli e.stimuli --schedule e.schedule --horizon 12",
         OSCILLATOR_DUMP,
@@ -60,6 +60,14 @@ static LINES: [Line; 7] = [
         "diff --nets y,e --horizon 12 --first e.bench --first-delays e.delays --first-stimuli e.stimuli \
           --second e.bench --second-delays e.delays --second-stimuli e.stimuli",
         NO_DIFFERENCE,
+    ),
+    (
+        "draw --bench e.bench --delays e.delays --stimuli e.stimuli --horizon 12 --nets e --bus y",
+        b"   0.........10........\ne  _____/-------\ny  x.1....0.1.0.\n",
+    ),
+    (
+        "why --bench e.bench --delays e.delays --stimuli e.stimuli --net y --at 6",
+        b"y@6 = 1 since 2: y = NAND(e, y), e@0 = 0, y@0 = x\ne@0 = 0: INPUT(e), stimulus 0 e 0\n",
     ),
 ];
 

@@ -1,7 +1,7 @@
 -- Which argument a fault is for: a number that is out of its range, or the name of a net.
 use Rattle.std.specs.Prelude.{ℕ, ◌&&◌, Bool, List, slice_get, option_and_then, option_map, Option, None, Some, Result, Ok, Err}
 use Rattle.std.specs.List.{find}
-use Rattle.std.specs.Option.{is_none}
+use Rattle.std.specs.Option.{is_none, option_or}
 use Rattle.netlist.specs.Names.{seen_names}
 use Rattle.netlist.specs.Netlist.{NetlistView, net_named}
 use Rattle.bench_text.specs.declared.fault.BenchFault.{BenchFault}
@@ -14,6 +14,7 @@ use Rattle.timing_diagram.specs.declared.fault.ColumnsFault.TheVariants as colum
 use Rattle.wave_diff.specs.declared.fault.ComparedFault.TheVariants as compared
 use Rattle.prepared_runs.specs.declared.fault.SimFault.TheVariants as sim
 use Rattle.prepared_runs.specs.declared.view.DiagramView.{DiagramView}
+use Rattle.prepared_runs.specs.Meant.{nets_meant}
 use Rattle.wave_diff.specs.declared.diff_ticks.DiffTicks.{DiffTicks}
 use Rattle.wave_diff.specs.declared.comparison.Side.{Side}
 use Rattle.program_io.specs.declared.program_fault.ProgramFault.{ProgramFault}
@@ -22,7 +23,7 @@ use Rattle.command_line.specs.declared.order.Order.{Order}
 use Rattle.command_line.specs.declared.order.Order.TheVariants.{Draw, Stimuli, Diff}
 use Rattle.command_line.specs.declared.source_options.SourceOptions.{SourceOptions}
 use Rattle.program_io.specs.declared.order_texts.OrderTexts.{OrderTexts}
-use Rattle.command_line.specs.Orders.{last_tick, names_asked, options_on}
+use Rattle.command_line.specs.Orders.{last_tick, names_asked, names_shown, options_on}
 use Rattle.program_io.specs.Options.{texts_on}
 
 -- ---- what an order gives
@@ -78,10 +79,24 @@ in_neither one other name = is_none (net_named one name) && is_none (net_named o
 abbrev pub first_in_neither : List (List ℕ) → Option NetlistView → Option NetlistView → Option (List ℕ)
 first_in_neither names one other = option_and_then (λ one. option_and_then (λ other. find (in_neither one other) names) other) one
 
--- the first name that an order gives and no net of its netlist has; for `diff`, no net of either netlist
+-- the first word of a bus that means no nets, if there is the netlist
+abbrev pub means_nothing : NetlistView → List ℕ → Bool
+means_nothing netlist word = is_none (nets_meant netlist word)
+
+abbrev pub first_meaningless : List (List ℕ) → Option NetlistView → Option (List ℕ)
+first_meaningless words netlist = option_and_then (λ netlist. find (means_nothing netlist) words) netlist
+
+-- what is unknown of a diagram: the first name of a net to be shown, or else the first bus
+abbrev pub unknown_drawn : DiagramView → Option NetlistView → Option (List ℕ)
+unknown_drawn view netlist =
+    option_or (first_in_neither (names_shown view.show) netlist netlist) (first_meaningless (seen_names view.buses.items) netlist)
+
+-- the first name that an order gives and no net of its netlist has, or word of a bus that means no nets; for `diff`, no net of
+-- either netlist
 abbrev pub unknown_asked : Order → Side → OrderTexts → Option (List ℕ)
 unknown_asked (Diff first second names ticks) side texts =
     first_in_neither (seen_names names.items) (netlist_in texts.first.bench.items) (netlist_in texts.second.bench.items)
+unknown_asked (Draw options view form) side texts = unknown_drawn view (netlist_in (texts_on texts side).bench.items)
 unknown_asked order side texts =
     let netlist = netlist_in (texts_on texts side).bench.items in
     first_in_neither (names_asked order) netlist netlist

@@ -2,7 +2,8 @@
 ghost use Rattle.std.specs.Prelude.{◌≡◌, option_map, IfOk};
 ghost use Rattle.std.specs.List.{find};
 ghost use Rattle.netlist.specs.Names.{seen_names};
-ghost use Rattle.nullsim.specs.AtFault.{first_in_neither, in_neither, input_driven, name_at_fault, netlist_in, unknown_asked};
+ghost use Rattle.command_line.specs.Orders.{names_shown};
+ghost use Rattle.nullsim.specs.AtFault.{first_in_neither, first_meaningless, in_neither, input_driven, means_nothing, name_at_fault, netlist_in, unknown_asked, unknown_drawn};
 ghost use Rattle.program_io.specs.declared.order_texts.OrderTexts.{OrderTexts};
 ghost use Rattle.program_io.specs.declared.program_fault.ProgramFault.TheVariants.{Drives};
 
@@ -10,7 +11,7 @@ use bench_text::{BenchFault, read};
 use command_line::Order;
 use drawn_stimuli::DriveFault;
 use netlist::Netlist;
-use prepared_runs::SimFault;
+use prepared_runs::{DiagramView, SimFault, nets_meant};
 use program_io::{OrderTexts, ProgramFault};
 use std::alloc::{AllocError, Global};
 use wave_diff::Side;
@@ -40,8 +41,8 @@ pub(crate) fn name_at_fault<'o>(
     }
 }
 
-/// Returns the first name that an order gives and no net of its netlist has; for `diff`, no net of either
-/// netlist.
+/// Returns the first name that an order gives and no net of its netlist has, or word of a bus that means no nets;
+/// for `diff`, no net of either netlist.
 fn unknown_asked<'o>(
     alloc: Global,
     order: &'o Order<'_>,
@@ -57,10 +58,73 @@ fn unknown_asked<'o>(
             let other = netlist_in(alloc, texts.second.bench.as_slice())?;
             Ok(first_in_neither(names.as_slice(), &one, &other))
         }
+        Order::Draw { view, .. } => {
+            let netlist = netlist_in(alloc, texts.on(side).bench.as_slice())?;
+            let name = unknown_drawn(alloc, order.names(), view, &netlist)?;
+            Ok(name)
+        }
         _ => {
             let netlist = netlist_in(alloc, texts.on(side).bench.as_slice())?;
             Ok(first_in_neither(order.names(), &netlist, &netlist))
         }
+    }
+}
+
+/// Returns the first of the names to be shown that no net of a netlist has, or else the first word of a bus of a
+/// diagram that means no nets.
+fn unknown_drawn<'a>(
+    alloc: Global,
+    names: &[&'a [u8]],
+    view: &DiagramView<'a>,
+    netlist: &Option<Netlist>,
+) -> Result<Option<&'a [u8]>, AllocError>
+    requires { seen_names names.now ≡ names_shown view.now.show }
+    ensures { IfOk result (λ name. option_map (λ name. name.now) name ≡ unknown_drawn view.now netlist.now) }
+{
+    match first_in_neither(names, netlist, netlist) {
+        Some(name) => Ok(Some(name)),
+        None => first_meaningless(alloc, view.buses.as_slice(), netlist),
+    }
+}
+
+/// Returns the first of these words that means no nets, if there is the netlist.
+fn first_meaningless<'a>(
+    alloc: Global,
+    words: &[&'a [u8]],
+    netlist: &Option<Netlist>,
+) -> Result<Option<&'a [u8]>, AllocError>
+    ensures { IfOk result (λ word. option_map (λ word. word.now) word
+        ≡ first_meaningless (seen_names words.now) netlist.now) }
+{
+    match netlist {
+        Some(netlist) => first_meaning_nothing(alloc, words, netlist),
+        None => Ok(None),
+    }
+}
+
+fn first_meaning_nothing<'a>(
+    alloc: Global,
+    words: &[&'a [u8]],
+    netlist: &Netlist,
+) -> Result<Option<&'a [u8]>, AllocError>
+    ensures { IfOk result (λ word. option_map (λ word. word.now) word
+        ≡ find (means_nothing netlist.now) (seen_names words.now)) }
+{
+    for word in words {
+        if means_nothing(alloc, word, netlist)? {
+            return Ok(Some(word));
+        }
+    }
+    Ok(None)
+}
+
+fn means_nothing(alloc: Global, word: &[u8], netlist: &Netlist) -> Result<bool, AllocError>
+    ensures { IfOk result (λ nothing. nothing ≡ means_nothing netlist.now word.now) }
+{
+    match nets_meant(alloc, netlist, word) {
+        Ok(_) => Ok(false),
+        Err(SimFault::UnknownNet) => Ok(true),
+        Err(_) => Err(AllocError),
     }
 }
 

@@ -1,5 +1,4 @@
 mod Answer
-mod Causes
 mod Delayed
 mod Diagrams
 mod Listed

@@ -1,5 +1,4 @@
 pub mod Drawn
-pub mod Explained
 pub mod Likenesses
 pub mod Lines
 pub mod Noted

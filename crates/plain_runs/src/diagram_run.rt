@@ -1,21 +1,24 @@
 //! The timing diagram of a run.
-ghost use Rattle.std.specs.Prelude.{◌≡◌, ◌≢◌, ◌≤◌, Ok, Err, IfErr, IfOk, IsOkAnd, OnOk};
+ghost use Rattle.std.specs.Prelude.{◌≡◌, ◌≢◌, ℕ, ◌<◌, ◌≤◌, Ok, Err, length, map, slice_index_or, All, IfErr, IfOk, IsOkAnd, IsTrue, OnOk};
 ghost use Rattle.std.specs.Io.KnownBytes.{Appends};
-ghost use Rattle.design.specs.Design.{IsDesign};
+ghost use Rattle.timing_diagram.specs.Bus.{seen_bus};
 ghost use Rattle.timing_diagram.specs.Columns.{IsDrawable};
 ghost use Rattle.plain_runs.specs.declared.diagram_fault.DiagramFault.TheVariants.{Run};
-ghost use Rattle.plain_runs.specs.Drawn.{DiagramEndsBy, diagram_of_design, diagram_of_source, ticks_of_view};
+ghost use Rattle.plain_runs.specs.Drawn.{DiagramEndsBy, bus_trace, diagram_of_lanes, diagram_of_source, ticks_of_view};
 ghost use Rattle.prepared_runs.specs.Ends.{BreaksOff};
-ghost use Rattle.prepared_runs.specs.Source.{seen_source, shown_nets, MayWantMemory};
+ghost use Rattle.prepared_runs.specs.Lanes.{bits_of, bus_view, seen_lanes};
+ghost use Rattle.prepared_runs.specs.Shown.{wave_at};
+ghost use Rattle.prepared_runs.specs.Source.{seen_source, MayWantMemory};
 ghost use Rattle.prepared_runs.specs.declared.fault.SimFault.TheVariants.{Memory};
 
 use crate::diagram_fault::DiagramFault;
-use crate::plain_run::shown_waves;
+use crate::plain_run::{all_waves, copies};
 use design::Design;
-use prepared_runs::{DiagramView, Silent, SimFault, Source, prepare, shown_nets};
-use std::alloc::Global;
+use logic3::Waveform;
+use prepared_runs::{BusNets, DiagramView, Lanes, Silent, SimFault, Source, lanes_of, prepare};
+use std::alloc::{AllocError, Global};
 use std::io::Write;
-use timing_diagram::{Columns, Form, draw};
+use timing_diagram::{Bus, Columns, Form, draw};
 use timing_text::Horizon;
 
 /// Writes the timing diagram of a run, which the plain engine computes up to its horizon.
@@ -42,17 +45,8 @@ pub fn diagram<W: Write>(
 {
     let columns = columns_of(view)?;
     let (horizon, design) = prepare(alloc, source, view.horizon)?;
-    let nets = shown_nets(alloc, &design, &view.show)?;
-    draw_design(
-        alloc,
-        &design,
-        horizon,
-        view,
-        form,
-        nets.as_slice(),
-        columns,
-        out,
-    )?;
+    let lanes = lanes_of(alloc, &design, view)?;
+    draw_lanes(alloc, &design, horizon, &lanes, form, columns, out)?;
     Ok(())
 }
 
@@ -67,27 +61,90 @@ fn columns_of(view: &DiagramView<'_>) -> Result<Columns, DiagramFault>
     Ok(Columns::new(view.from, view.to, view.step, view.at_end, horizon)?)
 }
 
-/// Runs a design by the plain engine, and draws these nets, which are the shown ones.
-fn draw_design<W: Write>(
+/// Runs a design by the plain engine, and draws these lanes.
+fn draw_lanes<W: Write>(
     alloc: Global,
     design: &Design,
     horizon: Horizon,
-    view: &DiagramView<'_>,
+    lanes: &Lanes<'_>,
     form: Form,
-    nets: &[u32],
     columns: Columns,
     out: &mut W,
 ) -> Result<(), SimFault>
-    requires nets { nets.now ≡ shown_nets view.now.show design.now.netlist }
-    requires well_formed { IsDesign design.now }
+    requires nets_exist { All (λ net. net < length design.now.circuit) lanes.now.nets.items }
+    requires bits_exist { All (λ net. net < length design.now.circuit) (bits_of (seen_lanes lanes.now).buses) }
+    requires few { length lanes.now.nets.items ≤ length design.now.circuit }
     requires drawable { IsDrawable columns }
     requires within { columns.to ≤ horizon }
     ensures ok { OnOk result (Appends (W.contents out.old) (W.contents out.new)
-        (diagram_of_design view.now form columns design.now)) }
+        (diagram_of_lanes form columns design.now.circuit (seen_lanes lanes.now))) }
     ensures err { IfErr result (BreaksOff (W.contents out.old) (W.contents out.new)
-        (diagram_of_design view.now form columns design.now)) }
+        (diagram_of_lanes form columns design.now.circuit (seen_lanes lanes.now))) }
 {
-    let waves = shown_waves(alloc, design, horizon, &view.show, nets, &mut Silent)?;
-    draw(alloc, out, design, nets, waves.as_slice(), columns, form)?;
+    let waves = all_waves(alloc, design, horizon, &mut Silent)?;
+    let nets = lanes.nets.as_slice();
+    let buses = bus_waves(alloc, waves.as_slice(), lanes.buses.as_slice())?;
+    let shown = lane_waves(alloc, waves, nets)?;
+    draw(
+        alloc,
+        out,
+        design,
+        nets,
+        shown.as_slice(),
+        buses.as_slice(),
+        columns,
+        form,
+    )?;
     Ok(())
+}
+
+/// Returns the waveforms of these nets, of all waveforms.
+fn lane_waves(
+    alloc: Global,
+    waves: Vec<Waveform>,
+    nets: &[u32],
+) -> Result<Vec<Waveform>, AllocError>
+    requires { All (λ net. net < length waves.items) nets.now }
+    ensures { IfOk result (λ shown. shown.items ≡ map (wave_at waves.items) nets.now) }
+{
+    if are_all(waves.as_slice().len(), nets) {
+        return Ok(waves);
+    }
+    copies(alloc, waves.as_slice(), nets)
+}
+
+/// Returns whether these are all nets, in the order of their numbers.
+fn are_all(count: usize, nets: &[u32]) -> bool
+    ensures size { IsTrue result → length nets.now ≡ count }
+    ensures places { IsTrue result → (place : ℕ) → place < count → slice_index_or nets.now place 0 ≡ place }
+{
+    if nets.len() != count {
+        return false;
+    }
+    for (place, net) in nets.iter().enumerate() {
+        if *net as usize != place {
+            return false;
+        }
+    }
+    true
+}
+
+/// Returns the buses with the waveforms of their bits, of all waveforms.
+fn bus_waves<'a>(
+    alloc: Global,
+    waves: &[Waveform],
+    buses: &[BusNets<'a>],
+) -> Result<Vec<Bus<'a>>, AllocError>
+    requires { All (λ net. net < length waves.now) (bits_of (map bus_view buses.now)) }
+    ensures { IfOk result (λ drawn. map seen_bus drawn.items ≡ map (bus_trace (wave_at waves.now)) (map bus_view buses.now)) }
+{
+    let mut drawn = Vec::with_capacity(alloc, buses.len())?;
+    for bus in buses {
+        let bits = copies(alloc, waves, bus.nets.as_slice())?;
+        drawn.push(Bus {
+            name: bus.name,
+            bits,
+        })?;
+    }
+    Ok(drawn)
 }

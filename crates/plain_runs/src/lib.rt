@@ -1,4 +1,4 @@
-//! Runs by the plain engine: their dumps, timing diagrams, causes of values, and notes on them.
+//! Runs by the plain engine: their dumps, timing diagrams, and notes on them.
 #![tactic(auto)]
 
 mod diagram_fault;
@@ -12,10 +12,8 @@ mod plain_run;
 mod remark;
 mod text;
 mod unused;
-mod why_run;
 
 pub use diagram_fault::DiagramFault;
 pub use diagram_run::diagram;
 pub use notes::notes_text;
 pub use plain_run::{plain, plain_with_progress};
-pub use why_run::why;

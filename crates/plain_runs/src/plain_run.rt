@@ -105,7 +105,7 @@ fn dump_by_plain_engine<W: Write, P: Progress>(
 }
 
 /// Returns the waveforms of the shown nets, and reports the engine's progress.
-pub(crate) fn shown_waves<P: Progress>(
+fn shown_waves<P: Progress>(
     alloc: Global,
     design: &Design,
     horizon: Horizon,
@@ -126,7 +126,7 @@ pub(crate) fn shown_waves<P: Progress>(
 }
 
 /// Returns the waveforms of all nets, in their order, and reports the engine's progress.
-fn all_waves<P: Progress>(
+pub(crate) fn all_waves<P: Progress>(
     alloc: Global,
     design: &Design,
     horizon: Horizon,
@@ -146,7 +146,11 @@ fn all_waves<P: Progress>(
 }
 
 /// Returns copies of the waveforms of these nets.
-fn copies(alloc: Global, waves: &[Waveform], nets: &[u32]) -> Result<Vec<Waveform>, AllocError>
+pub(crate) fn copies(
+    alloc: Global,
+    waves: &[Waveform],
+    nets: &[u32],
+) -> Result<Vec<Waveform>, AllocError>
     requires { All (λ net. net < length waves.now) nets.now }
     ensures { IfOk result (λ copies. copies.items ≡ map (wave_at waves.now) nets.now) }
 {

@@ -1,3 +1,4 @@
+mod AllFound
 mod Answer
 pub mod CallerLemmas
 mod DeckText
@@ -6,6 +7,7 @@ mod Ends
 mod First
 mod Found
 mod Lines
+mod MeantNets
 mod Reporting
 mod Rows
 mod Rules

@@ -2,6 +2,8 @@ pub mod Ends
 pub mod Events
 pub mod Faults
 pub mod Marked
+pub mod Meant
+pub mod Lanes
 pub mod Prepared
 pub mod Shown
 pub mod Source

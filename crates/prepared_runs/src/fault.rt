@@ -6,7 +6,7 @@ use bench_text::BenchFault;
 use cmb_events::ScheduleFault;
 use design::BuildFault;
 use fanin_cone::ConeFault;
-use std::alloc::AllocError;
+use std::alloc::{AllocError, AllocFailed};
 use std::fmt;
 use thiserror::Error;
 use timing_text::{DelayFault, OptionFault, StimulusFault};
@@ -75,6 +75,14 @@ impl From<AllocError> for SimFault {
     ghost from_gives = { λ _ e. e ≡ sim.Memory };
 
     fn from(_error: AllocError) -> SimFault {
+        SimFault::Memory
+    }
+}
+
+impl<T: Drop> From<AllocFailed<T>> for SimFault {
+    ghost from_gives = { λ _ e. e ≡ sim.Memory };
+
+    fn from(_failed: AllocFailed<T>) -> SimFault {
         SimFault::Memory
     }
 }

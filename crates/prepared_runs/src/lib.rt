@@ -3,6 +3,8 @@
 
 mod deck_fault;
 mod fault;
+mod lanes;
+mod meant;
 mod nets;
 mod percents;
 mod preparation;
@@ -14,6 +16,8 @@ mod view;
 
 pub use deck_fault::DeckFault;
 pub use fault::SimFault;
+pub use lanes::{BusNets, Lanes, lanes_of};
+pub use meant::nets_meant;
 pub use nets::{marks_of, net_named, shown_nets};
 pub use percents::Percents;
 pub use preparation::{PreparedRun, prepare, prepare_run};

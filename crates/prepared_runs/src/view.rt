@@ -38,6 +38,8 @@ pub struct DumpView<'a> {
 pub struct DiagramView<'a> {
     /// Which nets it shows, from top to bottom.
     pub show: Selection<'a>,
+    /// The words of the buses that it shows after the nets, such as `data[7:0]`.
+    pub buses: Vec<&'a [u8]>,
     /// The last tick of the run: at most 10,000,000.
     pub horizon: u64,
     /// The first tick that is drawn.

@@ -32,7 +32,7 @@ use Rattle.kernel_runs.specs.Diffs.{pair_of}
 use Rattle.plain_runs.specs.Drawn.{diagram_of_source}
 use Rattle.timing_diagram.specs.declared.form.Form.{Form}
 use Rattle.drawn_stimuli.specs.Driven.{stimuli_of_drives}
-use Rattle.plain_runs.specs.Explained.{why_of_source}
+use Rattle.kernel_runs.specs.Explained.{why_of_source}
 use Rattle.event_trace.specs.declared.trace_view.TraceView.{TraceView}
 use Rattle.event_trace.specs.Traced.{shown_trace_of_source}
 use Rattle.prepared_runs.specs.Events.{PicksView, events_of_picks}

@@ -21,7 +21,7 @@ use Rattle.drawn_stimuli.specs.Driven.{stimuli_of_drives}
 use Rattle.kernel_runs.specs.declared.diff_fault.DiffFault.{DiffFault}
 use Rattle.wave_diff.specs.declared.diff_ticks.DiffTicks.{DiffTicks}
 use Rattle.kernel_runs.specs.Diffs.{IsDiff, Pair, pair_of}
-use Rattle.plain_runs.specs.Explained.{why_of_source}
+use Rattle.kernel_runs.specs.Explained.{why_of_source}
 use Rattle.circuit_info.specs.InfoText.{IsInfoOf}
 use Rattle.design.specs.Design.{DesignView}
 use Rattle.event_trace.specs.declared.trace_view.TraceView.{TraceView}

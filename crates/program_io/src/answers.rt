@@ -17,9 +17,9 @@ use event_trace::{TraceView, trace_shown};
 use fanin_cone::cone_text;
 use kernel_runs::{
     DiffTicks, check, check_text, diff, simulate_with_progress, sweep_with_progress, twin,
-    twin_text,
+    twin_text, why,
 };
-use plain_runs::{diagram, plain_with_progress, why};
+use plain_runs::{diagram, plain_with_progress};
 use prepared_runs::{DiagramView, DumpView, Progress, SimFault, Source, prepare};
 use std::alloc::Global;
 use std::io::Write;

@@ -2,6 +2,9 @@
 use Rattle.std.proofs.Common.{◌≡◌, arith, ℕ, suc, ◌+◌, ◌-◌, ◌<◌, List, [], ◌∷◌, ◌++◌, map, flat_map, append_assoc}
 use Rattle.std.specs.List.{range_with_len}
 
+pub joined₃ : (l l₁ l₂ l₃ a b c : List ℕ) → l₁ ≡ l ++ a → l₂ ≡ l₁ ++ b → l₃ ≡ l₂ ++ c → l₃ ≡ l ++ (a ++ b ++ c)
+joined₃ l l₁ l₂ l₃ a b c p q r = rw (r, q, p) (simp append_assoc)
+
 pub joined₄ : (l l₁ l₂ l₃ l₄ a b c d : List ℕ) → l₁ ≡ l ++ a → l₂ ≡ l₁ ++ b → l₃ ≡ l₂ ++ c → l₄ ≡ l₃ ++ d → l₄ ≡ l ++ (a ++ b ++ c ++ d)
 joined₄ l l₁ l₂ l₃ l₄ a b c d p q r s = rw (s, r, q, p) (simp append_assoc)
 

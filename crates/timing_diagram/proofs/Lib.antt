@@ -1,4 +1,5 @@
 mod Alike
+mod Bits
 pub mod CallerLemmas
 mod Escapes
 mod Joined

@@ -1,6 +1,7 @@
 pub use Rattle.vcd_dump.specs.Traces
 pub use Rattle.logic3.specs.Wave
 pub use Rattle.design.specs.Circuit
+pub mod Bus
 pub mod Columns
 pub mod Faults
 pub mod Marks

@@ -1,18 +1,23 @@
 -- The text of a drawing as a picture.
-use Rattle.std.specs.Prelude.{ℕ, Bool, ◌+◌, ◌*◌, ◌/◌, ◌%◌, ◌==◌, nat_lt, if◌then◌else◌, min, max, List, [], ◌∷◌, ◌++◌, length, flat_map, codes}
+use Rattle.std.specs.Prelude.{ℕ, Bool, ◌+◌, ◌*◌, ◌/◌, ◌%◌, ◌==◌, nat_lt, ◌&&◌, if◌then◌else◌, min, max, List, [], ◌∷◌, ◌++◌, length, flat_map, codes}
 use Rattle.std.specs.List.{enumerate_from, range_with_len}
 use Rattle.logic3.specs.declared.value.Value.{Value}
 use Rattle.texts.specs.Written.{numbered}
 use Rattle.vcd_dump.specs.Dump.{Trace}
 use Rattle.timing_diagram.specs.declared.mark.Mark.{Mark}
 use Rattle.timing_diagram.specs.declared.mark.Mark.TheVariants.{Low, Fall, High, Rise, Unsure, Changing}
-use Rattle.timing_diagram.specs.Columns.{Ticks, column_count, first_tick}
+use Rattle.timing_diagram.specs.Bus.{BusTrace, begins, digits, fits, lasting, shows_bits}
+use Rattle.timing_diagram.specs.Columns.{Ticks, column_count, first_tick, shown_tick}
 use Rattle.timing_diagram.specs.Marks.{mark_at}
 
 -- the length in bytes of the longest name
-abbrev pub widest : List Trace → ℕ
+abbrev pub widest : {A : Type 0} → List (List ℕ × A) → ℕ
 widest [] = 0
-widest ((name, signal) ∷ traces) = max (length name) (widest traces)
+widest ((name, shown) ∷ lanes) = max (length name) (widest lanes)
+
+-- that of nets and buses
+abbrev pub name_width : List Trace → List BusTrace → ℕ
+name_width traces buses = max (widest traces) (widest buses)
 
 -- a byte escaped for XML
 abbrev pub escaped_byte : ℕ → List ℕ
@@ -27,11 +32,11 @@ abbrev pub escaped : List ℕ → List ℕ
 escaped name = flat_map escaped_byte name
 
 -- where the columns begin: right of the names, of at most 255 bytes
-abbrev pub left_edge : List Trace → ℕ
-left_edge traces = 8 * min (widest traces) 255 + 16
+abbrev pub left_edge : List Trace → List BusTrace → ℕ
+left_edge traces buses = 8 * min (name_width traces buses) 255 + 16
 
-abbrev pub picture_height : List Trace → ℕ
-picture_height traces = 30 * length traces + 40
+abbrev pub picture_height : List Trace → List BusTrace → ℕ
+picture_height traces buses = 30 * (length traces + length buses) + 40
 
 -- a mark ten wide and sixteen high, from the left end of its column on
 abbrev pub mark_path : Mark → List ℕ
@@ -85,15 +90,53 @@ abbrev pub name_row : ℕ → List ℕ → List ℕ
 name_row place name =
     numbered (codes "<text x=\"8\" y=\"") (30 * place + 44) ++ codes "\">" ++ escaped name ++ codes "</text>"
 
--- the lines at a place
-abbrev pub signal_row : ℕ → Ticks → ℕ → (ℕ → Value) → List ℕ
-signal_row left ticks place signal =
+-- lines at a place
+abbrev pub path_row : ℕ → ℕ → List ℕ → List ℕ
+path_row left place path =
     numbered (codes "<path transform=\"translate(") left
     ++ numbered (codes " ") (30 * place + 30)
-    ++ codes ")\" d=\"" ++ signal_path signal ticks ++ codes "\" fill=\"none\" stroke=\"currentColor\"/>\n"
+    ++ codes ")\" d=\"" ++ path ++ codes "\" fill=\"none\" stroke=\"currentColor\"/>\n"
+
+-- the lines of a signal at a place
+abbrev pub signal_row : ℕ → Ticks → ℕ → (ℕ → Value) → List ℕ
+signal_row left ticks place signal = path_row left place (signal_path signal ticks)
 
 abbrev pub trace_row : ℕ → Ticks → ℕ × Trace → List ℕ
 trace_row left ticks (place, (name, signal)) = name_row place name ++ signal_row left ticks place signal
+
+-- a box around columns
+abbrev pub box_path : ℕ → ℕ → List ℕ
+box_path column columns =
+    numbered (codes "M") (10 * column) ++ numbered (codes " 0h") (10 * columns) ++ numbered (codes "v16h-") (10 * columns) ++ codes "z"
+
+-- the lines of the columns from one on that show the same of a bus: a box, or the mark of a change; they have been drawn if that
+-- began before
+abbrev pub value_path : List (ℕ → Value) → Ticks → ℕ → List ℕ
+value_path bits ticks column =
+    if begins bits ticks column
+    then (if shows_bits bits ticks column then box_path column (lasting bits ticks column)
+    else numbered (codes "M") (10 * column) ++ mark_path Changing)
+    else []
+
+-- the lines of a bus
+abbrev pub bus_path : List (ℕ → Value) → Ticks → List ℕ
+bus_path bits ticks = flat_map (value_path bits ticks) (range_with_len 0 (column_count ticks))
+
+-- the digits in a box, if it has room for them
+abbrev pub value_label : ℕ → ℕ → List (ℕ → Value) → Ticks → ℕ → List ℕ
+value_label left place bits ticks column =
+    if begins bits ticks column && (shows_bits bits ticks column && fits bits ticks column)
+    then numbered (codes "<text x=\"") (left + 10 * column + 2) ++ numbered (codes "\" y=\"") (30 * place + 42)
+    ++ codes "\">" ++ digits bits (shown_tick ticks column) ++ codes "</text>\n"
+    else []
+
+abbrev pub bus_labels : ℕ → ℕ → List (ℕ → Value) → Ticks → List ℕ
+bus_labels left place bits ticks = flat_map (value_label left place bits ticks) (range_with_len 0 (column_count ticks))
+
+-- a bus at a place
+abbrev pub bus_row : ℕ → Ticks → ℕ × BusTrace → List ℕ
+bus_row left ticks (place, (name, bits)) =
+    name_row place name ++ path_row left place (bus_path bits ticks) ++ bus_labels left place bits ticks
 
 -- what the grid has at a column
 abbrev pub grid_at : ℕ → ℕ → Ticks → ℕ → List ℕ
@@ -102,10 +145,12 @@ grid_at left height ticks column = if has_line ticks column then grid_line left 
 abbrev pub grid : ℕ → ℕ → Ticks → List ℕ
 grid left height ticks = flat_map (grid_at left height ticks) (range_with_len 0 (column_count ticks))
 
--- the drawing as SVG
-abbrev pub svg_text : Ticks → List Trace → List ℕ
-svg_text ticks traces =
-    heading (left_edge traces) (picture_height traces) (column_count ticks)
-    ++ grid (left_edge traces) (picture_height traces) ticks
-    ++ flat_map (trace_row (left_edge traces) ticks) (enumerate_from 0 traces)
+-- the drawing as SVG: the nets, and after them the buses
+abbrev pub svg_text : Ticks → List Trace → List BusTrace → List ℕ
+svg_text ticks traces buses =
+    let left = left_edge traces buses in
+    let height = picture_height traces buses in
+    heading left height (column_count ticks) ++ grid left height ticks
+    ++ flat_map (trace_row left ticks) (enumerate_from 0 traces)
+    ++ flat_map (bus_row left ticks) (enumerate_from (length traces) buses)
     ++ codes "</svg>\n"

@@ -1,9 +1,11 @@
-ghost use Rattle.std.specs.Prelude.{◌≡◌, ◌≢◌, ◌<◌, ◌≤◌, ◌++◌, length, All, OnOk, OnErr, IfErr, Err};
+ghost use Rattle.std.specs.Prelude.{◌≡◌, ◌≢◌, ◌<◌, ◌≤◌, ◌++◌, length, map, All, OnOk, OnErr, IfErr, Err};
 ghost use Rattle.std.specs.Io.KnownBytes.{Appends};
 ghost use Rattle.texts.specs.Written.{AppendsPrefix};
 ghost use Rattle.vcd_dump.specs.Traces.{traces};
+ghost use Rattle.timing_diagram.specs.Bus.{seen_bus};
 ghost use Rattle.timing_diagram.specs.Drawing.{drawing};
 
+use crate::bus::Bus;
 use crate::columns::Columns;
 use crate::form::Form;
 use crate::picture::push_svg;
@@ -20,6 +22,7 @@ fn push_drawing(
     design: &Design,
     shown: &[u32],
     waves: &[Waveform],
+    buses: &[Bus<'_>],
     columns: Columns,
     form: Form,
 ) -> Result<(), AllocError>
@@ -27,18 +30,22 @@ fn push_drawing(
     requires one_wave_each { length waves.now ≡ length shown.now }
     requires few { length shown.now ≤ length design.now.circuit }
     ensures { OnOk result (text.new.items ≡ text.old.items
-        ++ drawing form columns (traces design.now.circuit shown.now waves.now)) }
+        ++ drawing form columns (traces design.now.circuit shown.now waves.now) (map seen_bus buses.now)) }
 {
     match form {
-        Form::Text => push_text(text, design, shown, waves, columns),
+        Form::Text => push_text(text, design, shown, waves, buses, columns),
         Form::Svg => {
             prove!(shown.len() as u64 <= u64::from(design.nets()));
-            push_svg(text, design, shown, waves, columns)
+            push_svg(text, design, shown, waves, buses, columns)
         }
     }
 }
 
-/// Writes the timing diagram of the shown nets, from their waveforms.
+/// Writes the timing diagram of the shown nets and of buses, from their waveforms. Each net has a lane, and after
+/// the nets each bus has one.
+///
+/// A column of a bus shows a value if a column of each bit does. The hexadecimal digits of the value are written
+/// once, and cover the columns that show the same value of each bit. A digit is `x` if one of its bits is X.
 ///
 /// The whole diagram is built before its first byte is written: one character, or about 20 bytes, for
 /// each net and column. The writer isn't flushed.
@@ -53,6 +60,7 @@ pub fn draw<W: Write>(
     design: &Design,
     shown: &[u32],
     waves: &[Waveform],
+    buses: &[Bus<'_>],
     columns: Columns,
     form: Form,
 ) -> Result<(), DumpFault>
@@ -60,14 +68,14 @@ pub fn draw<W: Write>(
     requires one_wave_each { length waves.now ≡ length shown.now }
     requires few { length shown.now ≤ length design.now.circuit }
     ensures ok { OnOk result (Appends (W.contents out.old) (W.contents out.new)
-        (drawing form columns (traces design.now.circuit shown.now waves.now))) }
+        (drawing form columns (traces design.now.circuit shown.now waves.now) (map seen_bus buses.now))) }
     ensures err { OnErr result (AppendsPrefix (W.contents out.old) (W.contents out.new)
-        (drawing form columns (traces design.now.circuit shown.now waves.now))) }
+        (drawing form columns (traces design.now.circuit shown.now waves.now) (map seen_bus buses.now))) }
     ensures fault { IfErr result (λ fault. fault ≢ DumpFault.Failed) }
     ensures memory { result ≡ Err DumpFault.Memory → W.contents out.new ≡ W.contents out.old }
 {
     let mut text = Vec::new(alloc);
-    push_drawing(&mut text, design, shown, waves, columns, form)?;
+    push_drawing(&mut text, design, shown, waves, buses, columns, form)?;
     write_all_bytes(out, text.as_slice())?;
     Ok(())
 }

@@ -15,7 +15,7 @@ fn is_steady(wave: &Waveform, first: u64, last: u64) -> bool
 }
 
 /// Returns whether a waveform shows a value in a column: the one at its end, or a value that it has throughout.
-fn shows_value(wave: &Waveform, columns: Columns, column: u64) -> bool
+pub(crate) fn shows_value(wave: &Waveform, columns: Columns, column: u64) -> bool
     requires { column < column_count columns }
     ensures { result ≡ shows_value (value_at wave.now) columns column }
 {

@@ -1,14 +1,17 @@
-ghost use Rattle.std.specs.Prelude.{◌≡◌, ◌<◌, ◌++◌, ◌+◌, ◌^◌, length, All, flat_map, OnOk};
+ghost use Rattle.std.specs.Prelude.{◌≡◌, ◌<◌, ◌++◌, ◌+◌, ◌^◌, length, map, All, flat_map, OnOk};
 ghost use Rattle.std.specs.List.{enumerate_from};
 ghost use Rattle.logic3.specs.Wave.{value_at};
 ghost use Rattle.vcd_dump.specs.Traces.{traces};
+ghost use Rattle.timing_diagram.specs.Bus.{seen_bus};
 ghost use Rattle.timing_diagram.specs.Columns.{column_count};
 ghost use Rattle.timing_diagram.specs.Picture.{escaped_byte, escaped, mark_path, column_path, signal_path, heading, grid_line, grid_at, grid, name_row, signal_row, trace_row, svg_text};
 
+use crate::bus::Bus;
+use crate::bus_picture::push_bus_rows;
 use crate::columns::Columns;
 use crate::mark::Mark;
 use crate::marks::mark_at;
-use crate::text::widest;
+use crate::text::name_width;
 use design::Design;
 use logic3::Waveform;
 use std::alloc::AllocError;
@@ -35,7 +38,7 @@ fn push_escaped(text: &mut Vec<u8>, name: &[u8]) -> Result<(), AllocError>
     Ok(())
 }
 
-fn mark_path(mark: Mark) -> &'static [u8]
+pub(crate) fn mark_path(mark: Mark) -> &'static [u8]
     ensures { result.now ≡ mark_path mark }
 {
     match mark {
@@ -148,8 +151,8 @@ fn push_grid(text: &mut Vec<u8>, left: u64, height: u64, columns: Columns) -> Re
     Ok(())
 }
 
-fn push_name(text: &mut Vec<u8>, place: u64, name: &[u8]) -> Result<(), AllocError>
-    requires { place < 2 ^ 32 }
+pub(crate) fn push_name(text: &mut Vec<u8>, place: u64, name: &[u8]) -> Result<(), AllocError>
+    requires { place < 2 ^ 58 }
     ensures { OnOk result (text.new.items ≡ text.old.items ++ name_row place name.now) }
 {
     push_numbered(text, b"<text x=\"8\" y=\"", 30 * place + 44)?;
@@ -198,25 +201,27 @@ fn push_rows(
     Ok(())
 }
 
-/// Adds the drawing of some nets as SVG.
-pub fn push_svg(
+/// Adds the drawing of some nets and buses as SVG.
+pub(crate) fn push_svg(
     text: &mut Vec<u8>,
     design: &Design,
     shown: &[u32],
     waves: &[Waveform],
+    buses: &[Bus<'_>],
     columns: Columns,
 ) -> Result<(), AllocError>
     requires shown_exist { All (λ net. net < length design.now.circuit) shown.now }
     requires one_wave_each { length waves.now ≡ length shown.now }
     requires few { length shown.now < 2 ^ 32 }
     ensures { OnOk result (text.new.items ≡ text.old.items
-        ++ svg_text columns (traces design.now.circuit shown.now waves.now)) }
+        ++ svg_text columns (traces design.now.circuit shown.now waves.now) (map seen_bus buses.now)) }
 {
-    let left = 8 * widest(design, shown, waves).min(255) as u64 + 16;
-    let height = 30 * shown.len() as u64 + 40;
+    let left = 8 * name_width(design, shown, waves, buses).min(255) as u64 + 16;
+    let height = 30 * (shown.len() + buses.len()) as u64 + 40;
     push_heading(text, left, height, columns.count())?;
     push_grid(text, left, height, columns)?;
     push_rows(text, design, shown, waves, left, columns)?;
+    push_bus_rows(text, shown.len() as u64, buses, left, columns)?;
     text.extend_from_slice(b"</svg>\n")?;
     Ok(())
 }

@@ -1,10 +1,13 @@
-ghost use Rattle.std.specs.Prelude.{◌≡◌, ◌<◌, ◌++◌, ◌*◌, length, All, OnOk};
+ghost use Rattle.std.specs.Prelude.{◌≡◌, ◌<◌, ◌++◌, ◌*◌, length, map, flat_map, All, OnOk};
 ghost use Rattle.logic3.specs.Wave.{value_at};
 ghost use Rattle.vcd_dump.specs.Traces.{traces};
 ghost use Rattle.timing_diagram.specs.Columns.{column_count};
 ghost use Rattle.timing_diagram.specs.Drawing.{mark_byte, marks_text, line_text, ruler_label, ruler_text, drawn_text};
-ghost use Rattle.timing_diagram.specs.Picture.{widest};
+ghost use Rattle.timing_diagram.specs.Bus.{seen_bus};
+ghost use Rattle.timing_diagram.specs.Picture.{name_width, widest};
 
+use crate::bus::Bus;
+use crate::bus_text::{push_bus_lines, widest_bus};
 use crate::columns::Columns;
 use crate::mark::Mark;
 use crate::marks::mark_at;
@@ -77,8 +80,22 @@ fn push_ruler(text: &mut Vec<u8>, width: usize, columns: Columns) -> Result<(), 
     Ok(())
 }
 
+/// Returns the length in bytes of the longest name of some nets and buses.
+pub(crate) fn name_width(
+    design: &Design,
+    shown: &[u32],
+    waves: &[Waveform],
+    buses: &[Bus<'_>],
+) -> usize
+    requires shown_exist { All (λ net. net < length design.now.circuit) shown.now }
+    requires one_wave_each { length waves.now ≡ length shown.now }
+    ensures { result ≡ name_width (traces design.now.circuit shown.now waves.now) (map seen_bus buses.now) }
+{
+    widest(design, shown, waves).max(widest_bus(buses))
+}
+
 /// Returns the length in bytes of the longest name of some nets.
-pub fn widest(design: &Design, shown: &[u32], waves: &[Waveform]) -> usize
+fn widest(design: &Design, shown: &[u32], waves: &[Waveform]) -> usize
     requires shown_exist { All (λ net. net < length design.now.circuit) shown.now }
     requires one_wave_each { length waves.now ≡ length shown.now }
     ensures { result ≡ widest (traces design.now.circuit shown.now waves.now) }
@@ -90,9 +107,31 @@ pub fn widest(design: &Design, shown: &[u32], waves: &[Waveform]) -> usize
     width
 }
 
-/// Adds the drawing of some nets as text.
-pub fn push_text(
+/// Adds the drawing of some nets and buses as text.
+pub(crate) fn push_text(
     text: &mut Vec<u8>,
+    design: &Design,
+    shown: &[u32],
+    waves: &[Waveform],
+    buses: &[Bus<'_>],
+    columns: Columns,
+) -> Result<(), AllocError>
+    requires shown_exist { All (λ net. net < length design.now.circuit) shown.now }
+    requires one_wave_each { length waves.now ≡ length shown.now }
+    ensures { OnOk result (text.new.items ≡ text.old.items
+        ++ drawn_text columns (traces design.now.circuit shown.now waves.now) (map seen_bus buses.now)) }
+{
+    let width = name_width(design, shown, waves, buses);
+    push_ruler(text, width, columns)?;
+    push_lines(text, width, design, shown, waves, columns)?;
+    push_bus_lines(text, width, buses, columns)?;
+    Ok(())
+}
+
+/// Adds the lines of some nets.
+fn push_lines(
+    text: &mut Vec<u8>,
+    width: usize,
     design: &Design,
     shown: &[u32],
     waves: &[Waveform],
@@ -101,10 +140,8 @@ pub fn push_text(
     requires shown_exist { All (λ net. net < length design.now.circuit) shown.now }
     requires one_wave_each { length waves.now ≡ length shown.now }
     ensures { OnOk result (text.new.items ≡ text.old.items
-        ++ drawn_text columns (traces design.now.circuit shown.now waves.now)) }
+        ++ flat_map (line_text width columns) (traces design.now.circuit shown.now waves.now)) }
 {
-    let width = widest(design, shown, waves);
-    push_ruler(text, width, columns)?;
     for (place, net) in shown.iter().enumerate() {
         push_line(text, width, design.name(*net), &waves[place], columns)?;
     }

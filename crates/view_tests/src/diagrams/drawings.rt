@@ -6,7 +6,7 @@ use logic3::Waveform;
 use std::alloc::Global;
 use std::process::Abort;
 use std::test::Fail;
-use timing_diagram::{Columns, Form, draw};
+use timing_diagram::{Bus, Columns, Form, draw};
 use timing_text::Horizon;
 
 // A circuit, its horizon, the ticks from one to another by a step, a form, and what is drawn.
@@ -147,13 +147,41 @@ static ENDS: [Row; 3] = [
     (HAZARD, 8, (4, 8, 2), Svg, HAZARD_ENDS_SVG),
 ];
 
-// The diagram of these nets is this text.
+const BUS_SVG: &[u8] =
+    b"<svg xmlns=\"http://www.w3.org/2000/svg\" width=\"180\" height=\"70\" viewBox=\"0 0 180 70\" role=\"img\" class=\"nullsim\" color=\"black\" fill=\"currentColor\" font-family=\"monospace\" font-size=\"12\">\n\
+      <title>Timing diagram by nullsim</title>\n\
+      <style>@media screen and (prefers-color-scheme: dark) { .nullsim { color: #ddd } .nullsim rect { fill: #111 } }</style>\n\
+      <rect width=\"100%\" height=\"100%\" fill=\"white\"/>\n\
+      <path d=\"M40 20V70\" stroke=\"currentColor\" stroke-opacity=\"0.2\"/><text y=\"14\" x=\"40\">0</text>\n\
+      <text x=\"8\" y=\"44\">all</text><path transform=\"translate(40 30)\" d=\"M0 0h10v16h-10zM10 0h20v16h-20zM30 0h10v16h-10zM40 0h20v16h-20z\" fill=\"none\" stroke=\"currentColor\"/>\n\
+      <text x=\"42\" y=\"42\">x</text>\n\
+      <text x=\"52\" y=\"42\">1</text>\n\
+      <text x=\"72\" y=\"42\">3</text>\n\
+      <text x=\"82\" y=\"42\">2</text>\n\
+      </svg>\n";
+
+// All nets of a circuit as one bus. Seventeen bits have five digits, for which one column isn't enough.
+static BUSES: [Row; 4] = [
+    (
+        INVERTER,
+        5,
+        (0, 5, 1),
+        Text,
+        b"     0.........\nall  x1.32.\n",
+    ),
+    (HAZARD, 8, (0, 8, 2), Text, b"     0.........\nall  |0||6\n"),
+    (S27, 4, (0, 4, 1), Text, b"     0.........\nall  #####\n"),
+    (INVERTER, 5, (0, 5, 1), Svg, BUS_SVG),
+];
+
+// The diagram of these nets and buses is this text.
 fn is_drawn(
     rt: &impl Abort,
     alloc: Global,
     design: &Design,
     shown: &[u32],
     waves: &[Waveform],
+    buses: &[Bus<'_>],
     columns: Columns,
     form: Form,
     text: &[u8],
@@ -163,7 +191,7 @@ fn is_drawn(
     assert!(rt; waves.len() == shown.len());
     assert!(rt; shown.len() as u64 <= u64::from(nets));
     let mut out = Vec::new(alloc);
-    let answer = draw(alloc, &mut out, design, shown, waves, columns, form);
+    let answer = draw(alloc, &mut out, design, shown, waves, buses, columns, form);
     assert!(rt; answer == Ok(()));
     assert!(rt; out.as_slice() == text);
 }
@@ -185,6 +213,7 @@ fn shows(rt: &impl Abort, alloc: Global, row: &Row, at_end: bool) -> Result<(), 
         &design,
         shown.as_slice(),
         waves.as_slice(),
+        &[],
         columns,
         form,
         text,
@@ -192,10 +221,30 @@ fn shows(rt: &impl Abort, alloc: Global, row: &Row, at_end: bool) -> Result<(), 
     Ok(())
 }
 
+// The diagram of one bus, whose bits are all nets in their order.
+fn shows_bus(rt: &impl Abort, alloc: Global, row: &Row) -> Result<(), Fail> {
+    let (circuit, horizon, (from, to, step), form, text) = *row;
+    let design = circuit.build(alloc)?;
+    let horizon = Horizon::new(horizon)?;
+    let bits = plain_waves(alloc, &design, horizon)?;
+    let columns = Columns::new(from, to, step, false, horizon)?;
+    let buses = [Bus { name: b"all", bits }];
+    is_drawn(rt, alloc, &design, &[], &[], &buses, columns, form, text);
+    Ok(())
+}
+
 #[test]
 fn worked_circuits(rt: HostRuntime) -> Result<(), Fail> {
     for row in &DRAWN {
         shows(&rt, rt.alloc(), row, false)?;
+    }
+    Ok(())
+}
+
+#[test]
+fn buses(rt: HostRuntime) -> Result<(), Fail> {
+    for row in &BUSES {
+        shows_bus(&rt, rt.alloc(), row)?;
     }
     Ok(())
 }
@@ -213,6 +262,6 @@ fn no_net(rt: HostRuntime) -> Result<(), Fail> {
     let design = INVERTER.build(rt.alloc())?;
     let columns = Columns::new(3, 14, 1, false, Horizon::new(14)?)?;
     let text = b"  3.........13........\n";
-    is_drawn(&rt, rt.alloc(), &design, &[], &[], columns, Text, text);
+    is_drawn(&rt, rt.alloc(), &design, &[], &[], &[], columns, Text, text);
     Ok(())
 }

@@ -52,7 +52,16 @@ fn shows_name(rt: &impl Abort, alloc: Global, design: &Design, name: &[u8]) -> R
     let mut out = Vec::new(alloc);
     let waves = [Waveform::new(alloc)];
     let columns = Columns::new(0, 0, 1, false, Horizon::new(0)?)?;
-    let answer = draw(alloc, &mut out, design, &[0], &waves, columns, Form::Text);
+    let answer = draw(
+        alloc,
+        &mut out,
+        design,
+        &[0],
+        &waves,
+        &[],
+        columns,
+        Form::Text,
+    );
     assert!(rt; answer == Ok(()));
     assert!(rt; out.as_slice() == text.as_slice());
     Ok(())
@@ -76,7 +85,16 @@ fn a_writer_that_fails(rt: HostRuntime) -> Result<(), Fail> {
     let design = INVERTER.build(rt.alloc())?;
     let columns = Columns::new(0, 5, 1, false, Horizon::new(5)?)?;
     let mut out = Narrow::new(rt.alloc(), 7, 3);
-    let answer = draw(rt.alloc(), &mut out, &design, &[], &[], columns, Form::Text);
+    let answer = draw(
+        rt.alloc(),
+        &mut out,
+        &design,
+        &[],
+        &[],
+        &[],
+        columns,
+        Form::Text,
+    );
     assert!(&rt; answer == Err(DumpFault::Write));
     assert!(&rt; out.taken.as_slice() == b"  0....".as_slice());
     Ok(())

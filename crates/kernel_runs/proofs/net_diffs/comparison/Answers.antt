@@ -1,10 +1,10 @@
-use Rattle.std.proofs.Common.{sym, ◌∙◌}
+use Rattle.std.proofs.Common.{refl, sym, ◌∙◌}
 use Rattle.prepared_runs.specs.Prepared.{seen_run}
-use Rattle.kernel_runs.proofs.Diffs.{IsComparisonOf-differs, IsComparisonOf-same, first_difference-completed}
+use Rattle.kernel_runs.proofs.Diffs.{AgreesOnCone-marked, IsComparisonOf-differs, IsComparisonOf-same, first_difference-completed}
 use Rattle.kernel_runs.proofs.net_diffs.comparison.Goals as goal
 
-pub returns-in-Some-first_difference-clause-ok : goal.returns-in-Some-first_difference-clause-ok
-returns-in-Some-first_difference-clause-ok c =
+pub returns-in-Some-first_difference : goal.returns-in-Some-first_difference
+returns-in-Some-first_difference c =
     let one = c.args.one.now in
     let other = c.args.other.now in
     let net = c.in-Some.net in
@@ -17,8 +17,8 @@ returns-in-Some-first_difference-clause-ok c =
     IsComparisonOf-differs (seen_run one) (seen_run other) c.args.ticks c.args.name.now net found other_net other_found _
     (sym same ∙ sym c.in-Some-first_difference.ensures)
 
-pub returns-in_ok-is_agreed-in-None-clause-ok : goal.returns-in_ok-is_agreed-in-None-clause-ok
-returns-in_ok-is_agreed-in-None-clause-ok c =
+pub returns-in-None : goal.returns-in-None
+returns-in-None c =
     let one = c.args.one.now in
     let other = c.args.other.now in
     let net = c.in-Some.net in
@@ -29,4 +29,5 @@ returns-in_ok-is_agreed-in-None-clause-ok c =
     c.waveform.result.now c.waveform-2.result.now c.requires.runs c.requires.first c.requires.second c.requires.end found other_found
     (c.waveform.ensures.undrained (c.requires.first.undrained net)) (c.waveform-2.ensures.undrained (c.requires.second.undrained other_net)) in
     IsComparisonOf-same (seen_run one) (seen_run other) c.args.ticks c.args.name.now net found other_net other_found _
-    (sym same ∙ sym c.in-None.ensures) c.in_ok-is_agreed-in-None.ensures.ok
+    (sym same ∙ sym c.in-None.ensures)
+    (AgreesOnCone-marked one other c.args.agreeing.now c.args.name.now net _ c.requires.runs.first c.requires.agreeing found refl)

@@ -4,8 +4,8 @@ use Rattle.prepared_runs.specs.Source.{design_of_source, seen_source}
 use Rattle.plain_runs.specs.declared.diagram_fault.DiagramFault.{DiagramFault}
 use Rattle.plain_runs.specs.declared.diagram_fault.DiagramFault.TheVariants.{Run}
 use Rattle.plain_runs.specs.Drawn.{DiagramEndsBy}
-use Rattle.plain_runs.proofs.Diagrams.{DiagramEndsBy-BreaksOff, DiagramEndsBy-IsRefusal, DiagramEndsBy-ticks, diagram_of_source-bad_ticks, diagram_of_source-bad, diagram_of_source-good, diagram_of_source-unknown}
-use Rattle.prepared_runs.proofs.CallerLemmas.{IsReady-design_of_source}
+use Rattle.plain_runs.proofs.Diagrams.{DiagramEndsBy-BreaksOff, DiagramEndsBy-IsRefusal, DiagramEndsBy-ticks, diagram_of_source-bad_ticks, diagram_of_source-bad, diagram_of_source-good, diagram_of_source-no_lanes}
+use Rattle.prepared_runs.proofs.CallerLemmas.{AreLanes-lanes_of, IsReady-design_of_source}
 use Rattle.plain_runs.proofs.diagram_run.diagram.Goals as goal
 
 pub returns-in_err-columns-clause-err : goal.returns-in_err-columns-clause-err
@@ -23,26 +23,38 @@ returns-in_err-horizon-clause-err g c =
     rw (p.1, p.2) (DiagramEndsBy-IsRefusal (design_of_source source view.horizon) _ _ _
     (diagram_of_source-bad source view c.args.form _ (sym c.in_ok-columns.ensures.exact) _) c.in_err-horizon.ensures.err)
 
-pub returns-in_err-nets-clause-err : goal.returns-in_err-nets-clause-err
-returns-in_err-nets-clause-err g c =
-    let p = err_from_is_err_and c.from_residual-in_err-nets.result c.from_residual-in_err-nets.ensures.1 in
+pub returns-in_err-lanes-clause-err : goal.returns-in_err-lanes-clause-err
+returns-in_err-lanes-clause-err g c =
+    let p = err_from_is_err_and c.from_residual-in_err-lanes.result c.from_residual-in_err-lanes.ensures.1 in
     rw (p.1, p.2) (DiagramEndsBy-IsRefusal _ _ _ _
-    (diagram_of_source-unknown (seen_source c.args.source.now) c.args.view.now c.args.form _ (sym c.in_ok-columns.ensures.exact) _ _ c.in_ok-horizon.ensures.ok _ _) c.in_err-nets.ensures.err)
+    (diagram_of_source-no_lanes (seen_source c.args.source.now) c.args.view.now c.args.form _ (sym c.in_ok-columns.ensures.exact) _ _ c.in_ok-horizon.ensures.ok _) c.in_err-lanes.ensures.err)
 
-pub draw_design-requires-clause-within : goal.draw_design-requires-clause-within
-draw_design-requires-clause-within g c =
+pub draw_lanes-requires-clause-nets_exist : goal.draw_lanes-requires-clause-nets_exist
+draw_lanes-requires-clause-nets_exist g c =
+    (AreLanes-lanes_of c.args.view.now c.in_ok-horizon.design c.in_ok-lanes.ensures.well_formed _ c.in_ok-lanes.ensures.ok).nets
+
+pub draw_lanes-requires-clause-bits_exist : goal.draw_lanes-requires-clause-bits_exist
+draw_lanes-requires-clause-bits_exist g c =
+    (AreLanes-lanes_of c.args.view.now c.in_ok-horizon.design c.in_ok-lanes.ensures.well_formed _ c.in_ok-lanes.ensures.ok).bits
+
+pub draw_lanes-requires-clause-few : goal.draw_lanes-requires-clause-few
+draw_lanes-requires-clause-few g c =
+    (AreLanes-lanes_of c.args.view.now c.in_ok-horizon.design c.in_ok-lanes.ensures.well_formed _ c.in_ok-lanes.ensures.ok).few
+
+pub draw_lanes-requires-clause-within : goal.draw_lanes-requires-clause-within
+draw_lanes-requires-clause-within g c =
     let ready = IsReady-design_of_source (seen_source c.args.source.now) c.args.view.now.horizon _ c.in_ok-horizon.ensures.ok in
     let end = ready.horizon in
     let within = c.in_ok-columns.ensures.within in omega (arith, end, within)
 
-pub returns-in_err-draw_design-clause-err : goal.returns-in_err-draw_design-clause-err
-returns-in_err-draw_design-clause-err g c =
-    let p = err_from_is_err_and c.from_residual-in_err-draw_design.result c.from_residual-in_err-draw_design.ensures.1 in
-    let good = diagram_of_source-good (seen_source c.args.source.now) c.args.view.now c.args.form _ (sym c.in_ok-columns.ensures.exact) _ _ c.in_ok-horizon.ensures.ok c.in_ok-nets.ensures.known in
+pub returns-in_err-draw_lanes-clause-err : goal.returns-in_err-draw_lanes-clause-err
+returns-in_err-draw_lanes-clause-err g c =
+    let p = err_from_is_err_and c.from_residual-in_err-draw_lanes.result c.from_residual-in_err-draw_lanes.ensures.1 in
+    let good = diagram_of_source-good (seen_source c.args.source.now) c.args.view.now c.args.form _ (sym c.in_ok-columns.ensures.exact) _ _ c.in_ok-horizon.ensures.ok _ c.in_ok-lanes.ensures.ok in
     rw (p.1, p.2)
-    (subst (λ (answer : Result (List ℕ) DiagramFault). DiagramEndsBy answer (g.W.Write.contents c.args.out.now) (g.W.Write.contents c.draw_design.new.out)
-    (Run c.in_err-draw_design.field-0.0)) (sym good) (DiagramEndsBy-BreaksOff _ _ _ _ c.in_err-draw_design.ensures.err))
+    (subst (λ (answer : Result (List ℕ) DiagramFault). DiagramEndsBy answer (g.W.Write.contents c.args.out.now) (g.W.Write.contents c.draw_lanes.new.out)
+    (Run c.in_err-draw_lanes.field-0.0)) (sym good) (DiagramEndsBy-BreaksOff _ _ _ _ c.in_err-draw_lanes.ensures.err))
 
 pub returns-clause-ok : goal.returns-clause-ok
 returns-clause-ok g c =
-    rw (diagram_of_source-good (seen_source c.args.source.now) c.args.view.now c.args.form _ (sym c.in_ok-columns.ensures.exact) _ _ c.in_ok-horizon.ensures.ok c.in_ok-nets.ensures.known) c.in_ok-draw_design.ensures.ok
+    rw (diagram_of_source-good (seen_source c.args.source.now) c.args.view.now c.args.form _ (sym c.in_ok-columns.ensures.exact) _ _ c.in_ok-horizon.ensures.ok _ c.in_ok-lanes.ensures.ok) c.in_ok-draw_lanes.ensures.ok

@@ -1,6 +1,6 @@
 use Rattle.std.proofs.lemmas.Result.{err_from_is_err_and}
 use Rattle.std.proofs.Common.{◌≡◌, refl, sym, ap}
-use Rattle.plain_runs.specs.Explained.{why_of_source}
+use Rattle.kernel_runs.specs.Explained.{why_of_source}
 use Rattle.prepared_runs.specs.Source.{seen_source}
 use Rattle.program_io.specs.Answers.{answered, just, why_answer}
 use Rattle.program_io.proofs.AnswerEnds.{AnswerEndsBy-refused, AnswerEndsBy-text, GoesOut-text, WriteEndsBy-no_read, fault_of_run-no_read}

@@ -1,7 +1,7 @@
 use Rattle.std.proofs.Common.{arith, ◌∙◌, ◌+◌, ◌++◌, ap, append_assoc, drop, get_or}
 use Rattle.logic3.specs.Wave.{value_at}
 use Rattle.vcd_dump.specs.Traces.{traces}
-use Rattle.timing_diagram.specs.Picture.{name_row, signal_row}
+use Rattle.timing_diagram.specs.Picture.{name_row, signal_row, trace_row}
 use Rattle.timing_diagram.proofs.Nets.{traces-next, rows-next}
 use Rattle.timing_diagram.proofs.picture.push_rows.Goals as goal
 
@@ -14,7 +14,7 @@ loop-place-preserved c =
     let name = c.name.result.now in
     let wave = c.index-waves-place.result in
     let at = value_at (get_or waves place wave) in
-    rows-next c.args.left c.args.columns place (name, at) (traces circuit (drop place shown) (drop place waves))
+    rows-next (trace_row c.args.left c.args.columns) place (name, at) (traces circuit (drop place shown) (drop place waves))
     (traces circuit (drop (place + 1) shown) (drop (place + 1) waves)) c.loop-place.text.items c.push_signal_row.new.text.items
     (traces-next circuit shown waves place name wave (omega arith) c.requires.one_wave_each c.name.ensures)
     (c.in_ok-push_signal_row.ensures

@@ -1,24 +1,17 @@
-use Rattle.std.proofs.Common.{arith, ◌∙◌, ◌+◌, ◌++◌, ap, drop, get_or}
-use Rattle.logic3.specs.Wave.{value_at}
+use Rattle.std.proofs.Common.{◌∙◌, ◌++◌, ap, flat_map, map}
 use Rattle.vcd_dump.specs.Traces.{traces}
-use Rattle.timing_diagram.specs.Picture.{widest}
-use Rattle.timing_diagram.specs.Drawing.{line_text}
-use Rattle.timing_diagram.proofs.Nets.{traces-next, texts-next}
+use Rattle.timing_diagram.specs.Bus.{seen_bus}
+use Rattle.timing_diagram.specs.Drawing.{bus_line, drawn_text, line_text, ruler_text}
+use Rattle.timing_diagram.specs.Picture.{name_width}
+use Rattle.timing_diagram.proofs.Joined.{joined₃}
 use Rattle.timing_diagram.proofs.text.push_text.Goals as goal
 
-pub loop-place-preserved : goal.loop-place-preserved
-loop-place-preserved c =
-    let circuit = c.args.design.now.circuit in
-    let shown = c.args.shown.now in
-    let waves = c.args.waves.now in
-    let place = c.loop-place.place in
-    let name = c.name.result.now in
-    let wave = c.index-waves-place.result in
-    let width = widest (traces circuit shown waves) in
-    texts-next (line_text width c.args.columns) (name, value_at (get_or waves place wave)) (traces circuit (drop place shown) (drop place waves))
-    (traces circuit (drop (place + 1) shown) (drop (place + 1) waves)) c.loop-place.text.items c.push_line.new.text.items
-    (traces-next circuit shown waves place name wave (omega arith) c.requires.one_wave_each c.name.ensures)
-    (c.in_ok-push_line.ensures
-    ∙ ap (λ w. c.loop-place.text.items ++ line_text w c.args.columns (name, value_at wave)) c.widest-width.ensures
-    ∙ ap (λ w. c.loop-place.text.items ++ line_text width c.args.columns (name, value_at w)) c.index-waves-place.is)
-    ∙ c.loop-place.invariant
+pub returns : goal.returns
+returns c =
+    let nets = traces c.args.design.now.circuit c.args.shown.now c.args.waves.now in
+    let buses = map seen_bus c.args.buses.now in
+    let width = c.name_width-width.result in
+    joined₃ _ _ _ _ (ruler_text width c.args.columns) (flat_map (line_text width c.args.columns) nets) (flat_map (bus_line width c.args.columns) buses)
+    c.in_ok-push_ruler.ensures c.in_ok-push_lines.ensures c.in_ok-push_bus_lines.ensures
+    ∙ ap (λ w. c.args.text.now.items ++ (ruler_text w c.args.columns ++ flat_map (line_text w c.args.columns) nets ++ flat_map (bus_line w c.args.columns) buses))
+    c.name_width-width.ensures
