@@ -88,9 +88,9 @@ abbrev pub ContinueAll : ℕ → Knowledge → List Message → Type 0
 ContinueAll limit known [] = Unit {0}
 ContinueAll limit known (message ∷ messages) = Continues limit known message × ContinueAll limit (told known message) messages
 
--- the first of the known ticks that is kept: the oldest that is asked for, or the last one known if that is earlier
+-- the first tick that is kept: the oldest that is asked for, or the first unknown one if that is earlier
 abbrev pub kept_since : ℕ → ℕ → ℕ
-kept_since oldest frontier = min oldest (frontier - 1)
+kept_since oldest frontier = min oldest frontier
 
 -- what is known, at the ticks from one on
 abbrev pub forgetting : ℕ → Knowledge → Knowledge

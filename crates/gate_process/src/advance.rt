@@ -116,6 +116,7 @@ fn reckon(
 
 /// Reckons a net of any number of pins as [`reckon`] does. It is a function of its own since its list is large,
 /// and would be cleared for a net of few pins too.
+#[inline(never)]
 fn reckon_many(
     net: &OwnNet<'_>,
     received: &[Received],
@@ -237,7 +238,7 @@ fn tell_up_to(tick: u64, told: u64, messages: &mut Vec<Packed>) -> Result<u64, A
 }
 
 /// Forgets at each pin the ticks before the oldest tick of its source that the net asks for from a frontier
-/// on, but never the last one known.
+/// on.
 pub fn keep_all(net: &OwnNet<'_>, received: &mut [Received], frontier: u64)
     requires pins { length received.old ≡ length net.now.pins }
     requires begin { (place : ℕ) (known : Knowledge) → slice_get received.old place ≡ Some known →

@@ -1,5 +1,5 @@
 //! Changes as processes keep them.
-ghost use Rattle.std.specs.Prelude.{◌≡◌, ◌==◌, ◌+◌, ◌<◌, ◌≤◌, [], ◌∷◌, ◌++◌, length, drop, nat_lt, OnOk, OnErr};
+ghost use Rattle.std.specs.Prelude.{◌≡◌, ◌==◌, ◌+◌, ◌-◌, ◌<◌, ◌≤◌, [], ◌∷◌, ◌++◌, length, take, drop, nat_lt, OnOk, OnErr};
 ghost use Rattle.std.specs.List.{prefix_len};
 ghost use Rattle.logic3.specs.declared.change.Change.{Change};
 ghost use Rattle.logic3.specs.Rising.{TicksRise};
@@ -97,11 +97,23 @@ impl KeptChanges {
             self.changes.clear();
             self.start = 0;
         } else if self.start > len / 2 {
-            self.changes.as_mut_slice().rotate_left(self.start);
+            move_to_front(self.changes.as_mut_slice(), self.start);
             self.changes.truncate(len - self.start);
             self.start = 0;
         }
     }
+}
+
+/// Moves the changes from a place on to the front. There are at most as many as before that place.
+// They change places with the first ones, since a rotation clears a room of its own at each call.
+fn move_to_front(changes: &mut [PackedChange], start: usize)
+    requires start { start ≤ length changes.old }
+    requires few { length changes.old ≤ start + start }
+    ensures moved { take (length changes.old - start) changes.new ≡ drop start changes.old }
+    ensures length { length changes.new ≡ length changes.old }
+{
+    let (dropped, left) = changes.split_at_mut(start);
+    dropped[..left.len()].swap_with_slice(left);
 }
 
 /// Adds the changes that messages report at the end of a list. An `AllocError` changes nothing.

@@ -80,6 +80,7 @@ impl Received {
 
     /// Adds the first of some messages to what is known, one after another as long as less than a tick is
     /// known, and returns how many. Null messages take no memory. After an `AllocError` some of them are added.
+    #[inline(always)]
     pub fn hear_below(&mut self, messages: &Waiting<'_>, tick: u64) -> Result<usize, AllocError>
         requires { ContinueAll (most_ticks + 1) self.old
             (take (wanted tick self.old.frontier messages.now) messages.now) }
@@ -100,8 +101,7 @@ impl Received {
         Ok(count)
     }
 
-    /// Forgets the ticks before the oldest that the pin's net still asks of its source, but never the last one
-    /// known.
+    /// Forgets the ticks before the oldest that the pin's net still asks of its source.
     // It is called for each pin at each visit of a net, and mostly forgets nothing.
     #[inline(always)]
     pub fn keep(&mut self, oldest: u64)
@@ -111,8 +111,7 @@ impl Received {
         if self.changes.is_empty() {
             return;
         }
-        let last = u64::from(self.frontier).saturating_sub(1);
-        self.forget_before(oldest.min(last));
+        self.forget_before(oldest.min(self.frontier()));
     }
 
     /// Forgets the ticks before this one.
