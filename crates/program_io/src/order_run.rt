@@ -6,8 +6,8 @@ ghost use Rattle.program_io.specs.Progress.{BrokenTicks, DoneTicks, horizon_repo
 ghost use Rattle.prepared_runs.specs.Reported.{Reported};
 
 use crate::answers::{
-    write_check, write_cone, write_diagram, write_diff, write_info, write_plain, write_run,
-    write_stimuli, write_trace, write_twin, write_why,
+    write_check, write_cone, write_diagram, write_diff, write_frontiers, write_info, write_plain,
+    write_run, write_stimuli, write_trace, write_twin, write_why,
 };
 use crate::{OrderTexts, Outcome, ProgramFault};
 use command_line::Order;
@@ -65,6 +65,11 @@ pub fn write_answer<W: Write, P: Progress>(
             };
             write_trace(alloc, &source.source(one), *horizon, &view, out)
         }
+        Order::Frontiers {
+            source,
+            horizon,
+            show,
+        } => write_frontiers(alloc, &source.source(one), *horizon, show, out),
         Order::Why { source, net, tick } => {
             write_why(alloc, &source.source(one), net, *tick, out)
         }
