@@ -21,7 +21,7 @@ _nullsim_options() {
         draw) options=(--bench=FILE --verbose --delays=FILE --stimuli=FILE --delay=N --period=N --horizon=N
             --show=all/outputs --nets=NAMES --bus=BUS --from=N --to=N --step=N --at-end --svg --help) ;;
         trace) options=(--bench=FILE --verbose --delays=FILE --stimuli=FILE --delay=N --period=N --horizon=N
-            --schedule=FILE --seed=N --picks=N --no-idle --net=NAME --help) ;;
+            --schedule=FILE --seed=N --picks=N --no-idle --net=NAME --frontiers --nets=NAMES --help) ;;
         why) options=(--bench=FILE --verbose --delays=FILE --stimuli=FILE --delay=N --period=N --net=NAME --at=N --help) ;;
         stimuli) options=(--bench=FILE --verbose --horizon=N --clock=NAME --hold=NAME --pulse=NAME --every=N --seed=N
             --only --help) ;;

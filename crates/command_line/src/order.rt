@@ -79,7 +79,7 @@ pub enum Order<'a> {
     Diff {
         first: SourceOptions<'a>,
         second: SourceOptions<'a>,
-        /// The names of the nets; if there are none, the outputs of both runs are compared.
+        /// The names of the nets, or `all`; if there are none, the outputs of both runs are compared.
         names: Vec<&'a [u8]>,
         ticks: DiffTicks,
     },
