@@ -46,7 +46,12 @@ const LONG_RUN_TABLE: &[u8] = b" round       a       y\n \
 
 static TABLES: [Row; 9] = [
     (INVERTER, 5, b"", INVERTER_TABLE),
-    (INVERTER, 5, SCHEDULE, b"round  a  y\nstart  6  1\n    1  6  6\n"),
+    (
+        INVERTER,
+        5,
+        SCHEDULE,
+        b"round  a  y\nstart  6  1\n    1  6  6\n",
+    ),
     (INVERTER, 5, WHOLE, b"round  a  y\nstart  6  6\n"),
     (INVERTER, 0, b"", b"round  a  y\nstart  0  0\n    1  1  1\n"),
     (INVERTER, 99_999, b"", LONG_RUN_TABLE),
