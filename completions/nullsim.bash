@@ -19,10 +19,11 @@ _nullsim_options() {
         plain) options=(--bench=FILE --verbose --delays=FILE --stimuli=FILE --delay=N --period=N --horizon=N
             --show=all/outputs --nets=NAMES --unit=s/ms/us/ns/ps/fs --progress --help) ;;
         draw) options=(--bench=FILE --verbose --delays=FILE --stimuli=FILE --delay=N --period=N --horizon=N
-            --show=all/outputs --nets=NAMES --bus=BUS --from=N --to=N --step=N --at-end --svg --help) ;;
+            --show=all/outputs --nets=NAMES --bus=BUS --from=N --to=N --step=N --at-end --svg --progress --help) ;;
         trace) options=(--bench=FILE --verbose --delays=FILE --stimuli=FILE --delay=N --period=N --horizon=N
-            --schedule=FILE --seed=N --picks=N --no-idle --net=NAME --help) ;;
-        why) options=(--bench=FILE --verbose --delays=FILE --stimuli=FILE --delay=N --period=N --net=NAME --at=N --help) ;;
+            --schedule=FILE --seed=N --picks=N --no-idle --net=NAME --frontiers --nets=NAMES --help) ;;
+        why) options=(--bench=FILE --verbose --delays=FILE --stimuli=FILE --delay=N --period=N --net=NAME --at=N
+            --progress --help) ;;
         stimuli) options=(--bench=FILE --verbose --horizon=N --clock=NAME --hold=NAME --pulse=NAME --every=N --seed=N
             --only --help) ;;
         info) options=(--bench=FILE --verbose --delays=FILE --delay=N --period=N --help) ;;

@@ -49,6 +49,7 @@ def commands() -> list[tuple[list, bytes, int]]:
         ("run --bench latch.bench --stimuli latch.stimuli --horizon 5 --counts".split(), b"", 0),
         ("run --bench clocks.bench --delays clocks.delays --horizon 40 --nets next,fast".split(), b"", 0),
         ("trace --bench hazard.bench --stimuli hazard.stimuli --horizon 8 --no-idle --net y".split(), b"", 0),
+        ("trace --bench hazard.bench --stimuli hazard.stimuli --horizon 8 --frontiers --nets y,b".split(), b"", 0),
         ("draw --bench counter.bench --delays counter.delays --horizon 79 --show outputs --bus q[1:0]".split(), b"", 0),
         ("plain --bench pulse.bench --delays pulse.delays --stimuli pulse.stimuli --horizon 22".split(), b"", 0),
         (streams.HELP, b"", 0),

@@ -8,7 +8,7 @@ use Rattle.prepared_runs.specs.declared.view.Selection.{Selection}
 use Rattle.prepared_runs.specs.declared.view.Selection.TheVariants.{Named}
 use Rattle.prepared_runs.specs.RunTexts.{Names}
 use Rattle.command_line.specs.declared.order.Order.{Order}
-use Rattle.command_line.specs.declared.order.Order.TheVariants.{Run, Plain, Draw, Trace, Why, Stimuli, Info, Cone, Diff, Twin, Check}
+use Rattle.command_line.specs.declared.order.Order.TheVariants.{Run, Plain, Draw, Trace, Frontiers, Why, Stimuli, Info, Cone, Diff, Twin, Check}
 use Rattle.command_line.specs.declared.source_options.SourceOptions.{SourceOptions}
 use Rattle.command_line.specs.Sources.{Files, file_of_bench, files_of_options, names_of_files}
 
@@ -20,6 +20,7 @@ options_on (Run options view counts) First = Some options
 options_on (Plain options view) First = Some options
 options_on (Draw options view form) First = Some options
 options_on (Trace options horizon idle net) First = Some options
+options_on (Frontiers options horizon show) First = Some options
 options_on (Why options net tick) First = Some options
 options_on (Info options) First = Some options
 options_on (Check options horizon) First = Some options
@@ -54,6 +55,7 @@ last_tick (Run options view counts) = Some view.horizon
 last_tick (Plain options view) = Some view.horizon
 last_tick (Draw options view form) = Some view.horizon
 last_tick (Trace options horizon idle net) = Some horizon
+last_tick (Frontiers options horizon show) = Some horizon
 last_tick (Why options net tick) = Some tick
 last_tick (Check options horizon) = Some horizon
 last_tick (Diff first second names ticks) = Some ticks.horizon
@@ -75,6 +77,7 @@ names_asked (Run options view counts) = names_shown view.show
 names_asked (Plain options view) = names_shown view.show
 names_asked (Draw options view form) = names_shown view.show
 names_asked (Trace options horizon idle net) = name_shown net
+names_asked (Frontiers options horizon show) = names_shown show
 names_asked (Why options net tick) = net.now ∷ []
 names_asked (Cone bench names) = seen_names names.items
 names_asked (Diff first second names ticks) = seen_names names.items

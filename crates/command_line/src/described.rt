@@ -28,11 +28,15 @@ pub(super) enum Takes {
     NetList,
     /// The same, in place of the option with this name, with which it conflicts.
     NetListFor(&'static str),
+    /// The same, only with the option with this name.
+    NetListWith(&'static str),
     /// The word of a bus; may be repeated.
     Bus,
     /// What drives an input, in this form; may be repeated.
     Drives(&'static str),
     Nothing,
+    /// Nothing, in place of the options with these names, with which it conflicts.
+    NothingFor(&'static [&'static str]),
 }
 
 /// What holds if an option isn't given.
@@ -120,9 +124,11 @@ fn taking<'a>(arg: Arg<'a>, takes: Takes) -> Result<Arg<'a>, AllocError> {
         Takes::Net | Takes::Nets | Takes::Fault => arg.value_name("NAME"),
         Takes::NetList => net_list(arg),
         Takes::NetListFor(other) => net_list(arg).conflicts_with(other)?,
+        Takes::NetListWith(other) => net_list(arg).requires_arg(other)?,
         Takes::Bus => arg.value_name("BUS").action(ArgAction::Append),
         Takes::Drives(form) => arg.value_name(form).action(ArgAction::Append),
         Takes::Nothing => arg.action(ArgAction::SetTrue),
+        Takes::NothingFor(others) => arg.action(ArgAction::SetTrue).conflicts_with_all(others)?,
     })
 }
 

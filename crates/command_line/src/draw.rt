@@ -2,7 +2,8 @@
 use crate::described::{Absent, Described, Takes};
 use crate::help::{ends, subcommand_named};
 use crate::options::{
-    ALONE, LENGTH, SHOWN, SOURCE, names_given, number_given, selection_given, source_given,
+    ALONE, LENGTH, REPORTED, SHOWN, SOURCE, names_given, number_given, selection_given,
+    source_given,
 };
 use crate::order::Order;
 use crate::source_options::PickOptions;
@@ -58,6 +59,7 @@ pub(super) fn subcommand<'a>(alloc: Global) -> Result<Command<'a>, AllocError> {
             LENGTH.as_slice(),
             SHOWN.as_slice(),
             OPTIONS.as_slice(),
+            REPORTED.as_slice(),
         ],
     )
 }

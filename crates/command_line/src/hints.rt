@@ -62,7 +62,7 @@ static OPTIONS: [(&str, &str); 3] = [
 ];
 
 /// The options of one command alone.
-static ELSEWHERE: [(&str, &str); 10] = [
+static ELSEWHERE: [(&str, &str); 11] = [
     ("counts", "run"),
     ("clock", "stimuli"),
     ("hold", "stimuli"),
@@ -73,6 +73,7 @@ static ELSEWHERE: [(&str, &str); 10] = [
     ("svg", "draw"),
     ("to", "draw"),
     ("no-idle", "trace"),
+    ("frontiers", "trace"),
 ];
 
 /// The units that ticks don't have.

@@ -42,6 +42,14 @@ pub enum Order<'a> {
         /// The net whose events alone have a line, if one is named.
         net: Option<&'a [u8]>,
     },
+    /// Write the table of the frontiers of a run's nets by rounds.
+    Frontiers {
+        source: SourceOptions<'a>,
+        /// The last tick of the run: at most 10,000,000.
+        horizon: u64,
+        /// Which nets have a column, from left to right.
+        show: Selection<'a>,
+    },
     /// Write why a net has its value at a tick. No events are picked.
     Why {
         source: SourceOptions<'a>,
@@ -71,7 +79,7 @@ pub enum Order<'a> {
     Diff {
         first: SourceOptions<'a>,
         second: SourceOptions<'a>,
-        /// The names of the nets; if there are none, the outputs of both runs are compared.
+        /// The names of the nets, or `all`; if there are none, the outputs of both runs are compared.
         names: Vec<&'a [u8]>,
         ticks: DiffTicks,
     },
@@ -102,6 +110,7 @@ impl<'a> Order<'a> {
                 | Order::Plain { source, .. }
                 | Order::Draw { source, .. }
                 | Order::Trace { source, .. }
+                | Order::Frontiers { source, .. }
                 | Order::Why { source, .. }
                 | Order::Info { source }
                 | Order::Check { source, .. },
@@ -142,6 +151,7 @@ impl<'a> Order<'a> {
             Order::Why { tick, .. } => Some(*tick),
             Order::Diff { ticks, .. } => Some(ticks.horizon),
             Order::Trace { horizon, .. }
+            | Order::Frontiers { horizon, .. }
             | Order::Check { horizon, .. }
             | Order::Twin { horizon, .. }
             | Order::Stimuli { horizon, .. } => Some(*horizon),
@@ -157,6 +167,7 @@ impl<'a> Order<'a> {
             Order::Run { view, .. } | Order::Plain { view, .. } => names_shown(&view.show),
             Order::Draw { view, .. } => names_shown(&view.show),
             Order::Trace { net, .. } => name_shown(net),
+            Order::Frontiers { show, .. } => names_shown(show),
             Order::Why { net, .. } | Order::Twin { net, .. } => from_ref(net),
             Order::Cone { names, .. } | Order::Diff { names, .. } => names.as_slice(),
             Order::Check { .. } | Order::Stimuli { .. } | Order::Info { .. } => &[],

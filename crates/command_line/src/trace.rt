@@ -1,7 +1,7 @@
 //! The subcommand `trace`: its options, and its order.
 use crate::described::{Absent, Described, Takes};
 use crate::help::{ends, subcommand_named};
-use crate::options::{ALONE, LENGTH, SOURCE, number_given, source_given};
+use crate::options::{ALONE, LENGTH, SOURCE, number_given, selection_given, source_given};
 use crate::order::Order;
 use crate::picks::{PICKED, picks_given};
 use clap::{ArgMatches, Command, Error};
@@ -22,9 +22,28 @@ const NO_IDLE: &str = "Leave out the events that do nothing: the lines that end 
 const NET: &str = "Only the events of this net, by name: the lines advance NAME and deliver\n\
      NAME";
 
-static OPTIONS: [Described; 2] = [
+const FRONTIERS: &str =
+    "In place of events, write a table of frontiers: the number of known ticks of\n\
+     each net at the start and after each round";
+
+const NETS: &str = "The nets in the table, by name and in this order, such as y,q; only with\n\
+     --frontiers";
+
+static OPTIONS: [Described; 4] = [
     Described("no-idle", Takes::Nothing, Absent::Nothing, NO_IDLE),
     Described("net", Takes::Net, Absent::Nothing, NET),
+    Described(
+        "frontiers",
+        Takes::NothingFor(&["no-idle", "net"]),
+        Absent::Nothing,
+        FRONTIERS,
+    ),
+    Described(
+        "nets",
+        Takes::NetListWith("frontiers"),
+        Absent::Nothing,
+        NETS,
+    ),
 ];
 
 /// Returns the subcommand with its options.
@@ -46,9 +65,19 @@ pub(super) fn subcommand<'a>(alloc: Global) -> Result<Command<'a>, AllocError> {
 
 /// Returns the order that its options give.
 pub(super) fn order_given<'a>(alloc: Global, options: &ArgMatches<'a>) -> Result<Order<'a>, Error> {
+    let source = source_given(options, &ALONE, picks_given(alloc, options)?);
+    let horizon = number_given(options, "horizon");
+    if options.get_flag("frontiers") {
+        let show = selection_given(alloc, options)?;
+        return Ok(Order::Frontiers {
+            source,
+            horizon,
+            show,
+        });
+    }
     Ok(Order::Trace {
-        source: source_given(options, &ALONE, picks_given(alloc, options)?),
-        horizon: number_given(options, "horizon"),
+        source,
+        horizon,
         idle: !options.get_flag("no-idle"),
         net: options.get_str("net").map(|name| name.as_bytes()),
     })

@@ -1,7 +1,7 @@
 //! The subcommand `why`: its options, and its order.
 use crate::described::{Absent, Described, Takes};
 use crate::help::{ends, subcommand_named};
-use crate::options::{ALONE, SOURCE, number_given, source_given};
+use crate::options::{ALONE, REPORTED, SOURCE, number_given, source_given};
 use crate::order::Order;
 use crate::source_options::PickOptions;
 use clap::{ArgMatches, Command};
@@ -34,7 +34,7 @@ pub(super) fn subcommand<'a>(alloc: Global) -> Result<Command<'a>, AllocError> {
         ABOUT,
         USAGE,
         ENDS,
-        &[SOURCE.as_slice(), OPTIONS.as_slice()],
+        &[SOURCE.as_slice(), OPTIONS.as_slice(), REPORTED.as_slice()],
     )
 }
 

@@ -106,8 +106,7 @@ fn read_asked<'a>(alloc: Global, words: &'a [String]) -> Result<Asked<'a>, Error
 /// Returns whether the arguments ask a run to report its progress.
 fn reports_progress(matches: &ArgMatches<'_>) -> bool {
     match matches.subcommand() {
-        Some(("run", options)) => options.get_flag("progress"),
-        Some(("plain", options)) => options.get_flag("progress"),
+        Some(("run" | "plain" | "draw" | "why", options)) => options.get_flag("progress"),
         _ => false,
     }
 }

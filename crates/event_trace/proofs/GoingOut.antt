@@ -9,6 +9,10 @@ use Rattle.texts.proofs.CallerLemmas.{AppendsPrefix-longer, GoesOut-stopped, Goe
 pub GoesOut-none : (out : Option (List ℕ)) (text : List ℕ) → GoesOut out out text text
 GoesOut-none out text = record { went = []; sent = Appends-nil out; whole = refl }
 
+-- so any text can follow
+pub nothing_out : (out : Option (List ℕ)) (text : List ℕ) → AppendsPrefix out out text
+nothing_out out text = GoesOut-stopped out out text text (GoesOut-none out text)
+
 -- ---- three pieces of a text
 
 module _ (whole a b c : List ℕ) (is : whole ≡ (a ++ b) ++ c) where

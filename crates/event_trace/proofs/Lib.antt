@@ -1,12 +1,14 @@
 mod Completing
 mod CountsLine
 mod EventLines
+mod FrontierTables
 mod GoingOut
 mod LeftOut
 mod News
 mod Messages
 mod RoundEvents
 mod ShownTexts
+mod TableRounds
 mod Tallies
 mod Traces
 mod Walking

@@ -1,5 +1,5 @@
 -- The lines of a round.
-use Rattle.std.proofs.Common.{◌≡◌, ℕ, ◌+◌, List, ◌∷◌, ◌++◌, ap, ◌∙◌, append_assoc}
+use Rattle.std.proofs.Common.{◌≡◌, ℕ, List, ◌∷◌, ◌++◌, ap, ◌∙◌, append_assoc}
 use Rattle.design.specs.Circuit.{Circuit}
 use Rattle.cmb_events.specs.declared.event.Event.{Event}
 use Rattle.cmb_kernel.specs.State.{State}

@@ -1,6 +1,7 @@
 pub use Rattle.vcd_dump.specs.Traces
 pub use Rattle.cmb_kernel.specs.Step
 pub use Rattle.design.specs.Circuit
+pub mod Frontiers
 pub mod Lines
 pub mod ShownLines
 pub mod Told

@@ -37,7 +37,7 @@ pub fn fresh_kernel<'d>(
 }
 
 /// Applies an event of a pin or a net of the design. The fault is `Memory`.
-fn apply(kernel: &mut TracedKernel<'_>, event: Event) -> Result<(), DumpFault>
+pub fn apply(kernel: &mut TracedKernel<'_>, event: Event) -> Result<(), DumpFault>
     requires running { kernel.old.failed ≡ false }
     requires exists { Exists kernel.old.circuit event }
     ensures ok { OnOk result (kernel.new ≡ record kernel.old { state = step kernel.old.state event }) }

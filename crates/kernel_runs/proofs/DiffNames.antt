@@ -1,8 +1,9 @@
 -- Which names are known, and which are those of outputs, by the marks of the outputs.
-use Rattle.std.proofs.Common.{◌≡◌, ◌≢◌, ℕ, ◌+◌, ◌<◌, ◌==◌, ◌||◌, Bool, true, false, List, [], ◌∷◌, take, length, map, get_or, All, Option, Some, None, is_some, Bor, bytes_eq, refl, sym, ap, ◌∙◌, ◌⊎◌, inl, inr}
-use Rattle.std.specs.List.{list_all, list_any}
+use Rattle.std.proofs.Common.{◌≡◌, ◌≢◌, ℕ, ◌+◌, ◌<◌, ◌==◌, ◌||◌, Bool, true, false, List, [], ◌∷◌, ◌++◌, cond, take, filter, length, map, append_assoc, append-nil, arith, get_or, All, Option, Some, None, is_some, Bor, bytes_eq, refl, sym, ap, ◌∙◌, ◌⊎◌, inl, inr}
+use Rattle.std.specs.List.{list_all, list_any, range_with_len}
 use Rattle.std.proofs.lemmas.Bool.{cases_eq, eq-eqb, ne_eqb}
-use Rattle.std.proofs.lemmas.List.{get_or-map, length-map}
+use Rattle.std.proofs.lemmas.List.{get_or-map, length-map, map-append}
+use Rattle.std.proofs.lemmas.List.FromFn.{filter_of_map_range_with_len_more, map-range_with_len_more}
 use Rattle.std.proofs.lemmas.List.Elements.{All-head, All-tail}
 use Rattle.std.proofs.lemmas.List.Folds.{list_all_at, list_all_more, list_any_none}
 use Rattle.netlist.specs.Netlist.{IsNetlist, NetView, NetlistView, name_at, net_named}
@@ -82,3 +83,38 @@ module _ (netlist : NetlistView) (formed : IsNetlist netlist) (name : List ℕ) 
           let at = net_at-named netlist name net found in
           let other : name_at netlist output ≢ name = λ same. names-differ netlist.nets net output formed.distinct at.0 there (λ e. apart (sym e)) (same ∙ sym at.1) in
           bytes_eq-other (name_at netlist output) name other ∙ sym (ne_eqb net output apart)
+
+-- ---- the names of nets, one after another
+
+-- one more name
+module _ (name_of : ℕ → List ℕ) (net : ℕ) (before : List (List ℕ)) (names more : List (Bor (List ℕ))) (name : Bor (List ℕ))
+    (pushed : more ≡ names ++ name ∷ []) (named : name.now ≡ name_of net) where
+  seen_more : seen_names more ≡ seen_names names ++ name_of net ∷ []
+  seen_more =
+      ap seen_names pushed ∙ map-append (λ (borrowed : Bor (List ℕ)). borrowed.now) names (name ∷ [])
+      ∙ ap (λ (n : List ℕ). seen_names names ++ n ∷ []) named
+
+  pub names_more : seen_names names ≡ before ++ map name_of (range_with_len 0 net) → seen_names more ≡ before ++ map name_of (range_with_len 0 (net + 1))
+  names_more so_far =
+      seen_more ∙ ap (λ (ns : List (List ℕ)). ns ++ name_of net ∷ []) so_far ∙ append_assoc before (map name_of (range_with_len 0 net)) (name_of net ∷ [])
+      ∙ ap (λ (ns : List (List ℕ)). before ++ ns) (sym (map-range_with_len_more name_of 0 net net (omega arith)))
+
+  -- that passes
+  pub chosen_more : (p : List ℕ → Bool) → p (name_of net) ≡ true → seen_names names ≡ before ++ filter p (map name_of (range_with_len 0 net)) →
+      seen_names more ≡ before ++ filter p (map name_of (range_with_len 0 (net + 1)))
+  chosen_more p passes so_far =
+      seen_more ∙ ap (λ (ns : List (List ℕ)). ns ++ name_of net ∷ []) so_far
+      ∙ append_assoc before (filter p (map name_of (range_with_len 0 net))) (name_of net ∷ [])
+      ∙ ap (λ (ns : List (List ℕ)). before ++ ns)
+      (ap (λ b. filter p (map name_of (range_with_len 0 net)) ++ cond b (name_of net ∷ []) []) (sym passes)
+      ∙ sym (filter_of_map_range_with_len_more p name_of 0 net net (omega arith)))
+
+-- one that doesn't
+pub chosen_same : (name_of : ℕ → List ℕ) (net : ℕ) (before names : List (List ℕ)) (p : List ℕ → Bool) → p (name_of net) ≡ false →
+    names ≡ before ++ filter p (map name_of (range_with_len 0 net)) → names ≡ before ++ filter p (map name_of (range_with_len 0 (net + 1)))
+chosen_same name_of net before names p fails so_far =
+    so_far
+    ∙ ap (λ (ns : List (List ℕ)). before ++ ns)
+    (sym (append-nil (filter p (map name_of (range_with_len 0 net))))
+    ∙ ap (λ b. filter p (map name_of (range_with_len 0 net)) ++ cond b (name_of net ∷ []) []) (sym fails)
+    ∙ sym (filter_of_map_range_with_len_more p name_of 0 net net (omega arith)))

@@ -45,7 +45,7 @@ use Rattle.wave_diff.specs.declared.comparison.Side.TheVariants.{First, Second}
 use Rattle.kernel_runs.specs.declared.twin_run.TwinFault.{TwinFault}
 use Rattle.prepared_runs.specs.Ends.{IsRefusal}
 use Rattle.kernel_runs.specs.AtEnd.{IsAtEnd}
-use Rattle.kernel_runs.specs.Diffs.{AgreesOnCone, IsComparisonOf, IsDiff, IsDiffRefusal, IsOfDifference, IsOfNets, NetDiff, Pair, diff_line, is_known, names_compared, of_horizon, on_run, pair_by, pair_in, pair_of, ticks_of_diff}
+use Rattle.kernel_runs.specs.Diffs.{AgreesOnCone, IsComparisonOf, IsDiff, IsDiffRefusal, IsOfDifference, IsOfNets, NetDiff, Pair, are_accepted, diff_line, names_compared, of_horizon, on_run, pair_by, pair_in, pair_of, ticks_of_diff}
 use Rattle.prepared_runs.specs.Source.{SourceView, or_fault}
 use Rattle.prepared_runs.specs.Prepared.{RunView, run_of_source, seen_run}
 use Rattle.kernel_runs.specs.Twins.{CanCompare, IsTwinRefusal, on}
@@ -129,11 +129,11 @@ module _ (first second : SourceView) (names : List (List ℕ)) (ticks : DiffTick
       pair_of-in other made_other = rw (count, made_one, made_other) refl
 
 module _ (one other : RunView) (ticks : ComparedTicks) (names : List (List ℕ)) where
-  pub pair_in-unknown : list_all (is_known one.design.netlist other.design.netlist) names ≡ false → pair_in one other ticks names ≡ Err (on First UnknownNet)
+  pub pair_in-unknown : are_accepted one.design.netlist other.design.netlist names ≡ false → pair_in one other ticks names ≡ Err (on First UnknownNet)
   unfolding pair_in
   pair_in-unknown unknown = rw unknown refl
 
-  pub pair_in-known : list_all (is_known one.design.netlist other.design.netlist) names ≡ true →
+  pub pair_in-known : are_accepted one.design.netlist other.design.netlist names ≡ true →
       pair_in one other ticks names ≡ Ok (pair_by one other ticks (names_compared names one.design.netlist other.design.netlist))
   unfolding pair_in
   pair_in-known known = rw known refl
@@ -159,7 +159,7 @@ IsPairOf-pair_of first second names ticks pair made = go (ticks_of_diff ticks) r
         IsPairOf first second ticks pair
     go (Ok compared) count (Ok a) one (Ok b) other e =
         let same : pair_by a b compared (names_compared names a.design.netlist b.design.netlist) ≡ pair =
-        in_pair (list_all (is_known a.design.netlist b.design.netlist) names) _ e in
+        in_pair (are_accepted a.design.netlist b.design.netlist names) _ e in
         record {
           count = count ∙ ap (λ (p : Pair). Ok p.ticks) same;
           one = one ∙ ap (λ (p : Pair). Ok p.first) same;

@@ -1,6 +1,6 @@
 -- Two runs to one horizon, compared net by net.
-use Rattle.std.specs.Prelude.{◌≡◌, ℕ, ◌||◌, ◌↔◌, not, Bool, IsTrue, if◌then◌else◌, List, [], ◌∷◌, ◌++◌, map, filter, flat_map, All, Option, Some, None, is_some, Result, Ok, Err, bytes_eq}
-use Rattle.std.specs.List.{list_all, list_any}
+use Rattle.std.specs.Prelude.{◌≡◌, ℕ, ◌&&◌, ◌||◌, ◌↔◌, not, Bool, false, IsTrue, if◌then◌else◌, List, [], ◌∷◌, ◌++◌, length, map, filter, flat_map, All, Option, Some, None, is_some, Result, Ok, Err, bytes_eq, codes}
+use Rattle.std.specs.List.{list_all, list_any, range_with_len}
 use Rattle.texts.specs.Text.{◌>>=◌}
 use Rattle.netlist.specs.Netlist.{NetlistView, name_at, net_named}
 use Rattle.timing_text.specs.Options.{horizon_of}
@@ -62,14 +62,33 @@ is_output_name netlist name = list_any (λ output. bytes_eq output name) (output
 abbrev pub names_of_outputs : NetlistView → NetlistView → List (List ℕ)
 names_of_outputs first second = output_names first ++ filter (λ name. not (is_output_name first name)) (output_names second)
 
--- the names by which two netlists are compared: those that are given or, if there are none, those of the outputs
-abbrev pub names_compared : List (List ℕ) → NetlistView → NetlistView → List (List ℕ)
-names_compared [] first second = names_of_outputs first second
-names_compared (name ∷ names) first second = name ∷ names
+-- the names of a netlist's nets, in order
+abbrev pub net_names : NetlistView → List (List ℕ)
+net_names netlist = map (name_at netlist) (range_with_len 0 (length netlist.nets))
+
+-- the names of the first netlist's nets in order, and after them those of the second's that aren't names of nets of the first
+abbrev pub names_of_nets : NetlistView → NetlistView → List (List ℕ)
+names_of_nets first second = net_names first ++ filter (λ name. not (is_some (net_named first name))) (net_names second)
 
 -- one netlist or the other has a net of this name
 abbrev pub is_known : NetlistView → NetlistView → List ℕ → Bool
 is_known first second name = is_some (net_named first name) || is_some (net_named second name)
+
+-- the only name is the word for all nets, and neither netlist has a net of that name
+abbrev pub mean_all : NetlistView → NetlistView → List (List ℕ) → Bool
+mean_all first second [] = false
+mean_all first second (name ∷ []) = bytes_eq name (codes "all") && not (is_known first second name)
+mean_all first second (name ∷ other ∷ names) = false
+
+-- the names by which two netlists are compared: those that are given or mean all nets or, if there are none, those of the outputs
+abbrev pub names_compared : List (List ℕ) → NetlistView → NetlistView → List (List ℕ)
+names_compared [] first second = names_of_outputs first second
+names_compared (name ∷ names) first second =
+    if mean_all first second (name ∷ names) then names_of_nets first second else name ∷ names
+
+-- each name is known, unless they mean all nets
+abbrev pub are_accepted : NetlistView → NetlistView → List (List ℕ) → Bool
+are_accepted first second names = mean_all first second names || list_all (is_known first second) names
 
 -- ---- the runs
 
@@ -83,14 +102,14 @@ pub record Pair : Type 0 where
 abbrev pub pair_by : RunView → RunView → ComparedTicks → List (List ℕ) → Pair
 pair_by one other ticks names = record { first = one; second = other; ticks = ticks; names = names }
 
--- two runs by the names that are given or, if there are none, by those of the outputs
+-- two runs by the names that are given or mean all nets or, if there are none, by those of the outputs
 abbrev pub pair_named : RunView → RunView → ComparedTicks → List (List ℕ) → Pair
 pair_named one other ticks names = pair_by one other ticks (names_compared names one.design.netlist other.design.netlist)
 
 -- the same, unless neither run has a net of one of them
 unfoldable pub pair_in : RunView → RunView → ComparedTicks → List (List ℕ) → Result Pair TwinFault
 pair_in one other ticks names =
-    if list_all (is_known one.design.netlist other.design.netlist) names
+    if are_accepted one.design.netlist other.design.netlist names
     then Ok (pair_named one other ticks names)
     else Err (on First UnknownNet)
 

@@ -1,7 +1,7 @@
 //! Two runs, compared net by net.
 ghost use Rattle.std.specs.Prelude.{◌≡◌, ◌≢◌, IfErr, IfOk, IsOkAnd, OnOk};
 ghost use Rattle.netlist.specs.Names.{seen_names};
-ghost use Rattle.kernel_runs.specs.Diffs.{IsDiff, IsDiffRefusal, names_of_outputs, on_run, pair_by, pair_in, pair_named, pair_of, ticks_of_diff};
+ghost use Rattle.kernel_runs.specs.Diffs.{IsDiff, IsDiffRefusal, names_of_nets, names_of_outputs, on_run, pair_by, pair_in, pair_named, pair_of, ticks_of_diff};
 ghost use Rattle.prepared_runs.specs.Prepared.{seen_run};
 ghost use Rattle.prepared_runs.specs.Source.{seen_source, MayWantMemory};
 ghost use Rattle.kernel_runs.specs.Twins.{CanCompare, IsTwinRefusal};
@@ -9,7 +9,7 @@ ghost use Rattle.kernel_runs.specs.Simulated.{EndsComplete};
 ghost use Rattle.prepared_runs.specs.declared.fault.SimFault.TheVariants.{Memory};
 
 use crate::diff_fault::DiffFault;
-use crate::diff_names::{are_known, names_of_outputs};
+use crate::diff_names::{are_accepted, mean_all, names_of_nets, names_of_outputs};
 use crate::net_diffs::diff_by_names;
 use crate::twin_run::{TwinFault, blame};
 use prepared_runs::{PreparedRun, SimFault, Source, prepare_run};
@@ -28,7 +28,8 @@ pub struct DiffAnswer {
 
 /// Runs two sources to one horizon by the kernel, and compares what the nets of these names show in both. If
 /// there is no name, it compares the outputs of the first and then those of the second that aren't outputs of
-/// the first.
+/// the first. If the only name is `all`, and no net has it, it compares all nets of the first and then those of
+/// the second that the first doesn't have.
 ///
 /// A line has the first compared tick at which a net shows another value in the second run than in the first.
 /// If there is none, it says so, and whether the runs agree, up to the horizon, on the fan-in cone that the
@@ -70,7 +71,7 @@ fn compared_ticks(ticks: DiffTicks) -> Result<Compared, DiffFault>
     Ok(Compared::new(ticks.from, ticks.every, horizon.ticks())?)
 }
 
-/// Compares two prepared runs if the names are known.
+/// Compares two prepared runs if the names are accepted.
 fn diff_prepared(
     alloc: Global,
     one: &PreparedRun,
@@ -84,7 +85,7 @@ fn diff_prepared(
         (λ pair. IsDiff pair answer.text.items answer.same)) }
     ensures err { IfErr result (IsTwinRefusal (pair_in (seen_run one.now) (seen_run other.now) ticks (seen_names names.now))) }
 {
-    if !are_known(one.design.netlist(), other.design.netlist(), names) {
+    if !are_accepted(one.design.netlist(), other.design.netlist(), names) {
         return Err(TwinFault {
             side: Side::First,
             fault: SimFault::UnknownNet,
@@ -93,7 +94,7 @@ fn diff_prepared(
     blame(Side::First, diff_known(alloc, one, other, names, ticks))
 }
 
-/// Compares them by the names, or by their outputs if there is no name.
+/// Compares them by the names, by all nets if the names mean these, or by their outputs if there is no name.
 fn diff_known(
     alloc: Global,
     one: &PreparedRun,
@@ -108,10 +109,29 @@ fn diff_known(
     ensures err { IfErr result (λ fault. fault ≡ SimFault.Memory) }
 {
     if names.is_empty() {
-        diff_outputs(alloc, one, other, ticks)
-    } else {
-        diff_by_names(alloc, one, other, names, ticks)
+        return diff_outputs(alloc, one, other, ticks);
     }
+    if mean_all(one.design.netlist(), other.design.netlist(), names) {
+        return diff_nets(alloc, one, other, ticks);
+    }
+    diff_by_names(alloc, one, other, names, ticks)
+}
+
+/// Compares them by all their nets.
+fn diff_nets(
+    alloc: Global,
+    one: &PreparedRun,
+    other: &PreparedRun,
+    ticks: Compared,
+) -> Result<DiffAnswer, SimFault>
+    requires runs { CanCompare one.now other.now }
+    requires end { ticks.to ≡ one.now.horizon }
+    ensures ok { IfOk result (λ answer. IsDiff (pair_by (seen_run one.now) (seen_run other.now) ticks
+        (names_of_nets one.now.design.netlist other.now.design.netlist)) answer.text.items answer.same) }
+    ensures err { IfErr result (λ fault. fault ≡ SimFault.Memory) }
+{
+    let names = names_of_nets(alloc, one.design.netlist(), other.design.netlist())?;
+    diff_by_names(alloc, one, other, names.as_slice(), ticks)
 }
 
 /// Compares them by their outputs.

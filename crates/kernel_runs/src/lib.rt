@@ -29,4 +29,4 @@ pub use simulation::{Report, simulate, simulate_with_progress};
 pub use sweep_run::{sweep, sweep_with_progress};
 pub use twin_run::{TwinAnswer, TwinFault, twin};
 pub use wave_diff::{DiffTicks, Side};
-pub use why_run::why;
+pub use why_run::{why, why_with_progress};

@@ -1,5 +1,5 @@
 //! A run by the kernel in sweeps.
-ghost use Rattle.std.specs.Prelude.{◌≡◌, ◌≤◌, false, length, All, Err, IfErr, IfOk, IsOkAnd, OnOk};
+ghost use Rattle.std.specs.Prelude.{◌≡◌, ◌≤◌, ◌+◌, false, length, All, Err, IfErr, IfOk, IsOkAnd, OnOk};
 ghost use Rattle.std.specs.Io.KnownBytes.{Appends};
 ghost use Rattle.cmb_events.specs.Schedule.{most_events, Exists};
 ghost use Rattle.cmb_kernel.specs.State.{IsUndrained};
@@ -28,6 +28,7 @@ use prepared_runs::{
 };
 use std::alloc::{AllocError, Global};
 use std::io::Write;
+use timing_text::Horizon;
 use vcd_dump::TimeUnit;
 
 /// Runs a source by the kernel, which applies the picked events and then chooses its own: it sweeps through
@@ -139,25 +140,54 @@ pub(crate) fn complete<'r>(alloc: Global, run: &'r PreparedRun) -> Result<RunKer
     ensures ok { IfOk result (IsAtEnd run.now) }
     ensures err { IfErr result (λ fault. fault ≡ SimFault.Memory) }
 {
+    complete_with_progress(alloc, run, &mut Silent)
+}
+
+/// Does the same as [`complete`], and reports the progress: after the events, and after each sweep, how many ticks
+/// are known of every net.
+///
+/// # Errors
+/// As for [`complete`].
+pub(crate) fn complete_with_progress<'r, P: Progress>(
+    alloc: Global,
+    run: &'r PreparedRun,
+    progress: &mut P,
+) -> Result<RunKernel<'r>, SimFault>
+    requires exist { All (Exists run.now.design.circuit) run.now.schedule }
+    requires few { length run.now.schedule ≤ most_events }
+    ensures ok { IfOk result (IsAtEnd run.now) }
+    ensures err { IfErr result (λ fault. fault ≡ SimFault.Memory) }
+    ensures reported { Reported (P.reports run.now.horizon) (IsProgress result run.now.horizon) progress.old progress.new }
+{
     let mut kernel = kernel_after_events(alloc, run)?;
     let mut sweeps = Sweeps::new(alloc, &run.design, run.horizon)?;
-    run_to_end(&mut kernel, &mut sweeps)?;
+    run_to_end(&mut kernel, &mut sweeps, run.horizon, progress)?;
     Ok(kernel)
 }
 
-/// Advances by sweeps until each net is known to the end.
-fn run_to_end(kernel: &mut RunKernel<'_>, sweeps: &mut Sweeps) -> Result<(), AllocError>
+/// Advances by sweeps until each net is known to the end, and reports the progress.
+fn run_to_end<P: Progress>(
+    kernel: &mut RunKernel<'_>,
+    sweeps: &mut Sweeps,
+    horizon: Horizon,
+    progress: &mut P,
+) -> Result<(), AllocError>
     requires running { kernel.old.failed ≡ false }
     requires covers { Covers sweeps.old kernel.old.circuit kernel.old.end }
     requires sound { IsSound kernel.old.circuit kernel.old.end kernel.old.state }
     requires undrained { IsUndrained kernel.old.state }
+    requires end { kernel.old.end ≡ horizon + 1 }
     ensures goes { OnOk result (GoesOn kernel.old kernel.new) }
     ensures known { OnOk result (IsKnown kernel.new) }
     ensures undrained { OnOk result (IsUndrained kernel.new.state) }
+    ensures reported { Reported (P.reports horizon) (IsProgress result horizon) progress.old progress.new }
 {
-    while !kernel.is_complete() {
+    loop {
         let known = kernel.least_frontier();
+        progress.report(known, horizon);
+        if kernel.is_complete() {
+            return Ok(());
+        }
         sweeps.sweep(kernel, known)?;
     }
-    Ok(())
 }

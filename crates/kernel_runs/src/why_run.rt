@@ -6,15 +6,16 @@ ghost use Rattle.design.specs.Equations.{waves_of};
 ghost use Rattle.kernel_runs.specs.AtEnd.{IsAtEnd};
 ghost use Rattle.kernel_runs.specs.Explained.{why_of_source};
 ghost use Rattle.prepared_runs.specs.Ends.{IsRefusal};
+ghost use Rattle.prepared_runs.specs.Reported.{IsProgress, Reported};
 ghost use Rattle.prepared_runs.specs.Source.{seen_source, MayWantMemory};
 ghost use Rattle.prepared_runs.specs.declared.fault.SimFault.TheVariants.{Memory};
 
 use crate::simulation::RunKernel;
-use crate::sweep_run::complete;
+use crate::sweep_run::complete_with_progress;
 use causes::why_text;
 use cmb_events::Schedule;
 use logic3::Waveform;
-use prepared_runs::{PreparedRun, SimFault, Source, net_named, prepare};
+use prepared_runs::{PreparedRun, Progress, Silent, SimFault, Source, net_named, prepare};
 use std::alloc::{AllocError, Global};
 
 /// Returns the lines that state why the net of a name has its value at a tick, as [`causes::why_text`] writes
@@ -28,6 +29,26 @@ pub fn why(alloc: Global, source: &Source<'_>, name: &[u8], tick: u64) -> Result
     ensures err { IfErr result (IsRefusal (why_of_source (seen_source source.now) name.now tick)) }
     ensures memory { result ≡ Err Memory → MayWantMemory (seen_source source.now) tick }
 {
+    why_with_progress(alloc, source, name, tick, &mut Silent)
+}
+
+/// Returns the same lines as [`why`], and reports the progress of the run: at its beginning, and after each sweep,
+/// how many ticks are known of every net. These numbers rise, and end with all ticks up to that one.
+///
+/// # Errors
+/// As for [`why`]. No progress is reported for a source or a name that is refused.
+pub fn why_with_progress<P: Progress>(
+    alloc: Global,
+    source: &Source<'_>,
+    name: &[u8],
+    tick: u64,
+    progress: &mut P,
+) -> Result<Vec<u8>, SimFault>
+    ensures ok { IfOk result (λ text. why_of_source (seen_source source.now) name.now tick ≡ Ok text.items) }
+    ensures err { IfErr result (IsRefusal (why_of_source (seen_source source.now) name.now tick)) }
+    ensures memory { result ≡ Err Memory → MayWantMemory (seen_source source.now) tick }
+    ensures reported { Reported (P.reports tick) (IsProgress result tick) progress.old progress.new }
+{
     let (horizon, design) = prepare(alloc, source, tick)?;
     let net = net_named(&design, name)?;
     let run = PreparedRun {
@@ -35,30 +56,41 @@ pub fn why(alloc: Global, source: &Source<'_>, name: &[u8], tick: u64) -> Result
         design,
         schedule: Schedule::empty(alloc),
     };
-    why_prepared(alloc, &run, net)
+    why_prepared(alloc, &run, net, progress)
 }
 
 /// Does the same for a prepared run and the number of the net, at the horizon.
-fn why_prepared(alloc: Global, run: &PreparedRun, net: u32) -> Result<Vec<u8>, SimFault>
+fn why_prepared<P: Progress>(
+    alloc: Global,
+    run: &PreparedRun,
+    net: u32,
+    progress: &mut P,
+) -> Result<Vec<u8>, SimFault>
     requires is_net { net < length run.now.design.circuit }
     requires exist { All (Exists run.now.design.circuit) run.now.schedule }
     requires few { length run.now.schedule ≤ most_events }
     ensures ok { IfOk result (λ text. text.items ≡ why_text run.now.design net run.now.horizon) }
     ensures err { IfErr result (λ fault. fault ≡ SimFault.Memory) }
+    ensures reported { Reported (P.reports run.now.horizon) (IsProgress result run.now.horizon) progress.old progress.new }
 {
-    let waves = waves_at_end(alloc, run)?;
+    let waves = waves_at_end(alloc, run, progress)?;
     let tick = run.horizon.ticks();
     Ok(why_text(alloc, &run.design, waves.as_slice(), net, tick)?)
 }
 
-/// Runs to the end, and returns what each net shows up to the horizon, in their order.
-fn waves_at_end(alloc: Global, run: &PreparedRun) -> Result<Vec<Waveform>, SimFault>
+/// Runs to the end, reports the progress, and returns what each net shows up to the horizon, in their order.
+fn waves_at_end<P: Progress>(
+    alloc: Global,
+    run: &PreparedRun,
+    progress: &mut P,
+) -> Result<Vec<Waveform>, SimFault>
     requires exist { All (Exists run.now.design.circuit) run.now.schedule }
     requires few { length run.now.schedule ≤ most_events }
     ensures ok { IfOk result (λ waves. waves.items ≡ waves_of run.now.design.circuit (run.now.horizon + 1)) }
     ensures err { IfErr result (λ fault. fault ≡ SimFault.Memory) }
+    ensures reported { Reported (P.reports run.now.horizon) (IsProgress result run.now.horizon) progress.old progress.new }
 {
-    let kernel = complete(alloc, run)?;
+    let kernel = complete_with_progress(alloc, run, progress)?;
     Ok(copies(alloc, run, &kernel)?)
 }
 

@@ -7,6 +7,7 @@ ghost use Rattle.plain_runs.specs.declared.diagram_fault.DiagramFault.TheVariant
 ghost use Rattle.plain_runs.specs.Drawn.{DiagramEndsBy, bus_trace, diagram_of_lanes, diagram_of_source, ticks_of_view};
 ghost use Rattle.prepared_runs.specs.Ends.{BreaksOff};
 ghost use Rattle.prepared_runs.specs.Lanes.{bits_of, bus_view, seen_lanes};
+ghost use Rattle.prepared_runs.specs.Reported.{IsTickByTick, Reported};
 ghost use Rattle.prepared_runs.specs.Shown.{wave_at};
 ghost use Rattle.prepared_runs.specs.Source.{seen_source, MayWantMemory};
 ghost use Rattle.prepared_runs.specs.declared.fault.SimFault.TheVariants.{Memory};
@@ -15,7 +16,9 @@ use crate::diagram_fault::DiagramFault;
 use crate::plain_run::{all_waves, copies};
 use design::Design;
 use logic3::Waveform;
-use prepared_runs::{BusNets, DiagramView, Lanes, Silent, SimFault, Source, lanes_of, prepare};
+use prepared_runs::{
+    BusNets, DiagramView, Lanes, Progress, Silent, SimFault, Source, lanes_of, prepare,
+};
 use std::alloc::{AllocError, Global};
 use std::io::Write;
 use timing_diagram::{Bus, Columns, Form, draw};
@@ -43,10 +46,35 @@ pub fn diagram<W: Write>(
         (W.contents out.old) (W.contents out.new)) }
     ensures memory { result ≡ Err (Run Memory) → MayWantMemory (seen_source source.now) view.now.horizon }
 {
+    diagram_with_progress(alloc, source, view, form, out, &mut Silent)
+}
+
+/// Writes the timing diagram of a run, as [`diagram`] does, and reports its progress: each number of ticks, from
+/// 0 on, once that many are known, up to all ticks of the run. The diagram is made and written after that.
+///
+/// # Errors
+/// As for [`diagram`]. No progress is reported for a source or a view that is refused.
+pub fn diagram_with_progress<W: Write, P: Progress>(
+    alloc: Global,
+    source: &Source<'_>,
+    view: &DiagramView<'_>,
+    form: Form,
+    out: &mut W,
+    progress: &mut P,
+) -> Result<(), DiagramFault>
+    ensures ok { OnOk result (IsOkAnd (diagram_of_source (seen_source source.now) view.now form)
+        (Appends (W.contents out.old) (W.contents out.new))) }
+    ensures err { IfErr result (DiagramEndsBy (diagram_of_source (seen_source source.now) view.now form)
+        (W.contents out.old) (W.contents out.new)) }
+    ensures memory { result ≡ Err (Run Memory) → MayWantMemory (seen_source source.now) view.now.horizon }
+    ensures reported { Reported (P.reports view.now.horizon) (IsTickByTick result view.now.horizon) progress.old progress.new }
+{
     let columns = columns_of(view)?;
     let (horizon, design) = prepare(alloc, source, view.horizon)?;
     let lanes = lanes_of(alloc, &design, view)?;
-    draw_lanes(alloc, &design, horizon, &lanes, form, columns, out)?;
+    draw_lanes(
+        alloc, &design, horizon, &lanes, form, columns, out, progress,
+    )?;
     Ok(())
 }
 
@@ -61,8 +89,8 @@ fn columns_of(view: &DiagramView<'_>) -> Result<Columns, DiagramFault>
     Ok(Columns::new(view.from, view.to, view.step, view.at_end, horizon)?)
 }
 
-/// Runs a design by the plain engine, and draws these lanes.
-fn draw_lanes<W: Write>(
+/// Runs a design by the plain engine, reports its progress, and draws these lanes.
+fn draw_lanes<W: Write, P: Progress>(
     alloc: Global,
     design: &Design,
     horizon: Horizon,
@@ -70,6 +98,7 @@ fn draw_lanes<W: Write>(
     form: Form,
     columns: Columns,
     out: &mut W,
+    progress: &mut P,
 ) -> Result<(), SimFault>
     requires nets_exist { All (λ net. net < length design.now.circuit) lanes.now.nets.items }
     requires bits_exist { All (λ net. net < length design.now.circuit) (bits_of (seen_lanes lanes.now).buses) }
@@ -80,8 +109,9 @@ fn draw_lanes<W: Write>(
         (diagram_of_lanes form columns design.now.circuit (seen_lanes lanes.now))) }
     ensures err { IfErr result (BreaksOff (W.contents out.old) (W.contents out.new)
         (diagram_of_lanes form columns design.now.circuit (seen_lanes lanes.now))) }
+    ensures reported { Reported (P.reports horizon) (IsTickByTick result horizon) progress.old progress.new }
 {
-    let waves = all_waves(alloc, design, horizon, &mut Silent)?;
+    let waves = all_waves(alloc, design, horizon, progress)?;
     let nets = lanes.nets.as_slice();
     let buses = bus_waves(alloc, waves.as_slice(), lanes.buses.as_slice())?;
     let shown = lane_waves(alloc, waves, nets)?;

@@ -14,6 +14,6 @@ mod text;
 mod unused;
 
 pub use diagram_fault::DiagramFault;
-pub use diagram_run::diagram;
+pub use diagram_run::{diagram, diagram_with_progress};
 pub use notes::notes_text;
 pub use plain_run::{plain, plain_with_progress};

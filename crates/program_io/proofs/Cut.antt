@@ -25,6 +25,7 @@ use Rattle.prepared_runs.specs.declared.fault.SimFault.{SimFault}
 use Rattle.prepared_runs.specs.declared.fault.SimFault.TheVariants.{Setting}
 use Rattle.prepared_runs.specs.declared.view.DumpView.{DumpView}
 use Rattle.prepared_runs.specs.declared.view.DiagramView.{DiagramView}
+use Rattle.prepared_runs.specs.declared.view.Selection.{Selection}
 use Rattle.drawn_stimuli.specs.declared.drive.Draws.{Draws}
 use Rattle.drawn_stimuli.specs.Inputs.{DriveView}
 use Rattle.wave_diff.specs.declared.diff_ticks.DiffTicks.{DiffTicks}
@@ -34,6 +35,7 @@ use Rattle.timing_diagram.specs.declared.form.Form.{Form}
 use Rattle.drawn_stimuli.specs.Driven.{stimuli_of_drives}
 use Rattle.kernel_runs.specs.Explained.{why_of_source}
 use Rattle.event_trace.specs.declared.trace_view.TraceView.{TraceView}
+use Rattle.event_trace.specs.Frontiers.{frontiers_of_source}
 use Rattle.event_trace.specs.Traced.{shown_trace_of_source}
 use Rattle.prepared_runs.specs.Events.{PicksView, events_of_picks}
 use Rattle.prepared_runs.specs.Events as picks
@@ -148,6 +150,11 @@ pub shown_trace_of_source-cut : (source : SourceView) (ticks : ℕ) (view : Trac
     shown_trace_of_source (cut_source source) ticks view ≡ shown_trace_of_source source ticks view
 unfolding shown_trace_of_source
 shown_trace_of_source-cut source ticks view = rw (run_of_source-cut source ticks) refl
+
+pub frontiers_of_source-cut : (source : SourceView) (ticks : ℕ) (show : Selection) →
+    frontiers_of_source (cut_source source) ticks show ≡ frontiers_of_source source ticks show
+unfolding frontiers_of_source
+frontiers_of_source-cut source ticks show = rw (run_of_source-cut source ticks) refl
 
 pub why_of_source-cut : (source : SourceView) (name : List ℕ) (tick : ℕ) → why_of_source (cut_source source) name tick ≡ why_of_source source name tick
 unfolding why_of_source

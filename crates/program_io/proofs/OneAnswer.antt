@@ -17,7 +17,7 @@ use Rattle.design.specs.Design.{DesignView}
 use Rattle.fanin_cone.specs.Cone.{IsConeOf}
 use Rattle.fanin_cone.specs.Extract.{IsExtract, first_unknown}
 use Rattle.command_line.specs.declared.order.Order.{Order}
-use Rattle.command_line.specs.declared.order.Order.TheVariants.{Run, Plain, Draw, Trace, Why, Stimuli, Info, Cone, Diff, Twin, Check}
+use Rattle.command_line.specs.declared.order.Order.TheVariants.{Run, Plain, Draw, Trace, Frontiers, Why, Stimuli, Info, Cone, Diff, Twin, Check}
 use Rattle.command_line.specs.declared.source_options.SourceOptions.{SourceOptions}
 use Rattle.kernel_runs.specs.declared.diff_fault.DiffFault.{DiffFault}
 use Rattle.kernel_runs.specs.declared.twin_run.TwinAnswer.{TwinAnswer}
@@ -188,6 +188,7 @@ module _ (texts : List ℕ → List ℕ) where
       one_for_source first _ _ a b (λ one.
       one_for_source second _ _ a b (λ other. one_diff_answer (pair_of one other (seen_names names.items) ticks) a b))
   one_answer (Trace options horizon idle net) a b = one_for_source options _ _ a b (λ source is other_is. is ∙ sym other_is)
+  one_answer (Frontiers options horizon show) a b = one_for_source options _ _ a b (λ source is other_is. is ∙ sym other_is)
   one_answer (Why options net tick) a b = one_for_source options _ _ a b (λ source is other_is. is ∙ sym other_is)
   one_answer (Stimuli bench drives draws horizon) a b = one_for_stimuli bench drives draws horizon a b
   one_answer (Draw options view form) a b = one_for_source options _ _ a b (λ source is other_is. is ∙ sym other_is)

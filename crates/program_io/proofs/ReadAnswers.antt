@@ -8,6 +8,7 @@ use Rattle.drawn_stimuli.specs.declared.drive.Driven.{Driven}
 use Rattle.drawn_stimuli.specs.Inputs.{seen_drive}
 use Rattle.timing_diagram.specs.declared.form.Form.{Form}
 use Rattle.prepared_runs.specs.declared.view.DiagramView.{DiagramView}
+use Rattle.prepared_runs.specs.declared.view.Selection.{Selection}
 use Rattle.wave_diff.specs.declared.diff_ticks.DiffTicks.{DiffTicks}
 use Rattle.prepared_runs.specs.declared.view.DumpView.{DumpView}
 use Rattle.event_trace.specs.declared.trace_view.TraceView.{TraceView}
@@ -27,10 +28,10 @@ use Rattle.program_io.specs.declared.program_fault.ProgramFault.{ProgramFault}
 use Rattle.command_line.specs.Sources.{ReadTexts, files_of_options, picks_of_options, schedule_file, source_from}
 use Rattle.kernel_runs.specs.AnswerText.{check_text}
 use Rattle.program_io.specs.Options.{IsRead, IsSourceOf, KnownTexts, ReadsFiles, ReadsOrder, text_named}
-use Rattle.program_io.specs.Answers.{Answer, IsAnswerOfCone, IsAnswerOfDiff, IsAnswerOfInfo, IsAnswerOfTwin, IsDiffAnswer, IsInfoAnswer, IsTwinAnswer, answered, check_answer, diagram_answer, just, plain_answer, run_answer, stimuli_answer, trace_answer, why_answer, with_counts}
+use Rattle.program_io.specs.Answers.{Answer, IsAnswerOfCone, IsAnswerOfDiff, IsAnswerOfInfo, IsAnswerOfTwin, IsDiffAnswer, IsInfoAnswer, IsTwinAnswer, answered, check_answer, diagram_answer, frontiers_answer, just, plain_answer, run_answer, stimuli_answer, trace_answer, why_answer, with_counts}
 use Rattle.program_io.specs.ProgramFaults.{fault_of_diagram, fault_of_driven}
 use Rattle.program_io.specs.OrderAnswer.{ForSource, IsAnswer, IsAnswerTo}
-use Rattle.program_io.proofs.Cut.{cut, cut_picks, cut_source, design_of_source-cut, diagram_of_source-cut, dump_of_source-cut, netlist_of-cut, pair_of-cut, run_of_source-cut, simulated-cut, shown_trace_of_source-cut, stimuli_of_drives-cut, twins_of-cut, why_of_source-cut}
+use Rattle.program_io.proofs.Cut.{cut, cut_picks, cut_source, design_of_source-cut, diagram_of_source-cut, dump_of_source-cut, frontiers_of_source-cut, netlist_of-cut, pair_of-cut, run_of_source-cut, simulated-cut, shown_trace_of_source-cut, stimuli_of_drives-cut, twins_of-cut, why_of_source-cut}
 
 pub unwrap_or-known : (known : Option (List ℕ)) (other : List ℕ) → IfSome known (λ all. unwrap_or known other ≡ all)
 unwrap_or-known None other = tt
@@ -107,6 +108,12 @@ module _ (known : KnownTexts) (options : SourceOptions) (texts : ReadTexts) (rea
       let view : TraceView = record { idle = idle; net = net } in
       ForSource-read _
       (λ source is_cut. same ∙ ap (λ s. trace_answer s horizon view) is_cut ∙ ap (answered just) (shown_trace_of_source-cut source horizon view))
+
+  IsAnswer-frontiers : (horizon : ℕ) (show : Selection) (answer : Result Answer ProgramFault) → answer ≡ frontiers_answer seen horizon show →
+      IsAnswer known (orders.Frontiers options horizon show) answer
+  IsAnswer-frontiers horizon show answer same =
+      ForSource-read _
+      (λ source is_cut. same ∙ ap (λ s. frontiers_answer s horizon show) is_cut ∙ ap (answered just) (frontiers_of_source-cut source horizon show))
 
   IsAnswer-why : (net : Bor (List ℕ)) (tick : ℕ) (answer : Result Answer ProgramFault) → answer ≡ why_answer seen net.now tick →
       IsAnswer known (orders.Why options net tick) answer
@@ -190,6 +197,8 @@ IsAnswer-read known (orders.Plain options view) texts (one, other) answer is = I
 IsAnswer-read known (orders.Draw options view form) texts (one, other) answer is = IsAnswer-diagram known options texts.first one view form answer is
 IsAnswer-read known (orders.Trace options horizon idle net) texts (one, other) answer is =
     IsAnswer-trace known options texts.first one horizon idle net answer is
+IsAnswer-read known (orders.Frontiers options horizon show) texts (one, other) answer is =
+    IsAnswer-frontiers known options texts.first one horizon show answer is
 IsAnswer-read known (orders.Why options net tick) texts (one, other) answer is = IsAnswer-why known options texts.first one net tick answer is
 IsAnswer-read known (orders.Check options horizon) texts (one, other) answer is = IsAnswer-check known options texts.first one horizon answer is
 IsAnswer-read known (orders.Twin first second net horizon) texts (one, other) answer is =

@@ -4,6 +4,7 @@ use Rattle.std.specs.Result.{result_map_both}
 use Rattle.std.specs.Io.KnownBytes.{Appends}
 use Rattle.cmb_kernel.specs.declared.counts.Counts.{Counts}
 use Rattle.prepared_runs.specs.declared.view.DiagramView.{DiagramView}
+use Rattle.prepared_runs.specs.declared.view.Selection.{Selection}
 use Rattle.prepared_runs.specs.declared.fault.SimFault.{SimFault}
 use Rattle.kernel_runs.specs.declared.simulation.Report.{Report}
 use Rattle.wave_diff.specs.declared.comparison.Side.TheVariants.{First}
@@ -25,6 +26,7 @@ use Rattle.kernel_runs.specs.Explained.{why_of_source}
 use Rattle.circuit_info.specs.InfoText.{IsInfoOf}
 use Rattle.design.specs.Design.{DesignView}
 use Rattle.event_trace.specs.declared.trace_view.TraceView.{TraceView}
+use Rattle.event_trace.specs.Frontiers.{frontiers_of_source}
 use Rattle.event_trace.specs.Traced.{shown_trace_of_source}
 use Rattle.prepared_runs.specs.Prepared.{run_of_source}
 use Rattle.kernel_runs.specs.Simulated.{simulated}
@@ -81,6 +83,10 @@ diagram_answer source view form = result_map_both just fault_of_diagram (diagram
 -- the trace of a run, with the lines that a view shows
 abbrev pub trace_answer : SourceView → ℕ → TraceView → Result Answer ProgramFault
 trace_answer source horizon view = answered just (shown_trace_of_source source horizon view)
+
+-- the table of the frontiers of shown nets by rounds
+abbrev pub frontiers_answer : SourceView → ℕ → Selection → Result Answer ProgramFault
+frontiers_answer source horizon show = answered just (frontiers_of_source source horizon show)
 
 -- why the net with this name has its value at a tick
 abbrev pub why_answer : SourceView → List ℕ → ℕ → Result Answer ProgramFault

@@ -4,9 +4,9 @@ use Rattle.netlist.specs.Names.{seen_names}
 use Rattle.drawn_stimuli.specs.Inputs.{seen_drive}
 use Rattle.prepared_runs.specs.Source.{SourceView}
 use Rattle.program_io.specs.declared.program_fault.ProgramFault.{ProgramFault}
-use Rattle.program_io.specs.Answers.{Answer, IsAnswerOfCone, IsAnswerOfDiff, IsAnswerOfInfo, IsAnswerOfTwin, check_answer, diagram_answer, plain_answer, run_answer, stimuli_answer, trace_answer, why_answer}
+use Rattle.program_io.specs.Answers.{Answer, IsAnswerOfCone, IsAnswerOfDiff, IsAnswerOfInfo, IsAnswerOfTwin, check_answer, diagram_answer, frontiers_answer, plain_answer, run_answer, stimuli_answer, trace_answer, why_answer}
 use Rattle.command_line.specs.declared.order.Order.{Order}
-use Rattle.command_line.specs.declared.order.Order.TheVariants.{Run, Plain, Draw, Trace, Why, Stimuli, Info, Cone, Diff, Twin, Check}
+use Rattle.command_line.specs.declared.order.Order.TheVariants.{Run, Plain, Draw, Trace, Frontiers, Why, Stimuli, Info, Cone, Diff, Twin, Check}
 use Rattle.command_line.specs.declared.source_options.SourceOptions.{SourceOptions}
 use Rattle.program_io.specs.declared.order_texts.OrderTexts.{OrderTexts}
 use Rattle.command_line.specs.Sources.{source_from}
@@ -23,6 +23,7 @@ IsAnswer known (Plain options view) answer = ForSource known options (λ source.
 IsAnswer known (Draw options view form) answer = ForSource known options (λ source. answer ≡ diagram_answer source view form)
 IsAnswer known (Trace options horizon idle net) answer =
     ForSource known options (λ source. answer ≡ trace_answer source horizon (record { idle = idle; net = net }))
+IsAnswer known (Frontiers options horizon show) answer = ForSource known options (λ source. answer ≡ frontiers_answer source horizon show)
 IsAnswer known (Why options net tick) answer = ForSource known options (λ source. answer ≡ why_answer source net.now tick)
 IsAnswer known (Stimuli bench drives draws horizon) answer =
     (text : List ℕ) × IfSome (known bench.now) (λ all. text ≡ all) × (answer ≡ stimuli_answer text (map seen_drive drives.items) draws horizon)
@@ -42,6 +43,7 @@ IsAnswerTo (Plain options view) texts answer = answer ≡ plain_answer (source_f
 IsAnswerTo (Draw options view form) texts answer = answer ≡ diagram_answer (source_from options texts.first) view form
 IsAnswerTo (Trace options horizon idle net) texts answer =
     answer ≡ trace_answer (source_from options texts.first) horizon (record { idle = idle; net = net })
+IsAnswerTo (Frontiers options horizon show) texts answer = answer ≡ frontiers_answer (source_from options texts.first) horizon show
 IsAnswerTo (Why options net tick) texts answer = answer ≡ why_answer (source_from options texts.first) net.now tick
 IsAnswerTo (Stimuli bench drives draws horizon) texts answer =
     answer ≡ stimuli_answer texts.first.bench.items (map seen_drive drives.items) draws horizon

@@ -6,21 +6,21 @@ ghost use Rattle.prepared_runs.specs.Ends.{RunEndsBy};
 ghost use Rattle.kernel_runs.specs.Simulated.{dump_in, simulated};
 ghost use Rattle.prepared_runs.specs.Source.{seen_source};
 ghost use Rattle.prepared_runs.specs.Reported.{IsProgress, IsTickByTick, Reported};
-ghost use Rattle.program_io.specs.Answers.{AnswerEndsBy, DumpsAndCounts, GoesOut, IsAnswerOfCone, IsAnswerOfDiff, IsAnswerOfInfo, IsAnswerOfTwin, IsNoRead, check_answer, diagram_answer, outcome_of, plain_answer, run_answer, stimuli_answer, trace_answer, why_answer};
+ghost use Rattle.program_io.specs.Answers.{AnswerEndsBy, DumpsAndCounts, GoesOut, IsAnswerOfCone, IsAnswerOfDiff, IsAnswerOfInfo, IsAnswerOfTwin, IsNoRead, check_answer, diagram_answer, frontiers_answer, outcome_of, plain_answer, run_answer, stimuli_answer, trace_answer, why_answer};
 
 use crate::outcome::Outcome;
 use crate::output::{flush, write_text};
 use crate::program_fault::ProgramFault;
 use circuit_info::info;
 use drawn_stimuli::{Draws, Driven, stimuli};
-use event_trace::{TraceView, trace_shown};
+use event_trace::{TraceView, frontiers, trace_shown};
 use fanin_cone::cone_text;
 use kernel_runs::{
     DiffTicks, check, check_text, diff, simulate_with_progress, sweep_with_progress, twin,
-    twin_text, why,
+    twin_text, why_with_progress,
 };
-use plain_runs::{diagram, plain_with_progress};
-use prepared_runs::{DiagramView, DumpView, Progress, SimFault, Source, prepare};
+use plain_runs::{diagram_with_progress, plain_with_progress};
+use prepared_runs::{DiagramView, DumpView, Progress, Selection, SimFault, Source, prepare};
 use std::alloc::Global;
 use std::io::Write;
 use timing_diagram::Form;
@@ -100,24 +100,27 @@ pub(crate) fn write_plain<W: Write, P: Progress>(
     Ok(Outcome::Done)
 }
 
-/// Writes the timing diagram of a run and flushes once. No events are picked.
+/// Writes the timing diagram of a run and flushes once. No events are picked. Reports its progress as
+/// [`diagram_with_progress`] does.
 ///
 /// # Errors
 /// As for [`write_run`].
-pub(crate) fn write_diagram<W: Write>(
+pub(crate) fn write_diagram<W: Write, P: Progress>(
     alloc: Global,
     source: &Source<'_>,
     view: &DiagramView<'_>,
     form: Form,
     out: &mut W,
+    progress: &mut P,
 ) -> Result<Outcome, ProgramFault<'static>>
     ensures ok { IfOk result (GoesOut (λ answer. answer ≡ diagram_answer (seen_source source.now) view.now form)
         (W.contents out.old) (W.contents out.new)) }
     ensures err { IfErr result (AnswerEndsBy (λ answer. answer ≡ diagram_answer (seen_source source.now) view.now form)
         (W.contents out.old) (W.contents out.new)) }
     ensures no_read { IfErr result IsNoRead }
+    ensures reported { Reported (P.reports view.now.horizon) (IsTickByTick result view.now.horizon) progress.old progress.new }
 {
-    diagram(alloc, source, view, form, out)?;
+    diagram_with_progress(alloc, source, view, form, out, progress)?;
     flush(out)?;
     Ok(Outcome::Done)
 }
@@ -141,6 +144,28 @@ pub(crate) fn write_trace<W: Write>(
     ensures no_read { IfErr result IsNoRead }
 {
     trace_shown(alloc, source, horizon, view, out)?;
+    flush(out)?;
+    Ok(Outcome::Done)
+}
+
+/// Writes the table of the frontiers of a run's shown nets by rounds, and flushes once.
+///
+/// # Errors
+/// As for [`write_run`].
+pub(crate) fn write_frontiers<W: Write>(
+    alloc: Global,
+    source: &Source<'_>,
+    horizon: u64,
+    show: &Selection<'_>,
+    out: &mut W,
+) -> Result<Outcome, ProgramFault<'static>>
+    ensures ok { IfOk result (GoesOut (λ answer. answer ≡ frontiers_answer (seen_source source.now) horizon show.now)
+        (W.contents out.old) (W.contents out.new)) }
+    ensures err { IfErr result (AnswerEndsBy (λ answer. answer ≡ frontiers_answer (seen_source source.now) horizon show.now)
+        (W.contents out.old) (W.contents out.new)) }
+    ensures no_read { IfErr result IsNoRead }
+{
+    frontiers(alloc, source, horizon, show, out)?;
     flush(out)?;
     Ok(Outcome::Done)
 }
@@ -269,24 +294,27 @@ pub(crate) fn write_check<W: Write>(
     Ok(Outcome::Done)
 }
 
-/// Writes the lines that explain why the net with this name has its value at a tick, and flushes once.
+/// Writes the lines that explain why the net with this name has its value at a tick, and flushes once. Reports the
+/// progress of the run as [`why_with_progress`] does.
 ///
 /// # Errors
 /// As for [`write_twin`].
-pub(crate) fn write_why<W: Write>(
+pub(crate) fn write_why<W: Write, P: Progress>(
     alloc: Global,
     source: &Source<'_>,
     name: &[u8],
     tick: u64,
     out: &mut W,
+    progress: &mut P,
 ) -> Result<Outcome, ProgramFault<'static>>
     ensures ok { IfOk result (GoesOut (λ answer. answer ≡ why_answer (seen_source source.now) name.now tick)
         (W.contents out.old) (W.contents out.new)) }
     ensures err { IfErr result (AnswerEndsBy (λ answer. answer ≡ why_answer (seen_source source.now) name.now tick)
         (W.contents out.old) (W.contents out.new)) }
     ensures no_read { IfErr result IsNoRead }
+    ensures reported { Reported (P.reports tick) (IsProgress result tick) progress.old progress.new }
 {
-    let text = why(alloc, source, name, tick)?;
+    let text = why_with_progress(alloc, source, name, tick, progress)?;
     write_text(out, text.as_slice())?;
     Ok(Outcome::Done)
 }

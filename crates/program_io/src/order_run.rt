@@ -6,8 +6,8 @@ ghost use Rattle.program_io.specs.Progress.{BrokenTicks, DoneTicks, horizon_repo
 ghost use Rattle.prepared_runs.specs.Reported.{Reported};
 
 use crate::answers::{
-    write_check, write_cone, write_diagram, write_diff, write_info, write_plain, write_run,
-    write_stimuli, write_trace, write_twin, write_why,
+    write_check, write_cone, write_diagram, write_diff, write_frontiers, write_info, write_plain,
+    write_run, write_stimuli, write_trace, write_twin, write_why,
 };
 use crate::{OrderTexts, Outcome, ProgramFault};
 use command_line::Order;
@@ -18,7 +18,8 @@ use std::io::Write;
 
 /// Writes the answer to an order over the texts of its files, which [`read_texts`](crate::read_texts) reads, and
 /// flushes once. Returns what to report with the answer: the counts at the end of a run, if they are
-/// requested, or that what was compared differs. A run whose dump is written reports its progress.
+/// requested, or that what was compared differs. A run whose dump is written reports its progress, and so does one
+/// that is drawn or explained.
 ///
 /// # Errors
 /// If a setting or a text is refused, nothing is written. After a failed write or allocation, a prefix of
@@ -51,7 +52,7 @@ pub fn write_answer<W: Write, P: Progress>(
             write_plain(alloc, &source.source(one), view, out, progress)
         }
         Order::Draw { source, view, form } => {
-            write_diagram(alloc, &source.source(one), view, *form, out)
+            write_diagram(alloc, &source.source(one), view, *form, out, progress)
         }
         Order::Trace {
             source,
@@ -65,8 +66,13 @@ pub fn write_answer<W: Write, P: Progress>(
             };
             write_trace(alloc, &source.source(one), *horizon, &view, out)
         }
+        Order::Frontiers {
+            source,
+            horizon,
+            show,
+        } => write_frontiers(alloc, &source.source(one), *horizon, show, out),
         Order::Why { source, net, tick } => {
-            write_why(alloc, &source.source(one), net, *tick, out)
+            write_why(alloc, &source.source(one), net, *tick, out, progress)
         }
         Order::Stimuli {
             drives,

@@ -6,7 +6,7 @@ use Rattle.design.proofs.CallerLemmas.{length-waves_of}
 use Rattle.timing_diagram.specs.Bus.{seen_bus}
 use Rattle.prepared_runs.specs.Lanes.{bus_view, seen_lanes}
 use Rattle.prepared_runs.specs.Shown.{wave_at}
-use Rattle.prepared_runs.proofs.CallerLemmas.{BreaksOff-dump, BreaksOff-memory}
+use Rattle.prepared_runs.proofs.CallerLemmas.{BreaksOff-dump, BreaksOff-memory, tick_by_tick-behind}
 use Rattle.plain_runs.specs.Drawn.{bus_trace}
 use Rattle.plain_runs.proofs.Diagrams.{diagram_of_lanes-waves, drawn-same}
 use Rattle.plain_runs.proofs.diagram_run.draw_lanes.Goals as goal
@@ -59,3 +59,23 @@ returns-clause-ok g c =
     ∙ diagram_of_lanes-waves c.args.design.now.circuit c.args.horizon waves c.in_ok-waves.ensures.waves c.args.form c.args.columns (seen_lanes c.args.lanes.now)
     c.requires.drawable c.requires.within c.requires.nets_exist c.requires.bits_exist in
     subst (Appends _ _) text c.in_ok-draw.ensures.ok
+
+pub returns-in_err-waves-clause-reported : goal.returns-in_err-waves-clause-reported
+returns-in_err-waves-clause-reported g c =
+    let p = err_from_is_err_and c.from_residual.result c.from_residual.ensures.1 in
+    rw p.1 c.in_err-waves.ensures.reported
+
+pub returns-in_err-buses-clause-reported : goal.returns-in_err-buses-clause-reported
+returns-in_err-buses-clause-reported g c =
+    tick_by_tick-behind (g.P.Progress.reports c.args.horizon) c.from_residual-in_err-buses.result c.args.horizon c.args.progress.now c.all_waves.new.progress
+    c.in_ok-waves.ensures.reported
+
+pub returns-in_err-shown-clause-reported : goal.returns-in_err-shown-clause-reported
+returns-in_err-shown-clause-reported g c =
+    tick_by_tick-behind (g.P.Progress.reports c.args.horizon) c.from_residual-in_err-shown.result c.args.horizon c.args.progress.now c.all_waves.new.progress
+    c.in_ok-waves.ensures.reported
+
+pub returns-in_err-draw-clause-reported : goal.returns-in_err-draw-clause-reported
+returns-in_err-draw-clause-reported g c =
+    tick_by_tick-behind (g.P.Progress.reports c.args.horizon) c.from_residual-in_err-draw.result c.args.horizon c.args.progress.now c.all_waves.new.progress
+    c.in_ok-waves.ensures.reported
