@@ -10,3 +10,4 @@ mod DrivesCount
 mod Words
 mod StimuliTexts
 mod OnlyNamed
+mod WideCounts
