@@ -11,3 +11,4 @@ mod Words
 mod StimuliTexts
 mod OnlyNamed
 mod WideCounts
+mod HeldBits

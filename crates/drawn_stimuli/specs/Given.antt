@@ -1,12 +1,14 @@
 -- The drives of single inputs that given drives are made of.
-use Rattle.std.specs.Prelude.{ℕ, ◌+◌, ◌/◌, ◌%◌, ◌^◌, List, [], ◌∷◌, ◌++◌, length, map}
+use Rattle.std.specs.Prelude.{ℕ, zero, suc, ◌+◌, ◌/◌, ◌%◌, ◌^◌, List, [], ◌∷◌, ◌++◌, length, map}
 use Rattle.std.specs.Option.{option_map_or}
 use Rattle.netlist.specs.Netlist.{NetlistView, net_at}
 use Rattle.net_words.specs.Meant.{nets_meant}
 use Rattle.drawn_stimuli.specs.declared.drive.Drive.{Drive}
 use Rattle.drawn_stimuli.specs.declared.drive.Drive.TheVariants.{HoldBits}
 use Rattle.drawn_stimuli.specs.declared.drive.Driven.{Driven}
+use Rattle.logic3.specs.declared.value.Value.{Value}
 use Rattle.drawn_stimuli.specs.Inputs.{InputDriveView}
+use Rattle.drawn_stimuli.specs.Signals.{drive_value, lowest_bit}
 
 -- a word, and what drives each input that it means
 pub record DriveView : Type 0 where
@@ -35,6 +37,15 @@ abbrev pub parts_from : ℕ → Drive → List (List ℕ) → List InputDriveVie
 parts_from place drive [] = []
 parts_from place drive (name ∷ names) =
     record { name = name; drive = first_part drive (length names); place = place } ∷ parts_from place (other_part drive (length names)) names
+
+-- the values of this many low bits of a number, the most significant first
+abbrev pub bit_values : ℕ → ℕ → ℕ → List Value
+bit_values ones unknown zero = []
+bit_values ones unknown (suc count) = lowest_bit (ones / 2 ^ count) (unknown / 2 ^ count) ∷ bit_values ones unknown count
+
+-- what inputs with these parts of drives show at a tick
+abbrev pub values_at : ℕ → List InputDriveView → List Value
+values_at tick parts = map (λ (part : InputDriveView). drive_value part.drive tick) parts
 
 -- the parts of drives for a netlist; the first drive has this place
 abbrev pub all_parts : NetlistView → ℕ → List DriveView → List InputDriveView

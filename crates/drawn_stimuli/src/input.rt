@@ -93,18 +93,15 @@ fn net_to_drive(
     ensures fault { ForGiven netlist.now (map (λ drives. drives.items) kept.now) (λ earlier.
         FailsBy (fault_behind netlist.now earlier (seen_input_drive driven.now)) result) }
 {
+    let place = driven.place;
     let Some(net) = input_named(netlist, driven.name) else {
-        return Err(DriveFault::NotAnInput {
-            place: driven.place,
-        });
+        return Err(DriveFault::NotAnInput { place });
     };
     let had = kept[net as usize].as_slice();
     if !can_follow(had, driven.drive) {
-        return Err(DriveFault::Twice {
-            place: driven.place,
-        });
+        return Err(DriveFault::Twice { place });
     }
-    if let Some(fault) = form_fault(driven.place, driven.drive) {
+    if let Some(fault) = form_fault(place, driven.drive) {
         return Err(fault);
     }
     Ok(net)

@@ -1,5 +1,5 @@
 //! Facts about the definitions alone.
-ghost use Rattle.std.specs.Prelude.{◌≡◌, ℕ, ◌+◌, ◌≤◌, List, [], ◌∷◌, All, Ok, map, true, false};
+ghost use Rattle.std.specs.Prelude.{◌≡◌, ℕ, ◌+◌, ◌≤◌, List, [], ◌∷◌, All, Ok, length, map, true, false};
 ghost use Rattle.std.specs.List.{range_with_len};
 ghost use Rattle.rand_core.specs.Pcg32Seed.{pcg32_seed};
 ghost use Rattle.rand_core.specs.Steps.{first_words};
@@ -9,6 +9,8 @@ ghost use Rattle.netlist.specs.Netlist.{NetlistView};
 ghost use Rattle.timing_text.specs.Ranges.{most_ticks};
 ghost use Rattle.timing_text.specs.Stimuli.{stimuli_of};
 ghost use Rattle.drawn_stimuli.specs.Inputs.{InputDriveView, ForAccepted, InputView, drives_named, input_names, inputs_of, is_drawn};
+ghost use Rattle.drawn_stimuli.specs.declared.drive.Drive.TheVariants.{HoldBits};
+ghost use Rattle.drawn_stimuli.specs.Given.{bit_values, parts_from, values_at};
 ghost use Rattle.drawn_stimuli.specs.Signals.{GiveTheirPulses, is_pulse, word_after};
 ghost use Rattle.drawn_stimuli.specs.StimulusText.{Drawing, changes_drawn, inputs_drawn, stimuli_drawn, text_drawn, value_drawn, value_read};
 
@@ -35,6 +37,12 @@ pub fn drives_count()
         drives_named drives driven.name ≡ driven.drive ∷ []) }
     ensures pulses { ForAccepted (λ drives driven. is_pulse driven.drive ≡ true →
         GiveTheirPulses (drives_named drives driven.name)) }
+{}
+
+/// Inputs that hold a number together show its bits at each tick, the first input the most significant one.
+pub fn held_bits()
+    ensures { (place ones unknown tick : ℕ) (names : List (List ℕ)) →
+        values_at tick (parts_from place (HoldBits ones unknown) names) ≡ bit_values ones unknown (length names) }
 {}
 
 /// Where only the inputs that drives name have values, the text has no change of another input, which

@@ -1,11 +1,11 @@
 -- The nets that words mean are nets of the netlist, and so are those of lanes.
-use Rattle.std.proofs.Common.{◌≡◌, refl, sym, ap, subst, ◌∙◌, ℕ, ◌<◌, ◌≤◌, ◌+◌, List, [], ◌∷◌, ◌++◌, append_assoc, drop, get_or, length, map, Vec, filter, flat_map, not, Bool, true, false, cond, option_and_then, option_map, Option, None, Some, Ok, Err, IsTrue, All, arith}
+use Rattle.std.proofs.Common.{◌≡◌, refl, sym, ap, subst, ◌∙◌, ℕ, ◌<◌, ◌≤◌, ◌+◌, List, [], ◌∷◌, ◌++◌, append_assoc, drop, get_or, length, map, Vec, filter, not, Bool, true, false, cond, option_map, Option, None, Some, Ok, Err, IsTrue, All, arith}
 use denote.Ref.{Bor}
 use Rattle.std.specs.declared.alloc.Global.{Global}
 use Rattle.std.proofs.lemmas.List.{map-append}
 use Rattle.texts.specs.Text.{◌>>=◌}
 use Rattle.std.specs.Option.{ok_or}
-use Rattle.std.proofs.lemmas.List.Elements.{All-append, All-cons, All-filter, All-head, All-nil, All-tail}
+use Rattle.std.proofs.lemmas.List.Elements.{All-append, All-filter, All-head, All-nil, All-tail}
 use Rattle.std.proofs.lemmas.List.Filters.{length-filter_both}
 use Rattle.design.specs.Design.{DesignView, IsDesign}
 use Rattle.design.proofs.CallerLemmas.{length-circuit}

@@ -1,5 +1,5 @@
 -- The ticks above the columns are round, drawn, and in their columns.
-use Rattle.std.proofs.Common.{◌≡◌, ◌∙◌, refl, sym, ap, subst, arith, ℕ, suc, ◌+◌, ◌-◌, ◌*◌, ◌/◌, ◌%◌, ◌<◌, ◌≤◌, ◌⊎◌, inl, inr, nat_lt, add-one, Bool, true, false, cond}
+use Rattle.std.proofs.Common.{◌≡◌, ◌∙◌, refl, sym, ap, arith, ℕ, suc, ◌+◌, ◌-◌, ◌*◌, ◌/◌, ◌%◌, ◌<◌, ◌≤◌, ◌⊎◌, inl, inr, nat_lt, add-one, Bool, true, false, cond}
 use Rattle.std.proofs.Math.Nat.{add-mul-mod_self_right, div-eq_of_lt, div-mul-le_self, lt-div-mul-add, mod-eq_of_lt, mod-lt, mod_self, mul-le-mul_right, mul-mod_left, suc-mul}
 use Rattle.std.proofs.lemmas.Bool.{cases_lt, le-ltb, lt-ltb, ltb-false}
 use Rattle.std.proofs.lemmas.Nat.{div-add-mod'}

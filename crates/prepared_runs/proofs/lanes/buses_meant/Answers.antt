@@ -1,6 +1,5 @@
-use Rattle.std.proofs.Common.{◌≡◌, ◌∙◌, ℕ, None, Some, Vec, ap, option_map, sym}
+use Rattle.std.proofs.Common.{◌∙◌, ℕ, Vec, ap, option_map, sym}
 use Rattle.std.specs.declared.alloc.Global.{Global}
-use Rattle.net_words.specs.Meant.{nets_meant}
 use Rattle.prepared_runs.proofs.MeantNets.{more_buses, no_bus}
 use Rattle.prepared_runs.proofs.lanes.buses_meant.Goals as goal
 
