@@ -52,6 +52,7 @@ def commands() -> list[tuple[list, bytes, int]]:
         ("trace --bench hazard.bench --stimuli hazard.stimuli --horizon 8 --frontiers --nets y,b".split(), b"", 0),
         ("draw --bench counter.bench --delays counter.delays --horizon 79 --show outputs --bus q[1:0]".split(), b"", 0),
         ("plain --bench pulse.bench --delays pulse.delays --stimuli pulse.stimuli --horizon 22".split(), b"", 0),
+        ("stimuli --bench verilog/uart.bench --horizon 60 --clock clk=10,10,1 --hold data[7:0]=0x48".split(), b"", 0),
         (streams.HELP, b"", 0),
         (["run", "--help"], b"", 0),
         (["explain", "BadLine"], b"", 0),

@@ -8,7 +8,7 @@ use Rattle.netlist.specs.Netlist.{IsNetlist, NetView, NetlistView, net_at, net_n
 use Rattle.netlist.proofs.CallerLemmas.{All-from_no_position, AllPairs-tail, HasDistinctNames, bytes_eq-other, bytes_eq-same, names-differ, net_at-named, no_net}
 use Rattle.netlist.specs.Part.{is_input}
 use Rattle.timing_text.specs.Words.{find_net}
-use Rattle.drawn_stimuli.specs.Inputs.{DriveView, InputView, drives_named, inputs_from, inputs_of, is_drawn}
+use Rattle.drawn_stimuli.specs.Inputs.{InputDriveView, InputView, drives_named, inputs_from, inputs_of, is_drawn}
 
 -- no two inputs have one name
 abbrev pub HasOwnName : InputView → InputView → Type 0
@@ -19,7 +19,7 @@ AreDistinct [] = Unit {0}
 AreDistinct (input ∷ inputs) = All (HasOwnName input) inputs × AreDistinct inputs
 
 -- what holds of the nets that are inputs holds of the inputs, if it is of the name alone
-inputs-All : (P : List ℕ → Type 0) (drives : List DriveView) (place : ℕ) (nets : List NetView) →
+inputs-All : (P : List ℕ → Type 0) (drives : List InputDriveView) (place : ℕ) (nets : List NetView) →
     All (λ (net : NetView). is_input net.part ≡ true → P net.name) nets → All (λ (input : InputView). P input.name) (inputs_from drives place nets)
 inputs-All P drives place [] each = All-nil (λ (input : InputView). P input.name)
 inputs-All P drives place (net ∷ nets) each =
@@ -40,7 +40,7 @@ inputs-All P drives place (net ∷ nets) each =
     go false is rest = rest place
 
 -- distinct nets make distinct inputs
-distinct_from : (drives : List DriveView) (place : ℕ) (nets : List NetView) → HasDistinctNames nets → AreDistinct (inputs_from drives place nets)
+distinct_from : (drives : List InputDriveView) (place : ℕ) (nets : List NetView) → HasDistinctNames nets → AreDistinct (inputs_from drives place nets)
 distinct_from drives place [] distinct = tt
 distinct_from drives place (net ∷ nets) distinct =
     go (is_input net.part) (λ next. distinct_from drives next nets (AllPairs-tail (λ (earlier later : NetView). earlier.name ≢ later.name) net nets distinct))
@@ -59,7 +59,7 @@ distinct_from drives place (net ∷ nets) distinct =
     go true rest = (inputs-All (λ name. bytes_eq net.name name ≡ false) drives next nets others, rest next)
     go false rest = rest place
 
-pub distinct_inputs : (netlist : NetlistView) (drives : List DriveView) → IsNetlist netlist → AreDistinct (inputs_of netlist drives)
+pub distinct_inputs : (netlist : NetlistView) (drives : List InputDriveView) → IsNetlist netlist → AreDistinct (inputs_of netlist drives)
 distinct_inputs netlist drives formed = distinct_from drives 0 netlist.nets formed.distinct
 
 -- an input that the reader finds by its name
@@ -88,7 +88,7 @@ net_named-own netlist place distinct within = go (net_named netlist name) refl
           | inr apart ↦ absurd (names-differ netlist.nets place other distinct within at.0 apart at.1)
         ]
 
-pub found_inputs : (netlist : NetlistView) (drives : List DriveView) → IsNetlist netlist →
+pub found_inputs : (netlist : NetlistView) (drives : List InputDriveView) → IsNetlist netlist →
     All (λ (input : InputView). IsFound netlist input.name) (inputs_of netlist drives)
 found_inputs netlist drives formed =
     inputs-All (IsFound netlist) drives 0 netlist.nets
@@ -101,7 +101,7 @@ found_inputs netlist drives formed =
     }))
 
 -- there is an input for each net that is one, in order
-pub names_of_inputs : (drives : List DriveView) (place : ℕ) (nets : List NetView) →
+pub names_of_inputs : (drives : List InputDriveView) (place : ℕ) (nets : List NetView) →
     map (λ (input : InputView). input.name) (inputs_from drives place nets)
     ≡ map (λ (net : NetView). net.name) (filter (λ (net : NetView). is_input net.part) nets)
 names_of_inputs drives place [] = refl

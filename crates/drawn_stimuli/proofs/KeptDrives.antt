@@ -2,7 +2,7 @@
 use Rattle.std.proofs.Common.{◌≡◌, ℕ, ◌≢◌, ◌+◌, ◌<◌, ◌≤◌, All, true, false, cond, not, List, [], ◌∷◌, ◌++◌, drop, filter, length, map, get_or, set, replicate, Option, None, Some, append_assoc, append-nil, refl, sym, ap, ◌∙◌, subst, arith}
 use Rattle.std.specs.Option.{option_or}
 use Rattle.std.specs.Str.{bytes_eq}
-use Rattle.std.proofs.lemmas.List.{drop_more, get_or-map, length-map, length_push, map-append}
+use Rattle.std.proofs.lemmas.List.{drop_more, get_or-map, length-map, map-append}
 use Rattle.std.proofs.lemmas.List.Elements.{All-push, All-set, filter-append}
 use Rattle.netlist.specs.Netlist.{NetView, NetlistView, net_at, net_named}
 use Rattle.netlist.specs.Part.{is_input}
@@ -11,33 +11,32 @@ use Rattle.drawn_stimuli.specs.declared.drive.Drive.{Drive}
 use Rattle.drawn_stimuli.specs.declared.fault.DriveFault.{DriveFault}
 use Rattle.drawn_stimuli.specs.declared.fault.DriveFault.TheVariants.{NotAnInput, Twice}
 use Rattle.drawn_stimuli.specs.Signals.{IsDrive}
-use Rattle.drawn_stimuli.specs.Inputs.{DriveView, InputView, can_follow, drives_named, drives_of_nets, fault_behind, first_fault, form_fault, inputs_from, inputs_of, names_input, next_place}
+use Rattle.drawn_stimuli.specs.Inputs.{InputDriveView, InputView, can_follow, drives_named, drives_of_nets, fault_behind, first_fault, form_fault, inputs_from, inputs_of, names_input, next_place}
 
 -- ---- the drives of a name with one drive more
 
-module _ (earlier : List DriveView) (driven : DriveView) (name : List ℕ) where
+module _ (earlier : List InputDriveView) (driven : InputDriveView) (name : List ℕ) where
   drives_named-push : drives_named (earlier ++ driven ∷ []) name
-      ≡ drives_named earlier name ++ map (λ (driven : DriveView). driven.drive) (cond (bytes_eq driven.name name) (driven ∷ []) [])
+      ≡ drives_named earlier name ++ map (λ (driven : InputDriveView). driven.drive) (cond (bytes_eq driven.name name) (driven ∷ []) [])
   drives_named-push =
-      ap (map (λ (driven : DriveView). driven.drive)) (filter-append (λ (driven : DriveView). bytes_eq driven.name name) earlier (driven ∷ []))
-      ∙ map-append (λ (driven : DriveView). driven.drive) (filter (λ (driven : DriveView). bytes_eq driven.name name) earlier) (filter (λ (driven : DriveView). bytes_eq driven.name name) (driven ∷ []))
+      ap (map (λ (driven : InputDriveView). driven.drive)) (filter-append (λ (driven : InputDriveView). bytes_eq driven.name name) earlier (driven ∷ []))
+      ∙ map-append (λ (driven : InputDriveView). driven.drive) (filter (λ (driven : InputDriveView). bytes_eq driven.name name) earlier) (filter (λ (driven : InputDriveView). bytes_eq driven.name name) (driven ∷ []))
 
   pub drives_named-own : bytes_eq driven.name name ≡ true → drives_named (earlier ++ driven ∷ []) name ≡ drives_named earlier name ++ driven.drive ∷ []
   drives_named-own same =
-      drives_named-push ∙ ap (λ same. drives_named earlier name ++ map (λ (driven : DriveView). driven.drive) (cond same (driven ∷ []) [])) same
+      drives_named-push ∙ ap (λ same. drives_named earlier name ++ map (λ (driven : InputDriveView). driven.drive) (cond same (driven ∷ []) [])) same
 
   pub drives_named-other : bytes_eq driven.name name ≡ false → drives_named (earlier ++ driven ∷ []) name ≡ drives_named earlier name
   drives_named-other apart =
       drives_named-push
-      ∙ ap (λ same. drives_named earlier name ++ map (λ (driven : DriveView). driven.drive) (cond same (driven ∷ []) [])) apart
+      ∙ ap (λ same. drives_named earlier name ++ map (λ (driven : InputDriveView). driven.drive) (cond same (driven ∷ []) [])) apart
       ∙ append-nil (drives_named earlier name)
 
 -- ---- what is kept
 
 -- earlier drives are kept for each net, and some are left of all
-pub record Kept (netlist : NetlistView) (all left : List DriveView) (place : ℕ) (kept : List (List Drive)) : Type 0 where
-  pub earlier : List DriveView
-  pub count : length earlier ≡ place
+pub record Kept (netlist : NetlistView) (all left : List InputDriveView) (kept : List (List Drive)) : Type 0 where
+  pub earlier : List InputDriveView
   pub whole : earlier ++ left ≡ all
   pub rest : first_fault netlist [] all ≡ first_fault netlist earlier left
   pub held : kept ≡ drives_of_nets earlier netlist.nets
@@ -47,12 +46,12 @@ none-kept : (nets : List NetView) → replicate (length nets) [] ≡ drives_of_n
 none-kept [] = refl
 none-kept (net ∷ nets) = ap (λ kept. [] ∷ kept) (none-kept nets)
 
-pub Kept-first : (netlist : NetlistView) (all : List DriveView) (kept : List (List Drive)) → kept ≡ replicate (length netlist.nets) [] →
-    Kept netlist all all 0 kept
-Kept-first netlist all kept none = record { earlier = []; count = refl; whole = refl; rest = refl; held = none ∙ none-kept netlist.nets }
+pub Kept-first : (netlist : NetlistView) (all : List InputDriveView) (kept : List (List Drive)) → kept ≡ replicate (length netlist.nets) [] →
+    Kept netlist all all kept
+Kept-first netlist all kept none = record { earlier = []; whole = refl; rest = refl; held = none ∙ none-kept netlist.nets }
 
 -- there are the drives of each net
-pub Kept-length : {netlist : NetlistView} {all left : List DriveView} {place : ℕ} {kept : List (List Drive)} → Kept netlist all left place kept →
+pub Kept-length : {netlist : NetlistView} {all left : List InputDriveView} {kept : List (List Drive)} → Kept netlist all left kept →
     length kept ≡ length netlist.nets
 Kept-length {netlist = netlist} k = ap length k.held ∙ length-map netlist.nets (λ (net : NetView). drives_named k.earlier net.name)
 
@@ -69,8 +68,8 @@ All-kept kept net had drive within here own each =
     All-set (All IsDrive) kept net (had ++ drive ∷ [])
     (All-push IsDrive had drive (subst (All IsDrive) (sym here) (each net had within)) own) each
 
-module _ {netlist : NetlistView} {all left rest : List DriveView} {place : ℕ} {kept : List (List Drive)} {driven : DriveView}
-    (k : Kept netlist all left place kept) (turn : left ≡ driven ∷ rest) where
+module _ {netlist : NetlistView} {all left rest : List InputDriveView} {kept : List (List Drive)} {driven : InputDriveView}
+    (k : Kept netlist all left kept) (turn : left ≡ driven ∷ rest) where
   next-fault : (fault : Option DriveFault) → fault_behind netlist k.earlier driven ≡ fault →
       first_fault netlist [] all ≡ option_or fault (first_fault netlist (k.earlier ++ driven ∷ []) rest)
   next-fault fault same =
@@ -79,10 +78,9 @@ module _ {netlist : NetlistView} {all left rest : List DriveView} {place : ℕ} 
   -- another is kept for its net
   pub Kept-more : {net : ℕ} {had : List Drive} → HasDistinctNames netlist.nets → net_named netlist driven.name ≡ Some net →
       had ≡ get_or kept net had → fault_behind netlist k.earlier driven ≡ None →
-      Kept netlist all rest (place + 1) (set kept net (had ++ driven.drive ∷ []))
+      Kept netlist all rest (set kept net (had ++ driven.drive ∷ []))
   Kept-more {net = net} {had = had} distinct found here sound = record {
     earlier = k.earlier ++ driven ∷ [];
-    count = length_push k.earlier driven ∙ ap (λ n. n + 1) k.count;
     whole = append_assoc k.earlier (driven ∷ []) rest ∙ ap (λ left. k.earlier ++ left) (sym turn) ∙ k.whole;
     rest = next-fault None sound;
     held = ap (λ kept. set kept net (had ++ driven.drive ∷ [])) k.held
@@ -106,17 +104,16 @@ module _ {netlist : NetlistView} {all left rest : List DriveView} {place : ℕ} 
 
 -- ---- the fault of one drive
 
-module _ {V : Type 0} (netlist : NetlistView) (earlier : List DriveView) (drives_of : V → List Drive) (kept : List V) (place : ℕ) (driven : DriveView)
-    (held : map drives_of kept ≡ drives_of_nets earlier netlist.nets) (count : length earlier ≡ place) where
+module _ {V : Type 0} (netlist : NetlistView) (earlier : List InputDriveView) (drives_of : V → List Drive) (kept : List V) (driven : InputDriveView)
+    (held : map drives_of kept ≡ drives_of_nets earlier netlist.nets) where
   -- an input by what is kept of its net
   fault_behind-named : {net : ℕ} {had : V} → names_input netlist driven.name ≡ true → net_named netlist driven.name ≡ Some net →
       had ≡ get_or kept net had →
-      fault_behind netlist earlier driven ≡ cond (not (can_follow (drives_of had) driven.drive)) (Some (Twice place)) (form_fault place driven.drive)
+      fault_behind netlist earlier driven ≡ cond (not (can_follow (drives_of had) driven.drive)) (Some (Twice driven.place)) (form_fault driven.place driven.drive)
   fault_behind-named {net = net} {had = had} named found here =
-      ap (λ named. cond (not named) (Some (NotAnInput (length earlier)))
-      (cond (not (can_follow (drives_named earlier driven.name) driven.drive)) (Some (Twice (length earlier))) (form_fault (length earlier) driven.drive))) named
-      ∙ ap (λ had. cond (not (can_follow had driven.drive)) (Some (Twice (length earlier))) (form_fault (length earlier) driven.drive)) had-named
-      ∙ ap (λ n. cond (not (can_follow (drives_of had) driven.drive)) (Some (Twice n)) (form_fault n driven.drive)) count
+      ap (λ named. cond (not named) (Some (NotAnInput driven.place))
+      (cond (not (can_follow (drives_named earlier driven.name) driven.drive)) (Some (Twice driven.place)) (form_fault driven.place driven.drive))) named
+      ∙ ap (λ had. cond (not (can_follow had driven.drive)) (Some (Twice driven.place)) (form_fault driven.place driven.drive)) had-named
     where
       at : (net < length netlist.nets) × ((net_at netlist net).name ≡ driven.name)
       at = net_at-named netlist driven.name net found
@@ -134,20 +131,20 @@ module _ {V : Type 0} (netlist : NetlistView) (earlier : List DriveView) (drives
 
   -- one that has drives beside which there can't be this one
   pub fault_behind-twice : {net : ℕ} {had : V} → names_input netlist driven.name ≡ true → net_named netlist driven.name ≡ Some net →
-      had ≡ get_or kept net had → can_follow (drives_of had) driven.drive ≡ false → fault_behind netlist earlier driven ≡ Some (Twice place)
+      had ≡ get_or kept net had → can_follow (drives_of had) driven.drive ≡ false → fault_behind netlist earlier driven ≡ Some (Twice driven.place)
   fault_behind-twice named found here twice =
-      fault_behind-named named found here ∙ ap (λ fits. cond (not fits) (Some (Twice place)) (form_fault place driven.drive)) twice
+      fault_behind-named named found here ∙ ap (λ fits. cond (not fits) (Some (Twice driven.place)) (form_fault driven.place driven.drive)) twice
 
   -- otherwise the drive by itself decides
   pub fault_behind-once : {net : ℕ} {had : V} → names_input netlist driven.name ≡ true → net_named netlist driven.name ≡ Some net →
-      had ≡ get_or kept net had → can_follow (drives_of had) driven.drive ≡ true → fault_behind netlist earlier driven ≡ form_fault place driven.drive
+      had ≡ get_or kept net had → can_follow (drives_of had) driven.drive ≡ true → fault_behind netlist earlier driven ≡ form_fault driven.place driven.drive
   fault_behind-once named found here fits =
-      fault_behind-named named found here ∙ ap (λ fits. cond (not fits) (Some (Twice place)) (form_fault place driven.drive)) fits
+      fault_behind-named named found here ∙ ap (λ fits. cond (not fits) (Some (Twice driven.place)) (form_fault driven.place driven.drive)) fits
 
 -- ---- the inputs
 
 -- what is kept of a net is what its name has
-pub kept-named : {V : Type 0} (netlist : NetlistView) (given : List DriveView) (drives_of : V → List Drive) (kept : List V) {net : ℕ} {own : V} →
+pub kept-named : {V : Type 0} (netlist : NetlistView) (given : List InputDriveView) (drives_of : V → List Drive) (kept : List V) {net : ℕ} {own : V} →
     map drives_of kept ≡ drives_of_nets given netlist.nets → net < length netlist.nets → net < length kept → own ≡ get_or kept net own →
     drives_of own ≡ drives_named given (net_at netlist net).name
 kept-named netlist given drives_of kept {net = net} {own = own} held within room here =
@@ -161,7 +158,7 @@ next_place-limit place [] = omega arith
 next_place-limit place (first ∷ others) = omega arith
 
 -- one input more
-pub inputs-more : (netlist : NetlistView) (given : List DriveView) (before : List InputView) (net place : ℕ) (own : List Drive) →
+pub inputs-more : (netlist : NetlistView) (given : List InputDriveView) (before : List InputView) (net place : ℕ) (own : List Drive) →
     net < length netlist.nets → is_input (net_at netlist net).part ≡ true → own ≡ drives_named given (net_at netlist net).name →
     before ++ inputs_from given place (drop net netlist.nets) ≡ inputs_of netlist given →
     (before ++ record { name = (net_at netlist net).name; drives = own; place = place } ∷ []) ++ inputs_from given (next_place place own) (drop (net + 1) netlist.nets)

@@ -10,3 +10,5 @@ mod DrivesCount
 mod Words
 mod StimuliTexts
 mod OnlyNamed
+mod WideCounts
+mod HeldBits

@@ -9,7 +9,7 @@ use Rattle.drawn_stimuli.specs.declared.drive.Drive.{Drive}
 use Rattle.drawn_stimuli.specs.declared.drive.Rounds.{Rounds}
 use Rattle.drawn_stimuli.specs.Signals.{bit, signal_of, word_after}
 use Rattle.drawn_stimuli.specs.Inputs.{InputView, is_drawn}
-use Rattle.drawn_stimuli.specs.StimulusText.{Drawing, changes_drawn, inputs_drawn, rounds_of, value_drawn}
+use Rattle.drawn_stimuli.specs.StimulusText.{Drawing, changes_drawn, drives_drawn, inputs_drawn, rounds_of, value_drawn}
 use Rattle.drawn_stimuli.proofs.DistinctInputs.{distinct_inputs}
 use Rattle.drawn_stimuli.proofs.InOrder.{drawn_named}
 
@@ -38,7 +38,7 @@ drawn_is rounds (first ∷ others) place only drawn tick = (cc)
 pub only_named : (drawing : Drawing) → drawing.draws.only ≡ true →
     All (λ (input : InputView). is_drawn input.drives ≡ true → changes_drawn drawing input ≡ []) (inputs_drawn drawing)
 only_named drawing only = λ k d within drawn.
-    let rounds = rounds_of drawing.netlist drawing.drives drawing.draws in
+    let rounds = rounds_of drawing.netlist (drives_drawn drawing) drawing.draws in
     let input = get_or (inputs_drawn drawing) k d in
-    drawn_named rounds (inputs_drawn drawing) drawing.horizon (distinct_inputs drawing.netlist drawing.drives drawing.is_netlist) k d within
+    drawn_named rounds (inputs_drawn drawing) drawing.horizon (distinct_inputs drawing.netlist (drives_drawn drawing) drawing.is_netlist) k d within
     ∙ no_changes (value_drawn drawing input) (drawn_is rounds input.drives input.place only drawn) (range_with_len 0 (drawing.horizon + 1 - 0))

@@ -1,5 +1,5 @@
 -- Where nothing changes there are no lines.
-use Rattle.std.proofs.Common.{◌≡◌, ◌≢◌, ℕ, zero, suc, ◌+◌, ◌-◌, ◌*◌, ◌/◌, ◌%◌, ◌<◌, ◌≤◌, ◌&&◌, ◌==◌, min, nat_lt, nat_le, ◌||◌, Bool, true, false, cond, List, [], ◌∷◌, ◌++◌, map, flat_map, filter, All, length, Ok, Err, ◌⊎◌, inl, inr, add-zero, append-nil, append_assoc, refl, sym, ap, ◌∙◌, subst, arith}
+use Rattle.std.proofs.Common.{◌≡◌, ◌≢◌, ℕ, zero, suc, ◌+◌, ◌-◌, ◌*◌, ◌/◌, ◌%◌, ◌<◌, ◌≤◌, ◌&&◌, ◌==◌, min, not, nat_lt, nat_le, ◌||◌, Bool, true, false, cond, List, [], ◌∷◌, ◌++◌, map, flat_map, filter, All, length, Ok, Err, ◌⊎◌, inl, inr, add-zero, append-nil, append_assoc, refl, sym, ap, ◌∙◌, subst, arith}
 use Rattle.std.specs.List.{fold, list_any, range_with_len}
 use Rattle.std.proofs.Math.Nat.{div-lt_iff_lt-mul, div-mul-le_self, mod-eq-sub-div-mul, mod-lt, mod_self, suc-mod, zero-mod}
 use Rattle.std.proofs.lemmas.Bool.{cases_lt, le-leb, le-ltb, lt-leb, lt-ltb}
@@ -15,11 +15,11 @@ use Rattle.texts.specs.Text.{longest_text, unless_too_long}
 use Rattle.texts.proofs.CallerLemmas.{unless_too_long-short}
 use Rattle.netlist.specs.Netlist.{NetlistView}
 use Rattle.drawn_stimuli.specs.declared.drive.Drive.{Drive}
-use Rattle.drawn_stimuli.specs.declared.drive.Drive.TheVariants.{Clock, ClockFrom, Hold, Pulse}
+use Rattle.drawn_stimuli.specs.declared.drive.Drive.TheVariants.{Clock, ClockFrom, Hold, HoldBits, Pulse}
 use Rattle.drawn_stimuli.specs.declared.drive.Rounds.{Rounds}
 use Rattle.drawn_stimuli.specs.declared.fault.DriveFault.TheVariants.{TooLong}
 use Rattle.drawn_stimuli.specs.declared.input.InputNet.{InputNet}
-use Rattle.drawn_stimuli.specs.Signals.{AreRounds, IsDrive, bit, drive_value, in_pulse, signal_of, word_after}
+use Rattle.drawn_stimuli.specs.Signals.{AreRounds, IsDrive, bit, drive_value, in_pulse, is_turned, signal_of, word_after}
 use Rattle.drawn_stimuli.specs.Inputs.{IsInputNet, seen_input}
 use Rattle.drawn_stimuli.specs.Ticks.{is_moving, moves, never, next_change, next_multiple, next_of, next_tick}
 use Rattle.drawn_stimuli.specs.StimulusText.{change_line, input_text, tick_text}
@@ -76,8 +76,9 @@ below_least next_of (input ∷ inputs) next at first each =
 -- a tick stays in a pulse, or out of it, until the pulse may change
 pulse_stays : (drive : Drive) (tick at : ℕ) → tick ≤ at → suc at < next_change drive tick → in_pulse drive (suc at) ≡ in_pulse drive at
 pulse_stays (Clock half) tick at from below = refl
-pulse_stays (ClockFrom half start) tick at from below = refl
+pulse_stays (ClockFrom half start begins_high) tick at from below = refl
 pulse_stays (Hold value) tick at from below = refl
+pulse_stays (HoldBits ones unknown) tick at from below = refl
 pulse_stays (Pulse first last) tick at from below = go (cases_lt tick first) (cases_lt tick last) below
   where
     go : (tick < first) ⊎ (first ≤ tick) → (tick < last) ⊎ (last ≤ tick) →
@@ -98,32 +99,35 @@ pulses_stay (drive ∷ drives) tick at from each =
 -- a clock with a first change stays before it, and then in each half period
 clock_stays : (half start tick at : ℕ) → 0 < half → tick ≤ at → (tick < start) ⊎ (start ≤ tick) →
     suc at < cond (nat_lt tick start) start (min never (start + next_multiple half (tick - start))) →
-    bit (nat_le start (suc at) && (suc at - start) / half % 2 == 0) ≡ bit (nat_le start at && (at - start) / half % 2 == 0)
+    is_turned half start (suc at) ≡ is_turned half start at
 clock_stays half start tick at some from (inl before) below =
     let early : suc at < start = subst (λ b. suc at < cond b start (min never (start + next_multiple half (tick - start)))) (lt-ltb tick start before) below in
-    ap (λ b. bit (b && (suc at - start) / half % 2 == 0)) (lt-leb start (suc at) early)
-    ∙ sym (ap (λ b. bit (b && (at - start) / half % 2 == 0)) (lt-leb start at (omega (arith, early))))
+    ap (λ b. b && (suc at - start) / half % 2 == 0) (lt-leb start (suc at) early)
+    ∙ sym (ap (λ b. b && (at - start) / half % 2 == 0) (lt-leb start at (omega (arith, early))))
 clock_stays half start tick at some from (inr begun) below =
     let late : suc at < min never (start + next_multiple half (tick - start)) =
     subst (λ b. suc at < cond b start (min never (start + next_multiple half (tick - start)))) (le-ltb tick start begun) below in
     let one : suc at - start ≡ suc (at - start) = omega (arith, begun, from) in
-    ap (λ b. bit (b && (suc at - start) / half % 2 == 0)) (le-leb start (suc at) (omega (arith, begun, from)))
-    ∙ ap (λ n. bit (n / half % 2 == 0)) one
-    ∙ ap (λ q. bit (q % 2 == 0)) (same_round half (tick - start) (at - start) some (omega (arith, begun, from)) (omega (arith, begun, from, late)))
-    ∙ sym (ap (λ b. bit (b && (at - start) / half % 2 == 0)) (le-leb start at (omega (arith, begun, from))))
+    ap (λ b. b && (suc at - start) / half % 2 == 0) (le-leb start (suc at) (omega (arith, begun, from)))
+    ∙ ap (λ n. n / half % 2 == 0) one
+    ∙ ap (λ q. q % 2 == 0) (same_round half (tick - start) (at - start) some (omega (arith, begun, from)) (omega (arith, begun, from, late)))
+    ∙ sym (ap (λ b. b && (at - start) / half % 2 == 0) (le-leb start at (omega (arith, begun, from))))
 
 -- a drive stays from a tick on until it may change
 drive_stays : (drive : Drive) (tick at : ℕ) → IsDrive drive → tick ≤ at → suc at < next_change drive tick → drive_value drive (suc at) ≡ drive_value drive at
 drive_stays (Clock half) tick at sound from below = ap (λ q. bit (q % 2 == 1)) (same_round half tick at sound from below)
-drive_stays (ClockFrom half start) tick at sound from below = clock_stays half start tick at sound from (cases_lt tick start) below
+drive_stays (ClockFrom half start begins_high) tick at sound from below =
+    ap (λ turned. bit (cond begins_high (not turned) turned)) (clock_stays half start tick at sound from (cases_lt tick start) below)
 drive_stays (Hold value) tick at sound from below = refl
+drive_stays (HoldBits ones unknown) tick at sound from below = refl
 drive_stays (Pulse first last) tick at sound from below = ap bit (pulse_stays (Pulse first last) tick at from below)
 
 -- a drive that can't change has no next change
 still : (drive : Drive) (tick at : ℕ) → at < never → moves drive ≡ false → at < next_change drive tick
 still (Clock half) tick at early is = (cc)
-still (ClockFrom half start) tick at early is = (cc)
+still (ClockFrom half start begins_high) tick at early is = (cc)
 still (Hold value) tick at early is = early
+still (HoldBits ones unknown) tick at early is = early
 still (Pulse first last) tick at early is = (cc)
 
 all_still : (drives : List Drive) (tick at : ℕ) → at < never → is_moving drives ≡ false → All (λ drive. at < next_change drive tick) drives
@@ -238,8 +242,9 @@ later_clock half start tick some early (inr begun) =
 
 later_change : (drive : Drive) (tick : ℕ) → IsDrive drive → tick < never → tick < next_change drive tick
 later_change (Clock half) tick sound early = later_multiple half tick sound early
-later_change (ClockFrom half start) tick sound early = later_clock half start tick sound early (cases_lt tick start)
+later_change (ClockFrom half start begins_high) tick sound early = later_clock half start tick sound early (cases_lt tick start)
 later_change (Hold value) tick sound early = early
+later_change (HoldBits ones unknown) tick sound early = early
 later_change (Pulse first last) tick sound early = go (cases_lt tick first) (cases_lt tick last)
   where
     go : (tick < first) ⊎ (first ≤ tick) → (tick < last) ⊎ (last ≤ tick) →

@@ -7,7 +7,7 @@ use Rattle.timing_text.specs.declared.fault.OptionFault.{OptionFault}
 use Rattle.timing_text.specs.Options.{horizon_of}
 use Rattle.drawn_stimuli.specs.declared.drive.Draws.{Draws}
 use Rattle.drawn_stimuli.specs.declared.fault.DriveFault.{DriveFault}
-use Rattle.drawn_stimuli.specs.Inputs.{DriveView}
+use Rattle.drawn_stimuli.specs.Given.{DriveView}
 use Rattle.drawn_stimuli.specs.StimulusText.{stimuli_text}
 use Rattle.drawn_stimuli.specs.declared.driven_fault.DrivenFault.TheVariants.{Setting}
 use Rattle.drawn_stimuli.specs.Driven.{driven_of_bench, driven_of_drives, stimuli_of_drives}

@@ -9,7 +9,7 @@ use Rattle.timing_text.specs.Options.{horizon_of}
 use Rattle.drawn_stimuli.specs.declared.drive.Draws.{Draws}
 use Rattle.drawn_stimuli.specs.declared.fault.DriveFault.{DriveFault}
 use Rattle.drawn_stimuli.specs.declared.fault.DriveFault.TheVariants as drives
-use Rattle.drawn_stimuli.specs.Inputs.{DriveView}
+use Rattle.drawn_stimuli.specs.Given.{DriveView}
 use Rattle.drawn_stimuli.specs.StimulusText.{stimuli_text}
 use Rattle.drawn_stimuli.specs.declared.driven_fault.DrivenFault.{DrivenFault}
 use Rattle.drawn_stimuli.specs.declared.driven_fault.DrivenFault.TheVariants.{Setting, Bench, Drives, Memory}

@@ -5,40 +5,43 @@ use Rattle.netlist.specs.Netlist.{NetView, NetlistView, most_nets, net_at}
 use Rattle.netlist.specs.Part.{is_input}
 use Rattle.timing_text.specs.Words.{find_net}
 use Rattle.drawn_stimuli.specs.declared.drive.Drive.{Drive}
-use Rattle.drawn_stimuli.specs.declared.drive.Drive.TheVariants.{Clock, ClockFrom, Hold, Pulse}
-use Rattle.drawn_stimuli.specs.declared.drive.Driven.{Driven}
+use Rattle.drawn_stimuli.specs.declared.drive.Drive.TheVariants.{Clock, ClockFrom, Hold, HoldBits, Pulse}
+use Rattle.drawn_stimuli.specs.declared.drive.InputDrive.{InputDrive}
 use Rattle.drawn_stimuli.specs.declared.fault.DriveFault.{DriveFault}
-use Rattle.drawn_stimuli.specs.declared.fault.DriveFault.TheVariants.{NotAnInput, Twice, BadHalf, BadPulse}
+use Rattle.drawn_stimuli.specs.declared.fault.DriveFault.TheVariants.{NotAnInput, Twice, BadHalf, BadPulse, TooWide}
 use Rattle.drawn_stimuli.specs.declared.input.InputNet.{InputNet}
 use Rattle.drawn_stimuli.specs.Signals.{IsDrive, is_pulse}
 
 -- ---- drives
 
--- a name, and what drives the input with this name
-pub record DriveView : Type 0 where
+-- what drives the input with a name, and the place among the given drives of the one that this is part of
+pub record InputDriveView : Type 0 where
   pub name : List ℕ
   pub drive : Drive
+  pub place : ℕ
 
-abbrev pub seen_drive : Driven → DriveView
-seen_drive driven = record { name = driven.name.now; drive = driven.drive }
+abbrev pub seen_input_drive : InputDrive → InputDriveView
+seen_input_drive driven = record { name = driven.name.now; drive = driven.drive; place = driven.place }
 
 -- the drives of the input with this name, in order
-abbrev pub drives_named : List DriveView → List ℕ → List Drive
-drives_named drives name = map (λ (driven : DriveView). driven.drive) (filter (λ (driven : DriveView). bytes_eq driven.name name) drives)
+abbrev pub drives_named : List InputDriveView → List ℕ → List Drive
+drives_named drives name = map (λ (driven : InputDriveView). driven.drive) (filter (λ (driven : InputDriveView). bytes_eq driven.name name) drives)
 
 -- the drives of each net
-abbrev pub drives_of_nets : List DriveView → List NetView → List (List Drive)
+abbrev pub drives_of_nets : List InputDriveView → List NetView → List (List Drive)
 drives_of_nets drives nets = map (λ (net : NetView). drives_named drives net.name) nets
 
 -- whether an input has this name
 abbrev pub names_input : NetlistView → List ℕ → Bool
 names_input netlist name = option_map_or (λ (net : NetView). is_input net.part) (find_net netlist name) false
 
--- the fault of a drive at a place, regardless of the others: half a clock period, and a pulse, are at least one tick long
+-- the fault of a drive of one input, as a part of the given one at a place, and regardless of the others: half a clock period, and
+-- a pulse, are at least one tick long, and of a number it has one bit
 abbrev pub form_fault : ℕ → Drive → Option DriveFault
 form_fault place (Clock half) = if half == 0 then Some (BadHalf place) else None
-form_fault place (ClockFrom half first) = if half == 0 then Some (BadHalf place) else None
+form_fault place (ClockFrom half first begins_high) = if half == 0 then Some (BadHalf place) else None
 form_fault place (Hold value) = None
+form_fault place (HoldBits ones unknown) = if nat_lt ones 2 && nat_lt unknown 2 then None else Some (TooWide place)
 form_fault place (Pulse from to) = if nat_lt from to then None else Some (BadPulse place)
 
 -- whether an input that has these drives may have this one too: a pulse may follow pulses
@@ -47,14 +50,14 @@ can_follow [] drive = true
 can_follow (first ∷ others) drive = is_pulse first && is_pulse drive
 
 -- the fault of a drive that comes after these earlier ones, if any
-abbrev pub fault_behind : NetlistView → List DriveView → DriveView → Option DriveFault
+abbrev pub fault_behind : NetlistView → List InputDriveView → InputDriveView → Option DriveFault
 fault_behind netlist earlier driven =
-    if not (names_input netlist driven.name) then Some (NotAnInput (length earlier))
-    else if not (can_follow (drives_named earlier driven.name) driven.drive) then Some (Twice (length earlier))
-    else form_fault (length earlier) driven.drive
+    if not (names_input netlist driven.name) then Some (NotAnInput driven.place)
+    else if not (can_follow (drives_named earlier driven.name) driven.drive) then Some (Twice driven.place)
+    else form_fault driven.place driven.drive
 
 -- the first fault of drives that come after these earlier ones
-abbrev pub first_fault : NetlistView → List DriveView → List DriveView → Option DriveFault
+abbrev pub first_fault : NetlistView → List InputDriveView → List InputDriveView → Option DriveFault
 first_fault netlist earlier [] = None
 first_fault netlist earlier (driven ∷ drives) =
     option_or (fault_behind netlist earlier driven) (first_fault netlist (earlier ++ driven ∷ []) drives)
@@ -64,16 +67,16 @@ abbrev pub FailsBy : {A : Type 0} → Option DriveFault → Result A DriveFault 
 FailsBy fault result = MatchResult result (λ _. fault ≡ None) (λ other. fault ≡ Some other)
 
 -- the drives of each net, or the first fault
-abbrev pub drives_or_fault : NetlistView → List DriveView → Result (List (List Drive)) DriveFault
+abbrev pub drives_or_fault : NetlistView → List InputDriveView → Result (List (List Drive)) DriveFault
 drives_or_fault netlist drives = option_map_or Err (first_fault netlist [] drives) (Ok (drives_of_nets drives netlist.nets))
 
 -- this holds of any drives that give the nets of a netlist these
-abbrev pub ForGiven : NetlistView → List (List Drive) → (List DriveView → Type 0) → Type 0
-ForGiven netlist kept P = (given : List DriveView) → kept ≡ drives_of_nets given netlist.nets → P given
+abbrev pub ForGiven : NetlistView → List (List Drive) → (List InputDriveView → Type 0) → Type 0
+ForGiven netlist kept P = (given : List InputDriveView) → kept ≡ drives_of_nets given netlist.nets → P given
 
 -- this holds of each of some drives, where none of them is faulty
-abbrev pub ForAccepted : (List DriveView → DriveView → Type 0) → Type 0
-ForAccepted P = (netlist : NetlistView) (drives : List DriveView) → first_fault netlist [] drives ≡ None → All (P drives) drives
+abbrev pub ForAccepted : (List InputDriveView → InputDriveView → Type 0) → Type 0
+ForAccepted P = (netlist : NetlistView) (drives : List InputDriveView) → first_fault netlist [] drives ≡ None → All (P drives) drives
 
 -- ---- inputs
 
@@ -93,7 +96,7 @@ abbrev pub next_place : ℕ → List Drive → ℕ
 next_place place drives = if is_drawn drives then place + 1 else place
 
 -- the inputs among nets with their drives, in order; the first has this place
-abbrev pub inputs_from : List DriveView → ℕ → List NetView → List InputView
+abbrev pub inputs_from : List InputDriveView → ℕ → List NetView → List InputView
 inputs_from drives place [] = []
 inputs_from drives place (net ∷ nets) =
     let own = drives_named drives net.name in
@@ -105,7 +108,7 @@ abbrev pub input_names : NetlistView → List (List ℕ)
 input_names netlist = map (λ (net : NetView). net.name) (filter (λ (net : NetView). is_input net.part) netlist.nets)
 
 -- the inputs of a netlist, in order
-abbrev pub inputs_of : NetlistView → List DriveView → List InputView
+abbrev pub inputs_of : NetlistView → List InputDriveView → List InputView
 inputs_of netlist drives = inputs_from drives 0 netlist.nets
 
 -- the number of them that are drawn

@@ -1,9 +1,11 @@
 pub use Rattle.logic3.specs.Wave
+pub use Rattle.net_words.specs.Meant
 pub use Rattle.timing_text.specs.Stimuli
 pub use Rattle.rand_pcg.specs.Pcg
 pub mod Faults
 pub mod Signals
 pub mod Inputs
+pub mod Given
 pub mod Ticks
 pub mod StimulusText
 pub mod Driven

@@ -1,5 +1,5 @@
 -- The value that an input has at each tick: by drives of its own, or drawn.
-use Rattle.std.specs.Prelude.{◌≡◌, ℕ, ◌+◌, ◌-◌, ◌*◌, ◌/◌, ◌%◌, ◌<◌, ◌≤◌, ◌==◌, ◌&&◌, nat_le, nat_lt, if◌then◌else◌, Bool, true, false, List, [], ◌∷◌}
+use Rattle.std.specs.Prelude.{◌≡◌, ℕ, ◌+◌, ◌-◌, ◌*◌, ◌/◌, ◌%◌, ◌<◌, ◌≤◌, ◌==◌, ◌&&◌, nat_le, nat_lt, not, if◌then◌else◌, Bool, true, false, List, [], ◌∷◌}
 use Rattle.std.specs.List.{list_any}
 use Rattle.logic3.specs.declared.value.Value.{Value}
 use Rattle.logic3.specs.declared.value.Value.TheVariants.{Zero, One, Unknown}
@@ -8,7 +8,7 @@ use Rattle.rand_pcg.specs.Lcg.{advance}
 use Rattle.rand_pcg.specs.Pcg.{multiplier_64, pcg32, pcg32_of_seed}
 use Rattle.netlist.specs.Netlist.{most_nets}
 use Rattle.drawn_stimuli.specs.declared.drive.Drive.{Drive}
-use Rattle.drawn_stimuli.specs.declared.drive.Drive.TheVariants.{Clock, ClockFrom, Hold, Pulse}
+use Rattle.drawn_stimuli.specs.declared.drive.Drive.TheVariants.{Clock, ClockFrom, Hold, HoldBits, Pulse}
 use Rattle.drawn_stimuli.specs.declared.drive.Rounds.{Rounds}
 
 -- ---- drives
@@ -20,16 +20,27 @@ bit false = Zero
 -- whether a tick is in a pulse: from its first tick up to but not including its last
 abbrev pub in_pulse : Drive → ℕ → Bool
 in_pulse (Clock half) tick = false
-in_pulse (ClockFrom half first) tick = false
+in_pulse (ClockFrom half first begins_high) tick = false
 in_pulse (Hold value) tick = false
+in_pulse (HoldBits ones unknown) tick = false
 in_pulse (Pulse from to) tick = nat_le from tick && nat_lt tick to
 
--- a clock is 0 in its first half period, then 1 in every second one; with a first change it is 0 before that, then 1 for the next
--- half period and for every second one after that; a pulse is 1 at its ticks
+-- whether a clock with a first change shows at a tick what it doesn't begin with: in the half period from that change on, and in
+-- every second one after that
+abbrev pub is_turned : ℕ → ℕ → ℕ → Bool
+is_turned half first tick = nat_le first tick && (tick - first) / half % 2 == 0
+
+-- the lowest of the bits
+abbrev pub lowest_bit : ℕ → ℕ → Value
+lowest_bit ones unknown = if unknown % 2 == 1 then Unknown else bit (ones % 2 == 1)
+
+-- a clock is 0 in its first half period, then 1 in every second one; with a first change it is 0 before that, or 1 if it begins
+-- high, and the other value where it is turned; one input shows the lowest bit of a number; a pulse is 1 at its ticks
 abbrev pub drive_value : Drive → ℕ → Value
 drive_value (Clock half) tick = bit (tick / half % 2 == 1)
-drive_value (ClockFrom half first) tick = bit (nat_le first tick && (tick - first) / half % 2 == 0)
+drive_value (ClockFrom half first begins_high) tick = bit (if begins_high then not (is_turned half first tick) else is_turned half first tick)
 drive_value (Hold value) tick = value
+drive_value (HoldBits ones unknown) tick = lowest_bit ones unknown
 drive_value (Pulse from to) tick = bit (in_pulse (Pulse from to) tick)
 
 -- the value of the first drive of an input, but 1 at the ticks of the other ones, which are pulses
@@ -38,14 +49,15 @@ drives_value first others tick = if list_any (λ other. in_pulse other tick) oth
 
 abbrev pub is_pulse : Drive → Bool
 is_pulse (Clock half) = false
-is_pulse (ClockFrom half first) = false
+is_pulse (ClockFrom half first begins_high) = false
 is_pulse (Hold value) = false
+is_pulse (HoldBits ones unknown) = false
 is_pulse (Pulse from to) = true
 
 -- half a clock period is at least one tick
 abbrev pub IsDrive : Drive → Type 0
 IsDrive (Clock half) = 0 < half
-IsDrive (ClockFrom half first) = 0 < half
+IsDrive (ClockFrom half first begins_high) = 0 < half
 IsDrive _ = Unit {0}
 
 -- ---- draws

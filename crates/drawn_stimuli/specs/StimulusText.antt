@@ -15,7 +15,8 @@ use Rattle.drawn_stimuli.specs.declared.drive.Rounds.{Rounds}
 use Rattle.drawn_stimuli.specs.declared.fault.DriveFault.{DriveFault}
 use Rattle.drawn_stimuli.specs.declared.fault.DriveFault.TheVariants.{BadEvery, TooLong}
 use Rattle.drawn_stimuli.specs.Signals.{signal_of}
-use Rattle.drawn_stimuli.specs.Inputs.{DriveView, InputView, drawn_count, first_fault, inputs_of}
+use Rattle.drawn_stimuli.specs.Inputs.{InputDriveView, InputView, drawn_count, first_fault, inputs_of}
+use Rattle.drawn_stimuli.specs.Given.{DriveView, input_drives}
 
 -- ---- the changes
 
@@ -53,23 +54,27 @@ abbrev pub lines_or_fault : Rounds → List InputView → ℕ → Result (List �
 lines_or_fault rounds inputs horizon = unless_too_long TooLong Ok (lines_text rounds inputs horizon)
 
 -- the rounds of the inputs that are drawn
-abbrev pub rounds_of : NetlistView → List DriveView → Draws → Rounds
+abbrev pub rounds_of : NetlistView → List InputDriveView → Draws → Rounds
 rounds_of netlist drives draws = record { draws = draws; inputs = drawn_count (inputs_of netlist drives) }
 
 -- the value of an input at a tick
-abbrev pub driven_value : NetlistView → List DriveView → Draws → InputView → ℕ → Value
+abbrev pub driven_value : NetlistView → List InputDriveView → Draws → InputView → ℕ → Value
 driven_value netlist drives draws input = signal_of (rounds_of netlist drives draws) input.drives input.place
 
 -- the changes of the inputs of a netlist that the text contains
-abbrev pub drawn_stimuli : NetlistView → List DriveView → Draws → ℕ → List NamedChange
+abbrev pub drawn_stimuli : NetlistView → List InputDriveView → Draws → ℕ → List NamedChange
 drawn_stimuli netlist drives draws horizon = drawn_changes (rounds_of netlist drives draws) (inputs_of netlist drives) horizon
 
--- the text of drives and draws, or the first fault
+-- the text of drives of single inputs and of draws, or the first fault
+abbrev pub text_or_fault : NetlistView → List InputDriveView → Draws → ℕ → Result (List ℕ) DriveFault
+text_or_fault netlist drives draws horizon =
+    option_map_or Err (first_fault netlist [] drives)
+    (lines_or_fault (rounds_of netlist drives draws) (inputs_of netlist drives) horizon)
+
+-- the text of given drives and of draws, or the first fault
 abbrev pub stimuli_text : NetlistView → List DriveView → Draws → ℕ → Result (List ℕ) DriveFault
 stimuli_text netlist drives draws horizon =
-    if draws.every == 0 then Err BadEvery
-    else option_map_or Err (first_fault netlist [] drives)
-    (lines_or_fault (rounds_of netlist drives draws) (inputs_of netlist drives) horizon)
+    if draws.every == 0 then Err BadEvery else text_or_fault netlist (input_drives netlist drives) draws horizon
 
 -- ---- its content for one input
 
@@ -81,9 +86,13 @@ pub record Drawing : Type 0 where
   pub draws : Draws
   pub horizon : ℕ
 
+-- what its drives are for each input
+abbrev pub drives_drawn : Drawing → List InputDriveView
+drives_drawn drawing = input_drives drawing.netlist drawing.drives
+
 -- the inputs of the netlist
 abbrev pub inputs_drawn : Drawing → List InputView
-inputs_drawn drawing = inputs_of drawing.netlist drawing.drives
+inputs_drawn drawing = inputs_of drawing.netlist (drives_drawn drawing)
 
 -- their text
 abbrev pub text_drawn : Drawing → Result (List ℕ) DriveFault
@@ -91,7 +100,7 @@ text_drawn drawing = stimuli_text drawing.netlist drawing.drives drawing.draws d
 
 -- the changes that the text contains
 abbrev pub stimuli_drawn : Drawing → List NamedChange
-stimuli_drawn drawing = drawn_stimuli drawing.netlist drawing.drives drawing.draws drawing.horizon
+stimuli_drawn drawing = drawn_stimuli drawing.netlist (drives_drawn drawing) drawing.draws drawing.horizon
 
 -- what a reader of stimuli finds for an input
 abbrev pub changes_drawn : Drawing → InputView → List Change
@@ -103,4 +112,4 @@ value_read drawing input tick = value_after Unknown (changes_drawn drawing input
 
 -- what the input is to show
 abbrev pub value_drawn : Drawing → InputView → ℕ → Value
-value_drawn drawing = driven_value drawing.netlist drawing.drives drawing.draws
+value_drawn drawing = driven_value drawing.netlist (drives_drawn drawing) drawing.draws

@@ -1,7 +1,7 @@
 //! The stimulus text of the inputs of a .bench text.
 ghost use Rattle.std.specs.Prelude.{◌≡◌, ◌≢◌, Err, map};
 ghost use Rattle.std.specs.Result.{result_map_both};
-ghost use Rattle.drawn_stimuli.specs.Inputs.{seen_drive};
+ghost use Rattle.drawn_stimuli.specs.Given.{seen_drive};
 ghost use Rattle.drawn_stimuli.specs.Driven.{stimuli_of_drives};
 
 use crate::drive::{Draws, Driven};

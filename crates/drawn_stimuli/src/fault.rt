@@ -9,20 +9,22 @@ use thiserror::Error;
 /// Why there is no stimulus text.
 ///
 /// [`BadEvery`](Self::BadEvery) comes before all others. Then the first faulty drive decides, by its
-/// place among the drives, counted from 0, and within a drive the order of these variants;
-/// [`TooLong`](Self::TooLong) comes last.
+/// place among the drives, counted from 0; of a range the first input with a fault, and for an input the
+/// order of these variants. [`TooLong`](Self::TooLong) comes last.
 #[derive(Clone, Copy, Debug, PartialEq, Eq, Error)]
 pub enum DriveFault {
     /// Values are to be drawn every 0 ticks.
     BadEvery,
-    /// No input has the name.
+    /// No input has the name, and it isn't a range of inputs.
     NotAnInput { place: usize },
-    /// An earlier drive names the same input, and not both are pulses.
+    /// An earlier drive is for the same input, and not both are pulses.
     Twice { place: usize },
     /// The clock would change every 0 ticks.
     BadHalf { place: usize },
     /// The pulse would end before its first tick has passed.
     BadPulse { place: usize },
+    /// The number has more bits than there are inputs.
+    TooWide { place: usize },
     /// The text would have more than 16,777,216 bytes.
     TooLong,
     /// An allocation failed.
@@ -40,6 +42,7 @@ impl DriveFault {
             DriveFault::Twice { .. } => "Twice",
             DriveFault::BadHalf { .. } => "BadHalf",
             DriveFault::BadPulse { .. } => "BadPulse",
+            DriveFault::TooWide { .. } => "TooWide",
             DriveFault::TooLong => "TooLong",
             DriveFault::Memory => "Memory",
         }

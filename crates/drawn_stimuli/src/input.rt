@@ -3,9 +3,9 @@ ghost use Rattle.std.specs.Prelude.{◌≡◌, ◌≢◌, ◌<◌, ◌≤◌, []
 ghost use Rattle.std.specs.Result.{result_map_both};
 ghost use Rattle.netlist.specs.Netlist.{net_named, most_nets};
 ghost use Rattle.drawn_stimuli.specs.Signals.{IsDrive, is_pulse};
-ghost use Rattle.drawn_stimuli.specs.Inputs.{FailsBy, ForGiven, IsInputNet, can_follow, drives_or_fault, fault_behind, form_fault, inputs_of, is_drawn, names_input, next_place, seen_drive, seen_input};
+ghost use Rattle.drawn_stimuli.specs.Inputs.{FailsBy, ForGiven, IsInputNet, can_follow, drives_or_fault, fault_behind, form_fault, inputs_of, is_drawn, names_input, next_place, seen_input, seen_input_drive};
 
-use crate::drive::{Drive, Driven};
+use crate::drive::{Drive, InputDrive};
 use crate::fault::DriveFault;
 use netlist::Netlist;
 use std::alloc::{AllocError, Global};
@@ -33,7 +33,7 @@ fn input_named(netlist: &Netlist, name: &[u8]) -> Option<u32>
     }
 }
 
-/// Returns the fault of the drive at a place, regardless of the other drives.
+/// Returns the fault of a drive of one input, as a part of the given one at a place, regardless of the other drives.
 fn form_fault(place: usize, drive: Drive) -> Option<DriveFault>
     ensures fault { result ≡ form_fault place drive }
     ensures none { result ≡ None → IsDrive drive }
@@ -42,8 +42,14 @@ fn form_fault(place: usize, drive: Drive) -> Option<DriveFault>
         Drive::Clock { half } if half == 0 => Some(DriveFault::BadHalf { place }),
         Drive::ClockFrom { half, .. } if half == 0 => Some(DriveFault::BadHalf { place }),
         Drive::Pulse { from, to } if from >= to => Some(DriveFault::BadPulse { place }),
-        Drive::Clock { .. } | Drive::ClockFrom { .. } | Drive::Hold(_) | Drive::Pulse { .. } =>
-            None,
+        Drive::HoldBits { ones, unknown } if ones >= 2 || unknown >= 2 => Some(DriveFault::TooWide {
+            place,
+        }),
+        Drive::Clock { .. }
+        | Drive::ClockFrom { .. }
+        | Drive::Hold(_)
+        | Drive::HoldBits { .. }
+        | Drive::Pulse { .. } => None,
     }
 }
 
@@ -75,19 +81,19 @@ fn no_drives(alloc: Global, nets: u32) -> Result<Vec<Vec<Drive>>, AllocError>
     Ok(kept)
 }
 
-/// Returns the net of the drive at a place, or its fault, given the earlier drives by net number.
+/// Returns the net of a drive, or its fault, given the earlier drives by net number.
 fn net_to_drive(
     netlist: &Netlist,
     kept: &[Vec<Drive>],
-    place: usize,
-    driven: &Driven<'_>,
+    driven: &InputDrive<'_>,
 ) -> Result<u32, DriveFault>
     requires one_each { length kept.now ≡ length netlist.now.nets }
     ensures net { IfOk result (λ net. net_named netlist.now driven.now.name.now ≡ Some net) }
     ensures drive { IfOk result (λ _. IsDrive driven.now.drive) }
-    ensures fault { ForGiven netlist.now (map (λ drives. drives.items) kept.now) (λ earlier. length earlier ≡ place →
-        FailsBy (fault_behind netlist.now earlier (seen_drive driven.now)) result) }
+    ensures fault { ForGiven netlist.now (map (λ drives. drives.items) kept.now) (λ earlier.
+        FailsBy (fault_behind netlist.now earlier (seen_input_drive driven.now)) result) }
 {
+    let place = driven.place;
     let Some(net) = input_named(netlist, driven.name) else {
         return Err(DriveFault::NotAnInput { place });
     };
@@ -105,16 +111,16 @@ fn net_to_drive(
 pub(crate) fn drives_by_net(
     alloc: Global,
     netlist: &Netlist,
-    drives: &[Driven<'_>],
+    drives: &[InputDrive<'_>],
 ) -> Result<Vec<Vec<Drive>>, DriveFault>
     ensures exact { result ≢ Err DriveFault.Memory →
         result_map_both (λ kept. map (λ drives. drives.items) kept.items) (λ fault. fault) result
-        ≡ drives_or_fault netlist.now (map seen_drive drives.now) }
+        ≡ drives_or_fault netlist.now (map seen_input_drive drives.now) }
     ensures drives { IfOk result (λ kept. All (All IsDrive) (map (λ drives. drives.items) kept.items)) }
 {
     let mut kept = no_drives(alloc, netlist.nets())?;
-    for (place, driven) in drives.iter().enumerate() {
-        let net = net_to_drive(netlist, kept.as_slice(), place, driven)?;
+    for driven in drives {
+        let net = net_to_drive(netlist, kept.as_slice(), driven)?;
         let own = &mut kept[net as usize];
         own.push(driven.drive)?;
     }

@@ -6,6 +6,7 @@ mod bench_stimuli;
 mod drive;
 mod driven_fault;
 mod fault;
+mod given;
 mod input;
 pub mod laws;
 mod lines;

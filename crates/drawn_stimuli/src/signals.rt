@@ -4,7 +4,7 @@ ghost use Rattle.std.specs.List.{list_any};
 ghost use Rattle.logic3.specs.Wave.{value_before};
 ghost use Rattle.timing_text.specs.Ranges.{most_ticks};
 ghost use Rattle.netlist.specs.Netlist.{most_nets};
-ghost use Rattle.drawn_stimuli.specs.Signals.{AreRounds, IsDrive, bit, drawn_value, drive_value, drives_value, in_pulse, signal_of, word_after};
+ghost use Rattle.drawn_stimuli.specs.Signals.{AreRounds, IsDrive, bit, drawn_value, drive_value, drives_value, in_pulse, is_turned, lowest_bit, signal_of, word_after};
 
 use crate::drive::{Drive, Rounds};
 use logic3::Value;
@@ -18,15 +18,42 @@ fn bit(one: bool) -> Value
     if one { Value::One } else { Value::Zero }
 }
 
-/// Returns the value that a drive gives.
+/// Returns whether a clock with a first change shows at a tick what it doesn't begin with.
+fn is_turned(half: u64, first: u64, tick: u64) -> bool
+    requires { 0 < half }
+    ensures { result ≡ is_turned half first tick }
+{
+    first <= tick && (tick - first) / half % 2 == 0
+}
+
+/// Returns the value of the lowest of the bits of a number.
+fn lowest_bit(ones: u64, unknown: u64) -> Value
+    ensures { result ≡ lowest_bit ones unknown }
+{
+    if unknown % 2 == 1 {
+        Value::Unknown
+    } else {
+        bit(ones % 2 == 1)
+    }
+}
+
+/// Returns the value that a drive gives one input.
 fn drive_value(drive: Drive, tick: u64) -> Value
     requires { IsDrive drive }
     ensures { result ≡ drive_value drive tick }
 {
     match drive {
         Drive::Clock { half } => bit(tick / half % 2 == 1),
-        Drive::ClockFrom { half, first } => bit(first <= tick && (tick - first) / half % 2 == 0),
+        Drive::ClockFrom {
+            half,
+            first,
+            begins_high,
+        } => {
+            let turned = is_turned(half, first, tick);
+            bit(if begins_high { !turned } else { turned })
+        }
         Drive::Hold(value) => value,
+        Drive::HoldBits { ones, unknown } => lowest_bit(ones, unknown),
         Drive::Pulse { .. } => bit(in_pulse(drive, tick)),
     }
 }
@@ -37,7 +64,8 @@ fn in_pulse(drive: Drive, tick: u64) -> bool
 {
     match drive {
         Drive::Pulse { from, to } => from <= tick && tick < to,
-        Drive::Clock { .. } | Drive::ClockFrom { .. } | Drive::Hold(_) => false,
+        Drive::Clock { .. } | Drive::ClockFrom { .. } | Drive::Hold(_) | Drive::HoldBits { .. } =>
+            false,
     }
 }
 

@@ -6,12 +6,14 @@ ghost use Rattle.netlist.specs.Netlist.{NetlistView};
 ghost use Rattle.timing_text.specs.Ranges.{most_ticks};
 ghost use Rattle.drawn_stimuli.specs.declared.input.InputNet.{InputNet as TheInputNet};
 ghost use Rattle.drawn_stimuli.specs.Signals.{AreRounds};
-ghost use Rattle.drawn_stimuli.specs.Inputs.{IsInputNet, drawn_count, seen_drive, seen_input};
+ghost use Rattle.drawn_stimuli.specs.Inputs.{IsInputNet, drawn_count, seen_input};
+ghost use Rattle.drawn_stimuli.specs.Given.{seen_drive};
 ghost use Rattle.drawn_stimuli.specs.StimulusText.{stimuli_text, lines_or_fault, tick_text};
 ghost use Rattle.drawn_stimuli.specs.Ticks.{is_moving};
 
 use crate::drive::{Draws, Driven, Rounds};
 use crate::fault::DriveFault;
+use crate::given::input_drives;
 use crate::input::{InputNet, drives_by_net, inputs_of, is_drawn};
 use crate::lines::push_tick;
 use crate::ticks::{moving_inputs, next_tick};
@@ -108,7 +110,8 @@ pub fn stimuli_text(
     if draws.every == 0 {
         return Err(DriveFault::BadEvery);
     }
-    let by_net = drives_by_net(alloc, netlist, drives)?;
+    let parts = input_drives(alloc, netlist, drives)?;
+    let by_net = drives_by_net(alloc, netlist, parts.as_slice())?;
     let inputs = inputs_of(alloc, netlist, by_net.as_slice())?;
     let rounds = Rounds {
         draws,

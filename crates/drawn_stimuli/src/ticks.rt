@@ -22,7 +22,7 @@ fn moves(drive: Drive) -> bool
 {
     match drive {
         Drive::Clock { .. } | Drive::ClockFrom { .. } | Drive::Pulse { .. } => true,
-        Drive::Hold(_) => false,
+        Drive::Hold(_) | Drive::HoldBits { .. } => false,
     }
 }
 
@@ -58,10 +58,12 @@ fn next_change(drive: Drive, tick: u64) -> u64
     match drive {
         Drive::Clock { half } => next_multiple(half, tick),
         Drive::ClockFrom { first, .. } if tick < first => first,
-        Drive::ClockFrom { half, first } => next_multiple(half, tick - first).saturating_add(first),
+        Drive::ClockFrom { half, first, .. } => next_multiple(half, tick - first).saturating_add(
+            first,
+        ),
         Drive::Pulse { from, .. } if tick < from => from,
         Drive::Pulse { to, .. } if tick < to => to,
-        Drive::Pulse { .. } | Drive::Hold(_) => u64::MAX,
+        Drive::Pulse { .. } | Drive::Hold(_) | Drive::HoldBits { .. } => u64::MAX,
     }
 }
 

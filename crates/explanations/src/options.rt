@@ -78,7 +78,7 @@ pub(crate) static COLUMNS: [Explanation; 4] = [
     },
 ];
 
-pub(crate) static DRIVES: [Explanation; 6] = [
+pub(crate) static DRIVES: [Explanation; 7] = [
     Explanation {
         name: "BadEvery",
         meaning: "there would be 0 ticks between drawn values.",
@@ -91,7 +91,7 @@ pub(crate) static DRIVES: [Explanation; 6] = [
     },
     Explanation {
         name: "NotAnInput",
-        meaning: "no input has the name that an option gives.",
+        meaning: "no input has the name that an option gives; of a range, each bit must be an input.",
         wanted: "the name of an input, which the .bench text defines by INPUT(NAME)",
         example: Some(Example {
             line: 0,
@@ -127,6 +127,16 @@ pub(crate) static DRIVES: [Explanation; 6] = [
             line: 0,
             faulty: "nullsim stimuli --bench circuit.bench --horizon 60 --pulse a=12..12\n",
             mended: "nullsim stimuli --bench circuit.bench --horizon 60 --pulse a=0..12\n",
+        }),
+    },
+    Explanation {
+        name: "TooWide",
+        meaning: "a number to be held has more bits than there are inputs for it.",
+        wanted: "a number that fits, such as --hold a=1 for one input, or --hold 'data[7:0]=165' for eight",
+        example: Some(Example {
+            line: 0,
+            faulty: "nullsim stimuli --bench circuit.bench --horizon 60 --hold a=2\n",
+            mended: "nullsim stimuli --bench circuit.bench --horizon 60 --hold a=1\n",
         }),
     },
     Explanation {

@@ -14,7 +14,7 @@ use Rattle.timing_diagram.specs.declared.fault.ColumnsFault.TheVariants as colum
 use Rattle.wave_diff.specs.declared.fault.ComparedFault.TheVariants as compared
 use Rattle.prepared_runs.specs.declared.fault.SimFault.TheVariants as sim
 use Rattle.prepared_runs.specs.declared.view.DiagramView.{DiagramView}
-use Rattle.prepared_runs.specs.Meant.{nets_meant}
+use Rattle.net_words.specs.Meant.{nets_meant}
 use Rattle.wave_diff.specs.declared.diff_ticks.DiffTicks.{DiffTicks}
 use Rattle.wave_diff.specs.declared.comparison.Side.{Side}
 use Rattle.program_io.specs.declared.program_fault.ProgramFault.{ProgramFault}
@@ -41,7 +41,7 @@ abbrev pub draws_in : Order → Option Draws
 draws_in (Stimuli bench drives draws horizon) = Some draws
 draws_in other = None
 
--- the name of the input that is driven by its drive at a place
+-- the name that is given with the drive at a place
 abbrev pub input_driven : Order → ℕ → Option (List ℕ)
 input_driven (Stimuli bench drives draws horizon) place = option_map (λ (driven : Driven). driven.name.now) (slice_get drives.items place)
 input_driven other place = None
@@ -108,4 +108,5 @@ name_at_fault order (program.Drives (drive.NotAnInput place)) texts = input_driv
 name_at_fault order (program.Drives (drive.Twice place)) texts = input_driven order place
 name_at_fault order (program.Drives (drive.BadHalf place)) texts = input_driven order place
 name_at_fault order (program.Drives (drive.BadPulse place)) texts = input_driven order place
+name_at_fault order (program.Drives (drive.TooWide place)) texts = input_driven order place
 name_at_fault order other texts = None

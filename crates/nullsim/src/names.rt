@@ -10,8 +10,9 @@ ghost use Rattle.program_io.specs.declared.program_fault.ProgramFault.TheVariant
 use bench_text::{BenchFault, read};
 use command_line::Order;
 use drawn_stimuli::DriveFault;
+use net_words::nets_meant;
 use netlist::Netlist;
-use prepared_runs::{DiagramView, SimFault, nets_meant};
+use prepared_runs::{DiagramView, SimFault};
 use program_io::{OrderTexts, ProgramFault};
 use std::alloc::{AllocError, Global};
 use wave_diff::Side;
@@ -121,11 +122,8 @@ fn first_meaning_nothing<'a>(
 fn means_nothing(alloc: Global, word: &[u8], netlist: &Netlist) -> Result<bool, AllocError>
     ensures { IfOk result (λ nothing. nothing ≡ means_nothing netlist.now word.now) }
 {
-    match nets_meant(alloc, netlist, word) {
-        Ok(_) => Ok(false),
-        Err(SimFault::UnknownNet) => Ok(true),
-        Err(_) => Err(AllocError),
-    }
+    let nets = nets_meant(alloc, netlist, word)?;
+    Ok(nets.is_none())
 }
 
 /// Returns the netlist of a text, if it is one.
@@ -167,7 +165,8 @@ fn driven_at_fault<'o>(order: &'o Order<'_>, fault: DriveFault) -> Option<&'o [u
         DriveFault::NotAnInput { place }
         | DriveFault::Twice { place }
         | DriveFault::BadHalf { place }
-        | DriveFault::BadPulse { place } => input_driven(order, place),
+        | DriveFault::BadPulse { place }
+        | DriveFault::TooWide { place } => input_driven(order, place),
         DriveFault::BadEvery | DriveFault::TooLong | DriveFault::Memory => None,
     }
 }

@@ -1,4 +1,3 @@
-mod AllFound
 mod Answer
 pub mod CallerLemmas
 mod DeckText

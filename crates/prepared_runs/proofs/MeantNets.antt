@@ -1,48 +1,30 @@
 -- The nets that words mean are nets of the netlist, and so are those of lanes.
-use Rattle.std.proofs.Common.{◌≡◌, refl, sym, ap, subst, ◌∙◌, ℕ, ◌<◌, ◌≤◌, ◌+◌, List, [], ◌∷◌, ◌++◌, append_assoc, drop, get_or, length, map, Vec, filter, flat_map, not, Bool, true, false, cond, option_and_then, option_map, Option, None, Some, Ok, Err, IsTrue, All, arith}
+use Rattle.std.proofs.Common.{◌≡◌, refl, sym, ap, subst, ◌∙◌, ℕ, ◌<◌, ◌≤◌, ◌+◌, List, [], ◌∷◌, ◌++◌, append_assoc, drop, get_or, length, map, Vec, filter, not, Bool, true, false, cond, option_map, Option, None, Some, Ok, Err, IsTrue, All, arith}
 use denote.Ref.{Bor}
 use Rattle.std.specs.declared.alloc.Global.{Global}
 use Rattle.std.proofs.lemmas.List.{map-append}
 use Rattle.texts.specs.Text.{◌>>=◌}
-use Rattle.std.specs.Option.{ok_or, option_map_or}
-use Rattle.std.proofs.lemmas.List.Elements.{All-append, All-cons, All-filter, All-head, All-nil, All-tail}
+use Rattle.std.specs.Option.{ok_or}
+use Rattle.std.proofs.lemmas.List.Elements.{All-append, All-filter, All-head, All-nil, All-tail}
 use Rattle.std.proofs.lemmas.List.Filters.{length-filter_both}
 use Rattle.design.specs.Design.{DesignView, IsDesign}
 use Rattle.design.proofs.CallerLemmas.{length-circuit}
 use Rattle.netlist.specs.Names.{seen_names}
-use Rattle.netlist.specs.Netlist.{NetlistView, net_named}
-use Rattle.netlist.proofs.CallerLemmas.{net_at-named}
+use Rattle.netlist.specs.Netlist.{NetlistView}
+use Rattle.net_words.specs.Meant.{nets_meant}
+use Rattle.net_words.proofs.CallerLemmas.{All-all_found, IsNet-meant, found_after, found_more, found_none, next}
 use Rattle.prepared_runs.specs.declared.fault.SimFault.{SimFault}
 use Rattle.prepared_runs.specs.declared.fault.SimFault.TheVariants.{UnknownNet}
 use Rattle.prepared_runs.specs.declared.lanes.BusNets.{BusNets}
 use Rattle.prepared_runs.specs.declared.view.DiagramView.{DiagramView}
 use Rattle.prepared_runs.specs.Lanes.{BusView, LanesView, bits_of, bus_meant, bus_view, buses_meant, is_named, lanes_of, lone_nets}
 use Rattle.prepared_runs.specs.Marked.{is_among}
-use Rattle.prepared_runs.specs.Meant.{RangeView, bit_names, nets_meant, nets_of_range, range_of}
 use Rattle.prepared_runs.specs.Source.{if_known, knows_shown, shown_nets}
 use Rattle.prepared_runs.proofs.ShownNets.{All-shown_nets, few-shown_nets}
-use Rattle.prepared_runs.proofs.AllFound.{All-all_found, found_after, found_more, found_none, next}
 
 module _ (netlist : NetlistView) where
   abbrev IsNet : ℕ → Type 0
   IsNet net = net < length netlist.nets
-
-  IsNet-found : (word : List ℕ) (net : ℕ) → net_named netlist word ≡ Some net → IsNet net
-  IsNet-found word net is = (net_at-named netlist word net is).0
-
-  IsNet-range : (range : RangeView) (nets : List ℕ) → nets_of_range netlist range ≡ Some nets → All IsNet nets
-  IsNet-range range nets are = All-all_found (net_named netlist) IsNet IsNet-found (bit_names range) nets are
-
-  pub IsNet-meant : (word : List ℕ) (nets : List ℕ) → nets_meant netlist word ≡ Some nets → All IsNet nets
-  unfolding nets_meant
-  IsNet-meant word nets are = go (net_named netlist word) refl (range_of word) are
-    where
-      go : (found : Option ℕ) → net_named netlist word ≡ found → (range : Option RangeView) →
-          option_map_or (λ net. Some (net ∷ [])) found (option_and_then (nets_of_range netlist) range) ≡ Some nets → All IsNet nets
-      go (Some net) is range e =
-          let same : net ∷ [] ≡ nets = cc in rw (← same) (All-cons IsNet net [] (IsNet-found word net is) (All-nil IsNet))
-      go None is (Some range) e = IsNet-range range nets e
-      go None is None e = absurd (cc)
 
   abbrev HasNets : BusView → Type 0
   HasNets bus = All IsNet bus.1
@@ -52,7 +34,7 @@ module _ (netlist : NetlistView) where
     where
       go : (nets : Option (List ℕ)) → nets_meant netlist word ≡ nets → option_map (λ nets. (word, nets)) nets ≡ Some bus → HasNets bus
       go None are e = absurd (cc)
-      go (Some nets) are e = let same : (word, nets) ≡ bus = cc in rw (← same) (IsNet-meant word nets are)
+      go (Some nets) are e = let same : (word, nets) ≡ bus = cc in rw (← same) (IsNet-meant netlist word nets are)
 
   IsNet-bits : (buses : List BusView) → All HasNets buses → All IsNet (bits_of buses)
   IsNet-bits [] have = All-nil IsNet
@@ -80,20 +62,13 @@ module _ (netlist : NetlistView) (words : List (Bor (List ℕ))) (place : ℕ) (
   abbrev after : ℕ → List (List ℕ)
   after from = drop from (seen_names words)
 
-  pub no_bus : (found : List BusView) (fault : SimFault) → place < length words →
+  pub no_bus : (found : List BusView) → place < length words →
       found_after (bus_meant netlist) found (after place) ≡ buses_meant netlist (seen_names words) →
-      ok_or (nets_meant netlist word) UnknownNet ≡ Err fault → ok_or (buses_meant netlist (seen_names words)) UnknownNet ≡ Err fault
-  no_bus found fault inside so_far = go (nets_meant netlist word) refl
-    where
-      go : (nets : Option (List ℕ)) → nets_meant netlist word ≡ nets → ok_or nets UnknownNet ≡ Err fault →
-          ok_or (buses_meant netlist (seen_names words)) UnknownNet ≡ Err fault
-      go (Some nets) are e = absurd (cc)
-      go None none e =
-          let same : UnknownNet ≡ fault = cc in
-          ap (λ all. ok_or all UnknownNet)
-          (sym so_far ∙ ap (found_after (bus_meant netlist) found) (next (λ (name : Bor (List ℕ)). name.now) words place d inside)
-          ∙ found_none (bus_meant netlist) found word (after (place + 1)) (ap (option_map (λ nets. (word, nets))) none))
-          ∙ ap (λ f. Err f) same
+      nets_meant netlist word ≡ None → ok_or (buses_meant netlist (seen_names words)) UnknownNet ≡ Err UnknownNet
+  no_bus found inside so_far none =
+      ap (λ all. ok_or all UnknownNet)
+      (sym so_far ∙ ap (found_after (bus_meant netlist) found) (next (λ (name : Bor (List ℕ)). name.now) words place d inside)
+      ∙ found_none (bus_meant netlist) found word (after (place + 1)) (ap (option_map (λ nets. (word, nets))) none))
 
   pub more_buses : (found more : List BusNets) (nets : Vec ℕ Global) → place < length words →
       more ≡ found ++ record { name = get_or words place d; nets = nets } ∷ [] → nets_meant netlist word ≡ Some nets.items →

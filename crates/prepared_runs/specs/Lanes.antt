@@ -4,6 +4,7 @@ use Rattle.std.specs.Option.{ok_or}
 use Rattle.texts.specs.Text.{◌>>=◌}
 use Rattle.netlist.specs.Names.{seen_names}
 use Rattle.netlist.specs.Netlist.{NetlistView}
+use Rattle.net_words.specs.Meant.{all_found, nets_meant}
 use Rattle.prepared_runs.specs.declared.fault.SimFault.{SimFault}
 use Rattle.prepared_runs.specs.declared.fault.SimFault.TheVariants.{UnknownNet}
 use Rattle.prepared_runs.specs.declared.lanes.BusNets.{BusNets}
@@ -12,7 +13,6 @@ use Rattle.prepared_runs.specs.declared.view.DiagramView.{DiagramView}
 use Rattle.prepared_runs.specs.declared.view.Selection.{Selection}
 use Rattle.prepared_runs.specs.declared.view.Selection.TheVariants.{All, Outputs, Named}
 use Rattle.prepared_runs.specs.Marked.{is_among}
-use Rattle.prepared_runs.specs.Meant.{all_found, nets_meant}
 use Rattle.prepared_runs.specs.Source.{if_known, shown_nets}
 
 -- a bus: its word, and its nets, the most significant first

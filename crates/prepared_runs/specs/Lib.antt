@@ -2,7 +2,7 @@ pub mod Ends
 pub mod Events
 pub mod Faults
 pub mod Marked
-pub mod Meant
+pub use Rattle.net_words.specs.Meant
 pub mod Lanes
 pub mod Prepared
 pub mod Shown

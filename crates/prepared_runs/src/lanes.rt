@@ -9,10 +9,10 @@ ghost use Rattle.prepared_runs.specs.Lanes.{bits_of, buses_meant, lanes_of, lone
 ghost use Rattle.prepared_runs.specs.declared.fault.SimFault.TheVariants.{UnknownNet};
 
 use crate::fault::SimFault;
-use crate::meant::nets_meant;
 use crate::nets::{marks_of, shown_nets};
 use crate::view::{DiagramView, Selection};
 use design::Design;
+use net_words::nets_meant;
 use netlist::Netlist;
 use std::alloc::{AllocError, Global};
 
@@ -68,7 +68,9 @@ fn buses_meant<'a>(
 {
     let mut buses = Vec::new(alloc);
     for name in words {
-        let nets = nets_meant(alloc, netlist, name)?;
+        let Some(nets) = nets_meant(alloc, netlist, name)? else {
+            return Err(SimFault::UnknownNet);
+        };
         buses.push(BusNets { name, nets })?;
     }
     Ok(buses)

@@ -4,7 +4,6 @@
 mod deck_fault;
 mod fault;
 mod lanes;
-mod meant;
 mod nets;
 mod percents;
 mod preparation;
@@ -17,7 +16,6 @@ mod view;
 pub use deck_fault::DeckFault;
 pub use fault::SimFault;
 pub use lanes::{BusNets, Lanes, lanes_of};
-pub use meant::nets_meant;
 pub use nets::{marks_of, net_named, shown_nets};
 pub use percents::Percents;
 pub use preparation::{PreparedRun, prepare, prepare_run};

@@ -27,7 +27,7 @@ use Rattle.prepared_runs.specs.declared.view.DumpView.{DumpView}
 use Rattle.prepared_runs.specs.declared.view.DiagramView.{DiagramView}
 use Rattle.prepared_runs.specs.declared.view.Selection.{Selection}
 use Rattle.drawn_stimuli.specs.declared.drive.Draws.{Draws}
-use Rattle.drawn_stimuli.specs.Inputs.{DriveView}
+use Rattle.drawn_stimuli.specs.Given.{DriveView}
 use Rattle.wave_diff.specs.declared.diff_ticks.DiffTicks.{DiffTicks}
 use Rattle.kernel_runs.specs.Diffs.{pair_of}
 use Rattle.plain_runs.specs.Drawn.{diagram_of_source}

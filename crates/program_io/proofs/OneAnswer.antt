@@ -12,7 +12,7 @@ use Rattle.netlist.specs.Pick.{picked}
 use Rattle.netlist.specs.Names.{seen_names}
 use Rattle.drawn_stimuli.specs.declared.drive.Draws.{Draws}
 use Rattle.drawn_stimuli.specs.declared.drive.Driven.{Driven}
-use Rattle.drawn_stimuli.specs.Inputs.{seen_drive}
+use Rattle.drawn_stimuli.specs.Given.{seen_drive}
 use Rattle.design.specs.Design.{DesignView}
 use Rattle.fanin_cone.specs.Cone.{IsConeOf}
 use Rattle.fanin_cone.specs.Extract.{IsExtract, first_unknown}

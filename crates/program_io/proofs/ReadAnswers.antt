@@ -5,7 +5,7 @@ use Rattle.std.specs.Result.{result_map_both}
 use Rattle.netlist.specs.Names.{seen_names}
 use Rattle.drawn_stimuli.specs.declared.drive.Draws.{Draws}
 use Rattle.drawn_stimuli.specs.declared.drive.Driven.{Driven}
-use Rattle.drawn_stimuli.specs.Inputs.{seen_drive}
+use Rattle.drawn_stimuli.specs.Given.{seen_drive}
 use Rattle.timing_diagram.specs.declared.form.Form.{Form}
 use Rattle.prepared_runs.specs.declared.view.DiagramView.{DiagramView}
 use Rattle.prepared_runs.specs.declared.view.Selection.{Selection}

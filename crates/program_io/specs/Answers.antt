@@ -15,7 +15,7 @@ use Rattle.kernel_runs.specs.Checked.{checked}
 use Rattle.fanin_cone.specs.declared.fault.ConeTextFault.{ConeTextFault}
 use Rattle.fanin_cone.specs.ConeText.{IsConeAnswer}
 use Rattle.drawn_stimuli.specs.declared.drive.Draws.{Draws}
-use Rattle.drawn_stimuli.specs.Inputs.{DriveView}
+use Rattle.drawn_stimuli.specs.Given.{DriveView}
 use Rattle.plain_runs.specs.Drawn.{diagram_of_source}
 use Rattle.timing_diagram.specs.declared.form.Form.{Form}
 use Rattle.drawn_stimuli.specs.Driven.{stimuli_of_drives}

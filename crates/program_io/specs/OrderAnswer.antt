@@ -1,7 +1,7 @@
 -- The answer to an order.
 use Rattle.std.specs.Prelude.{◌≡◌, ℕ, List, map, IfSome, Result}
 use Rattle.netlist.specs.Names.{seen_names}
-use Rattle.drawn_stimuli.specs.Inputs.{seen_drive}
+use Rattle.drawn_stimuli.specs.Given.{seen_drive}
 use Rattle.prepared_runs.specs.Source.{SourceView}
 use Rattle.program_io.specs.declared.program_fault.ProgramFault.{ProgramFault}
 use Rattle.program_io.specs.Answers.{Answer, IsAnswerOfCone, IsAnswerOfDiff, IsAnswerOfInfo, IsAnswerOfTwin, check_answer, diagram_answer, frontiers_answer, plain_answer, run_answer, stimuli_answer, trace_answer, why_answer}

@@ -1,7 +1,7 @@
 //! Writing the answers to texts.
 ghost use Rattle.std.specs.Prelude.{◌≡◌, map, IfErr, IfOk};
 ghost use Rattle.netlist.specs.Names.{seen_names};
-ghost use Rattle.drawn_stimuli.specs.Inputs.{seen_drive};
+ghost use Rattle.drawn_stimuli.specs.Given.{seen_drive};
 ghost use Rattle.prepared_runs.specs.Ends.{RunEndsBy};
 ghost use Rattle.kernel_runs.specs.Simulated.{dump_in, simulated};
 ghost use Rattle.prepared_runs.specs.Source.{seen_source};

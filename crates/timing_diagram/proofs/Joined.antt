@@ -1,5 +1,5 @@
 -- Pieces of a text that were added one by one.
-use Rattle.std.proofs.Common.{◌≡◌, arith, ℕ, suc, ◌+◌, ◌-◌, ◌<◌, List, [], ◌∷◌, ◌++◌, map, flat_map, append_assoc}
+use Rattle.std.proofs.Common.{◌≡◌, ◌∙◌, sym, ap, arith, ℕ, suc, ◌+◌, ◌-◌, ◌<◌, ◌≤◌, List, [], ◌∷◌, ◌++◌, map, flat_map, append-nil, append_assoc}
 use Rattle.std.specs.List.{range_with_len}
 
 pub joined₃ : (l l₁ l₂ l₃ a b c : List ℕ) → l₁ ≡ l ++ a → l₂ ≡ l₁ ++ b → l₃ ≡ l₂ ++ c → l₃ ≡ l ++ (a ++ b ++ c)
@@ -15,6 +15,9 @@ joined₅ l l₁ l₂ l₃ l₄ l₅ a b c d e p q r s t = rw (t, s, r, q, p) (s
 pub joined₈ : (l l₁ l₂ l₃ l₄ l₅ l₆ l₇ l₈ a b c d e f g h : List ℕ) → l₁ ≡ l ++ a → l₂ ≡ l₁ ++ b → l₃ ≡ l₂ ++ c → l₄ ≡ l₃ ++ d → l₅ ≡ l₄ ++ e →
     l₆ ≡ l₅ ++ f → l₇ ≡ l₆ ++ g → l₈ ≡ l₇ ++ h → l₈ ≡ l ++ (a ++ b ++ c ++ d ++ e ++ f ++ g ++ h)
 joined₈ l l₁ l₂ l₃ l₄ l₅ l₆ l₇ l₈ a b c d e f g h p q r s t u v w = rw (w, v, u, t, s, r, q, p) (simp append_assoc)
+
+pub regrouped₅ : (l a b c d e : List ℕ) → l ++ a ++ b ++ c ++ d ++ e ≡ l ++ (a ++ b ++ c ++ d ++ e)
+regrouped₅ l a b c d e = simp append_assoc
 
 -- the texts of the numbers from one up to but not including another
 abbrev pub from_on : (ℕ → List ℕ) → ℕ → ℕ → List ℕ
@@ -32,3 +35,9 @@ pub map-more : (f : ℕ → ℕ) (at end : ℕ) (xs ys : List ℕ) → at < end 
 map-more f at end xs ys inside is =
     let one : end - at ≡ suc (end - (at + 1)) = omega arith in
     rw (is, one) (append_assoc xs (f at ∷ []) (map f (range_with_len (at + 1) (end - (at + 1)))))
+
+-- where none is left, those so far are all
+pub from_on-end : (text : ℕ → List ℕ) (at end : ℕ) (xs ys : List ℕ) → end ≤ at → xs ++ from_on text at end ≡ ys → xs ≡ ys
+from_on-end text at end xs ys past so_far =
+    let none : end - at ≡ 0 = omega (arith, past) in
+    sym (append-nil xs) ∙ ap (λ n. xs ++ flat_map text (range_with_len at n)) (sym none) ∙ so_far

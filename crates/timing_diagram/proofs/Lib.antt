@@ -3,7 +3,7 @@ mod Bits
 pub mod CallerLemmas
 mod Escapes
 mod Joined
-mod Lines
+mod Rulers
 mod Nets
 mod Shown
 mod Steady

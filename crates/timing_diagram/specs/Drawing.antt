@@ -1,5 +1,5 @@
 -- The text of a drawing.
-use Rattle.std.specs.Prelude.{ℕ, ◌+◌, ◌-◌, ◌*◌, ◌/◌, if◌then◌else◌, List, [], ◌++◌, length, map, flat_map, replicate, codes, decimal}
+use Rattle.std.specs.Prelude.{ℕ, ◌-◌, if◌then◌else◌, List, [], ◌++◌, length, map, flat_map, replicate, codes, decimal}
 use Rattle.std.specs.List.{range_with_len}
 use Rattle.logic3.specs.declared.value.Value.{Value}
 use Rattle.vcd_dump.specs.Dump.{Trace}
@@ -8,8 +8,9 @@ use Rattle.timing_diagram.specs.declared.mark.Mark.TheVariants.{Low, Fall, High,
 use Rattle.timing_diagram.specs.declared.form.Form.{Form}
 use Rattle.timing_diagram.specs.declared.form.Form.TheVariants.{Text, Svg}
 use Rattle.timing_diagram.specs.Bus.{BusTrace, begins, digit_count, digits, fits, lasting, shows_bits}
-use Rattle.timing_diagram.specs.Columns.{Ticks, column_count, first_tick, shown_tick}
+use Rattle.timing_diagram.specs.Columns.{Ticks, column_count, shown_tick}
 use Rattle.timing_diagram.specs.Marks.{mark_at}
+use Rattle.timing_diagram.specs.Ruler.{label_column, label_count, label_tick}
 use Rattle.timing_diagram.specs.Picture.{name_width, svg_text}
 
 -- the character of a mark
@@ -53,16 +54,16 @@ abbrev pub bus_line : ℕ → Ticks → BusTrace → List ℕ
 bus_line width ticks (name, bits) =
     name ++ replicate (width - length name) 32 ++ codes "  " ++ bus_text bits ticks ++ codes "\n"
 
--- the first tick of every tenth column, ten characters wide
+-- the tick of a label, ten characters wide
 abbrev pub ruler_label : Ticks → ℕ → List ℕ
 ruler_label ticks place =
-    let tick = decimal (first_tick ticks (10 * place)) in tick ++ replicate (10 - length tick) 46
+    let tick = decimal (label_tick ticks place) in tick ++ replicate (10 - length tick) 46
 
--- the line above the others
+-- the line above the others: the labels, each from its column on
 abbrev pub ruler_text : ℕ → Ticks → List ℕ
 ruler_text width ticks =
-    replicate width 32 ++ codes "  " ++ flat_map (ruler_label ticks) (range_with_len 0 ((column_count ticks + 9) / 10))
-    ++ codes "\n"
+    replicate width 32 ++ codes "  " ++ replicate (label_column ticks 0) 46
+    ++ flat_map (ruler_label ticks) (range_with_len 0 (label_count ticks)) ++ codes "\n"
 
 -- the drawing as text: the nets, and after them the buses
 abbrev pub drawn_text : Ticks → List Trace → List BusTrace → List ℕ

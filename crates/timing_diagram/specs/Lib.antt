@@ -3,6 +3,7 @@ pub use Rattle.logic3.specs.Wave
 pub use Rattle.design.specs.Circuit
 pub mod Bus
 pub mod Columns
+pub mod Ruler
 pub mod Faults
 pub mod Marks
 pub mod Picture

@@ -1,5 +1,5 @@
 -- The text of a drawing as a picture.
-use Rattle.std.specs.Prelude.{ℕ, Bool, ◌+◌, ◌*◌, ◌/◌, ◌%◌, ◌==◌, nat_lt, ◌&&◌, if◌then◌else◌, min, max, List, [], ◌∷◌, ◌++◌, length, flat_map, codes}
+use Rattle.std.specs.Prelude.{ℕ, ◌+◌, ◌*◌, ◌==◌, ◌&&◌, if◌then◌else◌, min, max, List, [], ◌∷◌, ◌++◌, length, flat_map, codes}
 use Rattle.std.specs.List.{enumerate_from, range_with_len}
 use Rattle.logic3.specs.declared.value.Value.{Value}
 use Rattle.texts.specs.Written.{numbered}
@@ -7,8 +7,9 @@ use Rattle.vcd_dump.specs.Dump.{Trace}
 use Rattle.timing_diagram.specs.declared.mark.Mark.{Mark}
 use Rattle.timing_diagram.specs.declared.mark.Mark.TheVariants.{Low, Fall, High, Rise, Unsure, Changing}
 use Rattle.timing_diagram.specs.Bus.{BusTrace, begins, digits, fits, lasting, shows_bits}
-use Rattle.timing_diagram.specs.Columns.{Ticks, column_count, first_tick, shown_tick}
+use Rattle.timing_diagram.specs.Columns.{Ticks, column_count, shown_tick}
 use Rattle.timing_diagram.specs.Marks.{mark_at}
+use Rattle.timing_diagram.specs.Ruler.{label_column, label_count, label_tick}
 
 -- the length in bytes of the longest name
 abbrev pub widest : {A : Type 0} → List (List ℕ × A) → ℕ
@@ -71,18 +72,13 @@ heading left height columns =
     ++ codes "<title>Timing diagram by nullsim</title>\n"
     ++ dark_style ++ codes "<rect width=\"100%\" height=\"100%\" fill=\"white\"/>\n"
 
--- whether a column has a line of the grid: every tenth one, counted from tick 0, or of fewer than ten the first one
-abbrev pub has_line : Ticks → ℕ → Bool
-has_line ticks column =
-    if nat_lt (column_count ticks) 10 then column == 0 else first_tick ticks column / ticks.step % 10 == 0
-
--- a line of the grid at a column, and its first tick
+-- a line of the grid at the column of a label, and its tick
 abbrev pub grid_line : ℕ → ℕ → Ticks → ℕ → List ℕ
-grid_line left height ticks column =
-    numbered (codes "<path d=\"M") (left + 10 * column)
+grid_line left height ticks place =
+    numbered (codes "<path d=\"M") (left + 10 * label_column ticks place)
     ++ numbered (codes " 20V") height
-    ++ numbered (codes "\" stroke=\"currentColor\" stroke-opacity=\"0.2\"/><text y=\"14\" x=\"") (left + 10 * column)
-    ++ numbered (codes "\">") (first_tick ticks column)
+    ++ numbered (codes "\" stroke=\"currentColor\" stroke-opacity=\"0.2\"/><text y=\"14\" x=\"") (left + 10 * label_column ticks place)
+    ++ numbered (codes "\">") (label_tick ticks place)
     ++ codes "</text>\n"
 
 -- the name at a place
@@ -138,12 +134,9 @@ abbrev pub bus_row : ℕ → Ticks → ℕ × BusTrace → List ℕ
 bus_row left ticks (place, (name, bits)) =
     name_row place name ++ path_row left place (bus_path bits ticks) ++ bus_labels left place bits ticks
 
--- what the grid has at a column
-abbrev pub grid_at : ℕ → ℕ → Ticks → ℕ → List ℕ
-grid_at left height ticks column = if has_line ticks column then grid_line left height ticks column else []
-
+-- a line for each label
 abbrev pub grid : ℕ → ℕ → Ticks → List ℕ
-grid left height ticks = flat_map (grid_at left height ticks) (range_with_len 0 (column_count ticks))
+grid left height ticks = flat_map (grid_line left height ticks) (range_with_len 0 (label_count ticks))
 
 -- the drawing as SVG: the nets, and after them the buses
 abbrev pub svg_text : Ticks → List Trace → List BusTrace → List ℕ

@@ -35,7 +35,7 @@ impl Model for Columns {
 
 impl Columns {
     ghost use Rattle.timing_diagram.specs.Columns.{IsDrawable, columns_of, column_count, first_tick, last_tick, shown_tick};
-    ghost use Rattle.timing_diagram.specs.Picture.{has_line};
+    ghost use Rattle.timing_diagram.specs.Ruler.{first_label, label_column, label_count, label_tick};
 
     /// Returns the ticks from `from` to `to`, in columns of `step` ticks, of a run up to this horizon. If
     /// `at_end` is set, a column shows the value at its last tick, whatever is before it.
@@ -112,16 +112,51 @@ impl Columns {
         }
     }
 
-    /// Returns whether a column of a picture has a line of the grid.
-    pub(crate) fn has_line(self, column: u64) -> bool
-        requires { column < column_count self }
-        ensures { result ≡ has_line self column }
+    /// Returns the first tick above the columns: the first multiple of ten steps that is drawn, or if none is, the
+    /// first tick.
+    pub(crate) fn first_label(self) -> u64
+        ensures value { result ≡ first_label self }
+        ensures drawn { (self.from ≤ result) × (result ≤ self.to) }
     {
-        if self.count() < 10 {
-            column == 0
-        } else {
-            self.first(column) / self.step % 10 == 0
+        if self.step > self.to / 10 {
+            return self.from;
         }
+        let ten_steps = 10 * self.step;
+        let ahead = (ten_steps - self.from % ten_steps) % ten_steps;
+        if self.to - self.from < ahead {
+            self.from
+        } else {
+            self.from + ahead
+        }
+    }
+
+    /// Returns the number of ticks above the columns.
+    pub(crate) fn label_count(self) -> u64
+        ensures { result ≡ label_count self }
+    {
+        if self.step > self.to / 10 {
+            1
+        } else {
+            (self.to - self.first_label()) / (10 * self.step) + 1
+        }
+    }
+
+    /// Returns the tick at a place above the columns.
+    pub(crate) fn label(self, place: u64) -> u64
+        requires { place < label_count self }
+        ensures value { result ≡ label_tick self place }
+        ensures drawn { (self.from ≤ result) × (result ≤ self.to) }
+    {
+        self.first_label() + place * self.step * 10
+    }
+
+    /// Returns the column that has the tick at a place above the columns.
+    pub(crate) fn label_column(self, place: u64) -> u64
+        requires { place < label_count self }
+        ensures column { result ≡ label_column self place }
+        ensures drawn { result < column_count self }
+    {
+        (self.label(place) - self.from) / self.step
     }
 
     /// Returns whether a column shows the value at its last tick, whatever is before it.

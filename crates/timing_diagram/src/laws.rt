@@ -1,10 +1,11 @@
 //! Facts about the definitions alone.
-ghost use Rattle.std.specs.Prelude.{◌≡◌, ℕ, ◌*◌, ◌%◌, ◌<◌, ◌≤◌, ◌==◌, true, false, List, Some};
+ghost use Rattle.std.specs.Prelude.{◌≡◌, ℕ, ◌+◌, ◌%◌, ◌<◌, ◌≤◌, ◌==◌, true, false, List, Some};
 ghost use Rattle.std.specs.List.{list_any};
 ghost use Rattle.logic3.specs.declared.value.Value.{Value};
 ghost use Rattle.timing_diagram.specs.Columns.{Ticks, column_count, first_tick, last_tick};
 ghost use Rattle.timing_diagram.specs.Marks.{is_steady};
-ghost use Rattle.timing_diagram.specs.Picture.{escaped, has_line};
+ghost use Rattle.timing_diagram.specs.Picture.{escaped};
+ghost use Rattle.timing_diagram.specs.Ruler.{label_column, label_count, label_tick, ten_steps};
 ghost use Rattle.timing_diagram.specs.Read.{drawn_value, column_value};
 
 /// The character of a column shows the value that the signal has at every tick of the column, and no value if
@@ -24,11 +25,14 @@ pub fn names_are_escaped()
     ensures closes { (name : List ℕ) → list_any (λ byte. byte == 62) (escaped name) ≡ false }
 {}
 
-/// If the first tick of a picture is a multiple of the step, then the lines of its grid are at multiples of ten
-/// steps, unless there are fewer than ten columns. Each picture has a line.
-pub fn lines_are_round()
-    ensures round { (ticks : Ticks) (column : ℕ) → ticks.from % ticks.step ≡ 0 → 10 ≤ column_count ticks →
-        has_line ticks column ≡ true → first_tick ticks column % (10 * ticks.step) ≡ 0 }
-    ensures always { (ticks : Ticks) → 1 ≤ ticks.step →
-        (column : ℕ) × (column < column_count ticks) × (has_line ticks column ≡ true) }
+/// If a multiple of ten steps is among the ticks that are drawn, each tick above the columns is one. Whether there is
+/// one or not, the ticks above the columns are drawn, and each is in its column.
+pub fn labels_are_round()
+    ensures round { (ticks : Ticks) (tick place : ℕ) → 1 ≤ ticks.step → ticks.from ≤ tick → tick ≤ ticks.to →
+        tick % ten_steps ticks ≡ 0 → label_tick ticks place % ten_steps ticks ≡ 0 }
+    ensures drawn { (ticks : Ticks) (place : ℕ) → 1 ≤ ticks.step → ticks.from ≤ ticks.to → place < label_count ticks →
+        (ticks.from ≤ label_tick ticks place) × (label_tick ticks place ≤ ticks.to) }
+    ensures inside { (ticks : Ticks) (place : ℕ) → 1 ≤ ticks.step → ticks.from ≤ label_tick ticks place →
+        (first_tick ticks (label_column ticks place) ≤ label_tick ticks place)
+        × (label_tick ticks place < first_tick ticks (label_column ticks place + 1)) }
 {}

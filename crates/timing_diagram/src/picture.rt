@@ -4,7 +4,8 @@ ghost use Rattle.logic3.specs.Wave.{value_at};
 ghost use Rattle.vcd_dump.specs.Traces.{traces};
 ghost use Rattle.timing_diagram.specs.Bus.{seen_bus};
 ghost use Rattle.timing_diagram.specs.Columns.{column_count};
-ghost use Rattle.timing_diagram.specs.Picture.{escaped_byte, escaped, mark_path, column_path, signal_path, heading, grid_line, grid_at, grid, name_row, signal_row, trace_row, svg_text};
+ghost use Rattle.timing_diagram.specs.Ruler.{label_count};
+ghost use Rattle.timing_diagram.specs.Picture.{escaped_byte, escaped, mark_path, column_path, signal_path, heading, grid_line, grid, name_row, signal_row, trace_row, svg_text};
 
 use crate::bus::Bus;
 use crate::bus_picture::push_bus_rows;
@@ -105,13 +106,13 @@ fn push_grid_line(
     left: u64,
     height: u64,
     columns: Columns,
-    column: u64,
+    place: u64,
 ) -> Result<(), AllocError>
     requires left { left < 2 ^ 32 }
-    requires column { column < column_count columns }
-    ensures { OnOk result (text.new.items ≡ text.old.items ++ grid_line left height columns column) }
+    requires place { place < label_count columns }
+    ensures { OnOk result (text.new.items ≡ text.old.items ++ grid_line left height columns place) }
 {
-    let at = left + 10 * column;
+    let at = left + 10 * columns.label_column(place);
     push_numbered(text, b"<path d=\"M", at)?;
     push_numbered(text, b" 20V", height)?;
     push_numbered(
@@ -119,25 +120,8 @@ fn push_grid_line(
         b"\" stroke=\"currentColor\" stroke-opacity=\"0.2\"/><text y=\"14\" x=\"",
         at,
     )?;
-    push_numbered(text, b"\">", columns.first(column))?;
+    push_numbered(text, b"\">", columns.label(place))?;
     text.extend_from_slice(b"</text>\n")?;
-    Ok(())
-}
-
-fn push_grid_at(
-    text: &mut Vec<u8>,
-    left: u64,
-    height: u64,
-    columns: Columns,
-    column: u64,
-) -> Result<(), AllocError>
-    requires left { left < 2 ^ 32 }
-    requires column { column < column_count columns }
-    ensures { OnOk result (text.new.items ≡ text.old.items ++ grid_at left height columns column) }
-{
-    if columns.has_line(column) {
-        push_grid_line(text, left, height, columns, column)?;
-    }
     Ok(())
 }
 
@@ -145,8 +129,8 @@ fn push_grid(text: &mut Vec<u8>, left: u64, height: u64, columns: Columns) -> Re
     requires { left < 2 ^ 32 }
     ensures { OnOk result (text.new.items ≡ text.old.items ++ grid left height columns) }
 {
-    for column in 0..columns.count() {
-        push_grid_at(text, left, height, columns, column)?;
+    for place in 0..columns.label_count() {
+        push_grid_line(text, left, height, columns, place)?;
     }
     Ok(())
 }

@@ -1,7 +1,7 @@
 ghost use Rattle.std.specs.Prelude.{◌≡◌, ◌<◌, ◌++◌, ◌*◌, length, map, flat_map, All, OnOk};
 ghost use Rattle.logic3.specs.Wave.{value_at};
 ghost use Rattle.vcd_dump.specs.Traces.{traces};
-ghost use Rattle.timing_diagram.specs.Columns.{column_count};
+ghost use Rattle.timing_diagram.specs.Ruler.{label_count};
 ghost use Rattle.timing_diagram.specs.Drawing.{mark_byte, marks_text, line_text, ruler_label, ruler_text, drawn_text};
 ghost use Rattle.timing_diagram.specs.Bus.{seen_bus};
 ghost use Rattle.timing_diagram.specs.Picture.{name_width, widest};
@@ -60,11 +60,11 @@ fn push_line(
 }
 
 fn push_label(text: &mut Vec<u8>, columns: Columns, place: u64) -> Result<(), AllocError>
-    requires { 10 * place < column_count columns }
+    requires { place < label_count columns }
     ensures { OnOk result (text.new.items ≡ text.old.items ++ ruler_label columns place) }
 {
     let start = text.len();
-    push_number(text, columns.first(10 * place))?;
+    push_number(text, columns.label(place))?;
     push_times(text, b'.', 10usize.saturating_sub(text.len() - start))
 }
 
@@ -73,7 +73,8 @@ fn push_ruler(text: &mut Vec<u8>, width: usize, columns: Columns) -> Result<(), 
 {
     push_times(text, b' ', width)?;
     text.extend_from_slice(b"  ")?;
-    for place in 0..(columns.count() + 9) / 10 {
+    push_times(text, b'.', columns.label_column(0) as usize)?;
+    for place in 0..columns.label_count() {
         push_label(text, columns, place)?;
     }
     text.push(b'\n')?;

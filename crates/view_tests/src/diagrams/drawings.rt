@@ -73,7 +73,7 @@ const S27_TEXT: &[u8] = b"     0.........10........20........30........\n\
       G12  x\\_____________________/------------\n\
       G13  xx/----------\\______________________\n";
 
-static DRAWN: [Row; 11] = [
+static DRAWN: [Row; 13] = [
     (
         INVERTER,
         5,
@@ -82,6 +82,21 @@ static DRAWN: [Row; 11] = [
         b"   0.........\na  ___/--\ny  x/--\\_\n",
     ),
     (INVERTER, 5, (5, 5, 7), Text, b"   5.........\na  -\ny  _\n"),
+    // Round ticks, whatever the first one: 10, and 30 in the column from 28 on.
+    (
+        INVERTER,
+        14,
+        (3, 14, 1),
+        Text,
+        b"   .......10........\na  ------------\ny  -\\__________\n",
+    ),
+    (
+        INVERTER,
+        41,
+        (1, 41, 3),
+        Text,
+        b"   .........30........\na  |-------------\ny  -\\____________\n",
+    ),
     (
         HAZARD,
         8,

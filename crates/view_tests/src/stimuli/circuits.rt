@@ -10,6 +10,9 @@ pub(crate) const INVERTER: &[u8] = b"INPUT(a)\nOUTPUT(y)\ny = NOT(a)\n";
 /// Three inputs, with a gate between.
 pub(crate) const THREE: &[u8] = b"INPUT(c)\nINPUT(b)\ny = AND(a, b, c)\nINPUT(a)\n";
 
+/// Three inputs, the bits of a bus.
+pub(crate) const BUS: &[u8] = b"INPUT(d[1])\nINPUT(d[0])\nINPUT(d[2])\ny = AND(d[0], d[1])\n";
+
 /// No input.
 pub(crate) const COUNTER: &[u8] = b"q = DFF(n)\nn = NOT(q)\n";
 

@@ -1,7 +1,7 @@
 //! What is refused, with which fault, and which comes first.
-use crate::stimuli::circuits::{Drawn, NONE, THREE, text_of};
-use Drive::{Clock, Hold, Pulse};
-use Value::One;
+use crate::stimuli::circuits::{BUS, Drawn, NONE, THREE, text_of};
+use Drive::{Clock, Hold, HoldBits, Pulse};
+use Value::{One, Zero};
 use drawn_stimuli::{Drive, DriveFault};
 use logic3::Value;
 use std::alloc::Global;
@@ -85,9 +85,73 @@ static FAULTY: [Row; 11] = [
     ),
 ];
 
-fn is_refused(rt: &impl Abort, alloc: Global, row: &Row) -> Result<(), Fail> {
+const FIVE: Drive = HoldBits {
+    ones: 5,
+    unknown: 0,
+};
+
+const EIGHT: Drive = HoldBits {
+    ones: 8,
+    unknown: 0,
+};
+
+// Of the inputs of a bus.
+static FAULTY_BITS: [Row; 12] = [
+    (&[(b"d[3:0]", FIVE)], NONE, NOT_AN_INPUT, "NotAnInput"),
+    (&[(b"d[2:0", FIVE)], NONE, NOT_AN_INPUT, "NotAnInput"),
+    (&[(b"y[2:0]", FIVE)], NONE, NOT_AN_INPUT, "NotAnInput"),
+    (&[(b"y", FIVE)], NONE, NOT_AN_INPUT, "NotAnInput"),
+    (&[(b"d[2:0]", EIGHT)], NONE, TOO_WIDE, "TooWide"),
+    (&[(b"d[1:0]", FIVE)], NONE, TOO_WIDE, "TooWide"),
+    (&[(b"d[0]", FIVE)], NONE, TOO_WIDE, "TooWide"),
+    (
+        &[(
+            b"d[2:0]",
+            HoldBits {
+                ones: 0,
+                unknown: 8,
+            },
+        )],
+        NONE,
+        TOO_WIDE,
+        "TooWide",
+    ),
+    (
+        &[(b"d[0:2]", FIVE), (b"d[1]", Hold(Zero))],
+        NONE,
+        TWICE,
+        "Twice",
+    ),
+    (
+        &[(b"d[1]", Hold(Zero)), (b"d[0:2]", FIVE)],
+        NONE,
+        TWICE,
+        "Twice",
+    ),
+    // The first input with a fault: d[2] has too many bits, or an earlier drive.
+    (
+        &[(b"d[1]", Hold(Zero)), (b"d[2:0]", EIGHT)],
+        NONE,
+        DriveFault::TooWide { place: 1 },
+        "TooWide",
+    ),
+    (
+        &[(b"d[2]", Hold(Zero)), (b"d[2:0]", EIGHT)],
+        NONE,
+        TWICE,
+        "Twice",
+    ),
+];
+
+const NOT_AN_INPUT: DriveFault = DriveFault::NotAnInput { place: 0 };
+
+const TOO_WIDE: DriveFault = DriveFault::TooWide { place: 0 };
+
+const TWICE: DriveFault = DriveFault::Twice { place: 1 };
+
+fn is_refused(rt: &impl Abort, alloc: Global, bench: &[u8], row: &Row) -> Result<(), Fail> {
     let (drives, drawn, fault, name) = *row;
-    let answer = text_of(alloc, THREE, drives, drawn, 10)?;
+    let answer = text_of(alloc, bench, drives, drawn, 10)?;
     assert!(rt; answer.err() == Some(fault));
     assert!(rt; fault.name() == name);
     Ok(())
@@ -96,7 +160,10 @@ fn is_refused(rt: &impl Abort, alloc: Global, row: &Row) -> Result<(), Fail> {
 #[test]
 fn faults(rt: HostRuntime) -> Result<(), Fail> {
     for row in &FAULTY {
-        is_refused(&rt, rt.alloc(), row)?;
+        is_refused(&rt, rt.alloc(), THREE, row)?;
+    }
+    for row in &FAULTY_BITS {
+        is_refused(&rt, rt.alloc(), BUS, row)?;
     }
     Ok(())
 }

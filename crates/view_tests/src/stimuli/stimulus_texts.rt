@@ -2,8 +2,8 @@
 //! RR with 64 bits of state, seeded as `rand_core` expands a number to a seed), independently of this
 //! repository: an odd word is a 1. For the first seeds the words are, by their last bits, 0: 1110 1100 0010
 //! .., 1: 0010 1000 0010 1010 .., 7: 10100 .., 42: 0000 0101 1111 ...
-use crate::stimuli::circuits::{COUNTER, Drawn, INVERTER, NONE, THREE, text_of};
-use Drive::{Clock, ClockFrom, Hold, Pulse};
+use crate::stimuli::circuits::{BUS, COUNTER, Drawn, INVERTER, NONE, THREE, text_of};
+use Drive::{Clock, ClockFrom, Hold, HoldBits, Pulse};
 use Value::{One, Unknown, Zero};
 use drawn_stimuli::Drive;
 use logic3::Value;
@@ -106,7 +106,14 @@ static DRIVEN: [Row; 17] = [
     ),
     (
         INVERTER,
-        &[(b"a", ClockFrom { half: 4, first: 1 })],
+        &[(
+            b"a",
+            ClockFrom {
+                half: 4,
+                first: 1,
+                begins_high: false,
+            },
+        )],
         NONE,
         9,
         b"0 a 0\n1 a 1\n5 a 0\n9 a 1\n",
@@ -118,6 +125,7 @@ static DRIVEN: [Row; 17] = [
             ClockFrom {
                 half: 1,
                 first: u64::MAX,
+                begins_high: false,
             },
         )],
         NONE,
@@ -147,6 +155,162 @@ static DRIVEN: [Row; 17] = [
         b"0 a 0\n4000000 a 1\n8000000 a 0\n",
     ),
     (COUNTER, &[], NONE, 3, b""),
+];
+
+static HELD: [Row; 12] = [
+    // Clocks that begin at 1.
+    (
+        INVERTER,
+        &[(
+            b"a",
+            ClockFrom {
+                half: 4,
+                first: 1,
+                begins_high: true,
+            },
+        )],
+        NONE,
+        9,
+        b"0 a 1\n1 a 0\n5 a 1\n9 a 0\n",
+    ),
+    (
+        INVERTER,
+        &[(
+            b"a",
+            ClockFrom {
+                half: 3,
+                first: 0,
+                begins_high: true,
+            },
+        )],
+        NONE,
+        7,
+        b"0 a 0\n3 a 1\n6 a 0\n",
+    ),
+    // Bits of one input.
+    (
+        INVERTER,
+        &[(
+            b"a",
+            HoldBits {
+                ones: 1,
+                unknown: 0,
+            },
+        )],
+        NONE,
+        9,
+        b"0 a 1\n",
+    ),
+    (
+        INVERTER,
+        &[(
+            b"a",
+            HoldBits {
+                ones: 1,
+                unknown: 1,
+            },
+        )],
+        NONE,
+        9,
+        b"",
+    ),
+    // 110, from the first bit of the range to the last.
+    (
+        BUS,
+        &[(
+            b"d[2:0]",
+            HoldBits {
+                ones: 6,
+                unknown: 0,
+            },
+        )],
+        NONE,
+        9,
+        b"0 d[1] 1\n0 d[0] 0\n0 d[2] 1\n",
+    ),
+    (
+        BUS,
+        &[(
+            b"d[0:2]",
+            HoldBits {
+                ones: 6,
+                unknown: 0,
+            },
+        )],
+        NONE,
+        9,
+        b"0 d[1] 1\n0 d[0] 1\n0 d[2] 0\n",
+    ),
+    // 0x1, with a 1 in the place of the X too.
+    (
+        BUS,
+        &[(
+            b"d[2:0]",
+            HoldBits {
+                ones: 3,
+                unknown: 2,
+            },
+        )],
+        NONE,
+        9,
+        b"0 d[0] 1\n0 d[2] 0\n",
+    ),
+    // 0 has as many bits as are needed.
+    (
+        BUS,
+        &[(
+            b"d[2:0]",
+            HoldBits {
+                ones: 0,
+                unknown: 0,
+            },
+        )],
+        NONE,
+        9,
+        b"0 d[1] 0\n0 d[0] 0\n0 d[2] 0\n",
+    ),
+    // One value, a clock and pulses for each input of a range.
+    (
+        BUS,
+        &[(b"d[2:0]", Hold(One))],
+        NONE,
+        9,
+        b"0 d[1] 1\n0 d[0] 1\n0 d[2] 1\n",
+    ),
+    (
+        BUS,
+        &[(b"d[1:0]", Clock { half: 2 }), (b"d[2:2]", Hold(Zero))],
+        NONE,
+        4,
+        b"0 d[1] 0\n0 d[0] 0\n0 d[2] 0\n2 d[1] 1\n2 d[0] 1\n4 d[1] 0\n4 d[0] 0\n",
+    ),
+    (
+        BUS,
+        &[
+            (b"d[2:0]", Pulse { from: 1, to: 2 }),
+            (b"d[1]", Pulse { from: 2, to: 3 }),
+        ],
+        NONE,
+        9,
+        b"0 d[1] 0\n0 d[0] 0\n0 d[2] 0\n1 d[1] 1\n1 d[0] 1\n1 d[2] 1\n2 d[0] 0\n2 d[2] 0\n3 d[1] 0\n",
+    ),
+    // An input with exactly the name, which looks like a range.
+    (
+        b"INPUT(d[1:0])\nINPUT(d[0])\nINPUT(d[1])\n",
+        &[
+            (b"d[0:1]", Hold(Zero)),
+            (
+                b"d[1:0]",
+                HoldBits {
+                    ones: 1,
+                    unknown: 0,
+                },
+            ),
+        ],
+        NONE,
+        9,
+        b"0 d[1:0] 1\n0 d[0] 0\n0 d[1] 0\n",
+    ),
 ];
 
 static DRAWN: [Row; 9] = [
@@ -227,6 +391,14 @@ fn driven_texts(rt: HostRuntime) -> Result<(), Fail> {
 #[test]
 fn drawn_texts(rt: HostRuntime) -> Result<(), Fail> {
     for row in &DRAWN {
+        gives(&rt, rt.alloc(), row)?;
+    }
+    Ok(())
+}
+
+#[test]
+fn held_texts(rt: HostRuntime) -> Result<(), Fail> {
+    for row in &HELD {
         gives(&rt, rt.alloc(), row)?;
     }
     Ok(())

@@ -2,7 +2,7 @@ use Rattle.std.proofs.Common.{◌≡◌, Err, map, sym, ap}
 use Rattle.std.proofs.lemmas.Result.{err_from_is_err_and}
 use Rattle.bench_text.specs.declared.fault.BenchFault.TheVariants as bench
 use Rattle.drawn_stimuli.specs.declared.fault.DriveFault.TheVariants as drives
-use Rattle.drawn_stimuli.specs.Inputs.{seen_drive}
+use Rattle.drawn_stimuli.specs.Given.{seen_drive}
 use Rattle.drawn_stimuli.specs.Driven.{driven_of_bench, driven_of_drives}
 use Rattle.drawn_stimuli.proofs.StimuliTexts.{stimuli_of_drives-bad, stimuli_of_drives-bad_bench, stimuli_of_drives-bad_horizon, stimuli_of_drives-good}
 use Rattle.drawn_stimuli.proofs.bench_stimuli.stimuli.Goals as goal

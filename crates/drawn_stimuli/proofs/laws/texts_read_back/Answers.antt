@@ -1,4 +1,4 @@
-use Rattle.drawn_stimuli.specs.StimulusText.{Drawing, inputs_drawn, rounds_of}
+use Rattle.drawn_stimuli.specs.StimulusText.{Drawing, drives_drawn, inputs_drawn, rounds_of}
 use Rattle.drawn_stimuli.proofs.DistinctInputs.{distinct_inputs, names_of_inputs}
 use Rattle.drawn_stimuli.proofs.InOrder.{drawn_named, drawn_values}
 use Rattle.drawn_stimuli.proofs.ReadBack.{read_drawn}
@@ -13,10 +13,10 @@ returns-clause-inputs c = λ netlist drives. names_of_inputs drives 0 netlist.ne
 
 pub returns-clause-changes : goal.returns-clause-changes
 returns-clause-changes c = λ (drawing : Drawing).
-    drawn_named (rounds_of drawing.netlist drawing.drives drawing.draws) (inputs_drawn drawing) drawing.horizon
-    (distinct_inputs drawing.netlist drawing.drives drawing.is_netlist)
+    drawn_named (rounds_of drawing.netlist (drives_drawn drawing) drawing.draws) (inputs_drawn drawing) drawing.horizon
+    (distinct_inputs drawing.netlist (drives_drawn drawing) drawing.is_netlist)
 
 pub returns-clause-values : goal.returns-clause-values
 returns-clause-values c = λ (drawing : Drawing) tick in_time.
-    drawn_values (rounds_of drawing.netlist drawing.drives drawing.draws) (inputs_drawn drawing) drawing.horizon tick
-    (distinct_inputs drawing.netlist drawing.drives drawing.is_netlist) in_time
+    drawn_values (rounds_of drawing.netlist (drives_drawn drawing) drawing.draws) (inputs_drawn drawing) drawing.horizon tick
+    (distinct_inputs drawing.netlist (drives_drawn drawing) drawing.is_netlist) in_time

@@ -1,6 +1,6 @@
 use Rattle.std.proofs.Common.{◌∙◌, ◌+◌, ◌++◌, ◌∷◌, ap, drop, map, sym}
 use Rattle.prepared_runs.specs.Lanes.{bus_view}
-use Rattle.prepared_runs.proofs.AllFound.{next}
+use Rattle.net_words.proofs.CallerLemmas.{next}
 use Rattle.prepared_runs.proofs.MeantNets.{bits-next}
 use Rattle.prepared_runs.proofs.lanes.bits_of.Goals as goal
 

@@ -2,7 +2,7 @@
 use Rattle.std.proofs.Common.{◌≡◌, drop, map}
 use Rattle.netlist.specs.Names.{seen_names}
 use Rattle.prepared_runs.specs.Lanes.{bus_meant, bus_view, buses_meant}
-use Rattle.prepared_runs.proofs.AllFound.{found_after}
+use Rattle.net_words.proofs.CallerLemmas.{found_after}
 use Rattle.prepared_runs.proofs.lanes.buses_meant.Given as goal
 
 abbrev pub invariant-loop-name : goal.invariant-loop-name

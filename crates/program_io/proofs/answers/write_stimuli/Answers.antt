@@ -1,7 +1,7 @@
 use Rattle.std.proofs.lemmas.Result.{err_from_is_err_and}
 use Rattle.std.proofs.Common.{◌≡◌, ap, map}
 use Rattle.std.specs.Result.{result_map_both}
-use Rattle.drawn_stimuli.specs.Inputs.{seen_drive}
+use Rattle.drawn_stimuli.specs.Given.{seen_drive}
 use Rattle.program_io.specs.Answers.{just, stimuli_answer}
 use Rattle.program_io.specs.ProgramFaults.{fault_of_driven}
 use Rattle.program_io.proofs.AnswerEnds.{AnswerEndsBy-driven, AnswerEndsBy-text, GoesOut-text, WriteEndsBy-no_read, fault_of_driven-no_read}

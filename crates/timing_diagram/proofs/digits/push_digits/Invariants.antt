@@ -1,5 +1,5 @@
 -- The digits so far and those to come are all.
-use Rattle.std.proofs.Common.{◌≡◌, ◌++◌, ◌-◌, length, map}
+use Rattle.std.proofs.Common.{◌≡◌, ◌++◌, ◌-◌, map}
 use Rattle.std.specs.List.{range_with_len}
 use Rattle.logic3.specs.Wave.{value_at}
 use Rattle.timing_diagram.specs.Bus.{digit_at, digits}

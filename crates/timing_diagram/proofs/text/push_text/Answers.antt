@@ -1,8 +1,7 @@
 use Rattle.std.proofs.Common.{◌∙◌, ◌++◌, ap, flat_map, map}
 use Rattle.vcd_dump.specs.Traces.{traces}
 use Rattle.timing_diagram.specs.Bus.{seen_bus}
-use Rattle.timing_diagram.specs.Drawing.{bus_line, drawn_text, line_text, ruler_text}
-use Rattle.timing_diagram.specs.Picture.{name_width}
+use Rattle.timing_diagram.specs.Drawing.{bus_line, line_text, ruler_text}
 use Rattle.timing_diagram.proofs.Joined.{joined₃}
 use Rattle.timing_diagram.proofs.text.push_text.Goals as goal
 

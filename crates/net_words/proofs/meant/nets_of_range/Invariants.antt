@@ -2,9 +2,9 @@
 use Rattle.std.proofs.Common.{◌≡◌, ◌-◌, map}
 use Rattle.std.specs.List.{range_with_len}
 use Rattle.netlist.specs.Netlist.{net_named}
-use Rattle.prepared_runs.specs.Meant.{bit_name, nets_of_range, seen_range}
-use Rattle.prepared_runs.proofs.AllFound.{found_after}
-use Rattle.prepared_runs.proofs.meant.nets_of_range.Given as goal
+use Rattle.net_words.specs.Meant.{bit_name, nets_of_range, seen_range}
+use Rattle.net_words.proofs.AllFound.{found_after}
+use Rattle.net_words.proofs.meant.nets_of_range.Given as goal
 
 abbrev pub invariant-loop-step : goal.invariant-loop-step
 invariant-loop-step l =

@@ -1,7 +1,7 @@
 use Rattle.std.proofs.Common.{◌≡◌, ◌∙◌, None, ap, length, option_map, rules, slice_get, sym}
-use Rattle.prepared_runs.specs.Meant.{range_at, seen_range}
-use Rattle.prepared_runs.proofs.AllFound.{given_first, given_later}
-use Rattle.prepared_runs.proofs.meant.range_of.Goals as goal
+use Rattle.net_words.specs.Meant.{range_at, seen_range}
+use Rattle.net_words.proofs.AllFound.{given_first, given_later}
+use Rattle.net_words.proofs.meant.range_of.Goals as goal
 
 pub returns-in-Some-clause-exact : goal.returns-in-Some-clause-exact
 returns-in-Some-clause-exact c =

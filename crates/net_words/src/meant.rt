@@ -1,11 +1,7 @@
 //! Which nets a word means: one net by its name, or the bits of a bus by a range.
-ghost use Rattle.std.specs.Prelude.{◌≡◌, ◌≤◌, ◌<◌, ◌++◌, ◌^◌, length, option_map, IfErr, IfOk, IfSome, OnOk, Some};
-ghost use Rattle.prepared_runs.specs.Ends.{IsRefusal};
-ghost use Rattle.prepared_runs.specs.Meant.{bit_after, bit_before, bit_name, bit_of, cut_at, ends_of, last_of, meant_or_unknown, nets_meant, nets_of_range, range_at, range_of, seen_range, steps_of};
-ghost use Rattle.std.specs.Option.{ok_or};
-ghost use Rattle.prepared_runs.specs.declared.fault.SimFault.TheVariants.{UnknownNet};
+ghost use Rattle.std.specs.Prelude.{◌≡◌, ◌≤◌, ◌<◌, ◌++◌, ◌^◌, length, option_map, All, IfOk, IfSome, OnOk};
+ghost use Rattle.net_words.specs.Meant.{bit_after, bit_before, bit_name, bit_of, cut_at, ends_of, last_of, nets_meant, nets_of_range, range_at, range_of, seen_range, steps_of};
 
-use crate::fault::SimFault;
 use netlist::Netlist;
 use std::alloc::{AllocError, Global};
 use texts::{first_place, number, push_number};
@@ -19,34 +15,38 @@ struct BusRange<'a> {
 }
 
 /// Returns the numbers of the nets that a word means: the net with exactly this name, or else, of a range such as
-/// `data[7:0]`, the nets `data[7]` to `data[0]`, from the first number to the last.
+/// `data[7:0]`, the nets `data[7]` to `data[0]`, from the first number to the last. It means none if no net has the name,
+/// and the word isn't a range or some bit of it isn't a net.
 ///
 /// # Errors
-/// [`SimFault::UnknownNet`] if no net has the name, and the word isn't a range or some bit of it isn't a net.
+/// An allocation failed.
 #[tactic(auto, unfolding(crate::specs::Meant::nets_meant))]
-pub fn nets_meant(alloc: Global, netlist: &Netlist, word: &[u8]) -> Result<Vec<u32>, SimFault>
-    ensures nets { IfOk result (λ nets. nets_meant netlist.now word.now ≡ Some nets.items) }
-    ensures err { IfErr result (IsRefusal (meant_or_unknown netlist.now word.now)) }
+pub fn nets_meant(
+    alloc: Global,
+    netlist: &Netlist,
+    word: &[u8],
+) -> Result<Option<Vec<u32>>, AllocError>
+    ensures nets { IfOk result (λ nets. option_map (λ nets. nets.items) nets ≡ nets_meant netlist.now word.now) }
+    ensures exist { IfOk result (λ nets. IfSome nets (λ nets. All (λ net. net < length netlist.now.nets) nets.items)) }
 {
     if let Some(net) = netlist.find(word) {
-        return Ok(Vec::from_slice(alloc, &[net])?);
+        return Ok(Some(Vec::from_slice(alloc, &[net])?));
     }
     match range_of(word) {
         Some(range) => nets_of_range(alloc, netlist, range),
-        None => Err(SimFault::UnknownNet),
+        None => Ok(None),
     }
 }
 
-/// Returns the nets of the bits of a range.
+/// Returns the nets of the bits of a range, if there is a net for each.
 fn nets_of_range(
     alloc: Global,
     netlist: &Netlist,
     range: BusRange<'_>,
-) -> Result<Vec<u32>, SimFault>
+) -> Result<Option<Vec<u32>>, AllocError>
     requires first { range.first < 2 ^ 32 }
     requires last { range.last < 2 ^ 32 }
-    ensures nets { IfOk result (λ nets. nets_of_range netlist.now (seen_range range.entry) ≡ Some nets.items) }
-    ensures err { IfErr result (IsRefusal (ok_or (nets_of_range netlist.now (seen_range range.entry)) UnknownNet)) }
+    ensures { IfOk result (λ nets. option_map (λ nets. nets.items) nets ≡ nets_of_range netlist.now (seen_range range.entry)) }
 {
     let mut nets = Vec::new(alloc);
     let mut name = Vec::new(alloc);
@@ -54,11 +54,11 @@ fn nets_of_range(
         name.clear();
         push_bit_name(&mut name, range, step)?;
         let Some(net) = netlist.find(name.as_slice()) else {
-            return Err(SimFault::UnknownNet);
+            return Ok(None);
         };
         nets.push(net)?;
     }
-    Ok(nets)
+    Ok(Some(nets))
 }
 
 /// Adds the name of the bit that is this number of steps after the first one.

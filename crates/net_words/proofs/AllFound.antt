@@ -3,7 +3,7 @@ use Rattle.std.proofs.Common.{◌≡◌, refl, sym, ap, subst, ◌∙◌, ℕ, s
 use Rattle.std.specs.List.{range_with_len}
 use Rattle.std.proofs.lemmas.List.{length-map, get_or-map}
 use Rattle.std.proofs.lemmas.List.Elements.{All-cons, All-nil}
-use Rattle.prepared_runs.specs.Meant.{all_found}
+use Rattle.net_words.specs.Meant.{all_found}
 
 module _ {A B : Type 0} (find : A → Option B) where
   -- what was found so far, and what is found of the rest

@@ -1,12 +1,10 @@
 -- Which nets a word means: one net by its name, or the bits of a bus by a range.
-use Rattle.std.specs.Prelude.{ℕ, ◌+◌, ◌-◌, ◌==◌, ◌^◌, nat_lt, if◌then◌else◌, List, [], ◌∷◌, ◌++◌, drop, filter_map, length, map, slice_get, slice_index, take, codes, decimal, option_and_then, option_map, Option, None, Some, Result}
+use Rattle.std.specs.Prelude.{ℕ, ◌+◌, ◌-◌, ◌==◌, ◌^◌, nat_lt, if◌then◌else◌, List, [], ◌∷◌, ◌++◌, drop, filter_map, length, map, slice_get, slice_index, take, codes, decimal, option_and_then, option_map, Option, None, Some}
 use Rattle.std.specs.List.{position_or_len, range_with_len}
-use Rattle.std.specs.Option.{ok_or, option_map_or}
+use Rattle.std.specs.Option.{option_map_or}
 use Rattle.texts.specs.Text.{is_empty, number_of}
 use Rattle.netlist.specs.Netlist.{NetlistView, net_named}
-use Rattle.prepared_runs.specs.declared.fault.SimFault.{SimFault}
-use Rattle.prepared_runs.specs.declared.fault.SimFault.TheVariants.{UnknownNet}
-use Rattle.prepared_runs.specs.declared.meant.BusRange.{BusRange}
+use Rattle.net_words.specs.declared.meant.BusRange.{BusRange}
 
 -- ---- a range
 
@@ -85,7 +83,3 @@ nets_of_range netlist range = all_found (net_named netlist) (bit_names range)
 unfoldable pub nets_meant : NetlistView → List ℕ → Option (List ℕ)
 nets_meant netlist word =
     option_map_or (λ net. Some (net ∷ [])) (net_named netlist word) (option_and_then (nets_of_range netlist) (range_of word))
-
--- the same, or the fault
-abbrev pub meant_or_unknown : NetlistView → List ℕ → Result (List ℕ) SimFault
-meant_or_unknown netlist word = ok_or (nets_meant netlist word) UnknownNet

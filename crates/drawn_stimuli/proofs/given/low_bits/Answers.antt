@@ -1,0 +1,6 @@
+use Rattle.std.proofs.Common.{arith}
+use Rattle.drawn_stimuli.proofs.WideCounts.{all_low}
+use Rattle.drawn_stimuli.proofs.given.low_bits.Goals as goal
+
+pub returns-else-count-lt64 : goal.returns-else-count-lt64
+returns-else-count-lt64 c = all_low c.args.bits c.args.count c.ranges.bits.fits (omega (arith, c.if-count-lt64.false))

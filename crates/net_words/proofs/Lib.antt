@@ -1,0 +1,3 @@
+mod AllFound
+pub mod CallerLemmas
+mod RealNets

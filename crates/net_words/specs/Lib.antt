@@ -1,0 +1,2 @@
+pub use Rattle.netlist.specs.Netlist
+pub mod Meant
