@@ -8,8 +8,8 @@
 _nullsim_commands=(run plain draw trace why stimuli info cone diff twin check explain help)
 _nullsim_faults=(TooLong BadByte BadLine NameTooLong UnknownGate BadArity DefinedTwice Undefined NoNets TooMany
     UnknownNet IsInput NotAFlop BadPin BadTicks BadPeriod BadPhase BadValue Twice NotAnInput TickTooLarge NotRising
-    TooManyEvents BadDeck BadDelay BadHorizon NoStep Backwards PastHorizon TooManyColumns BadEvery BadHalf BadPulse Read
-    Write WroteNothing Memory)
+    TooManyEvents BadDeck BadDelay BadHorizon NoStep Backwards PastHorizon TooManyColumns BadEvery BadHalf BadPulse
+    TooWide Read Write WroteNothing Memory)
 _nullsim_options() {
     case $1 in
         '') options=(--verbose --help --version) ;;

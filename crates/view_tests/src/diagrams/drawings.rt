@@ -276,7 +276,7 @@ fn ends_of_columns(rt: HostRuntime) -> Result<(), Fail> {
 fn no_net(rt: HostRuntime) -> Result<(), Fail> {
     let design = INVERTER.build(rt.alloc())?;
     let columns = Columns::new(3, 14, 1, false, Horizon::new(14)?)?;
-    let text = b"  3.........13........\n";
+    let text = b"  .......10........\n";
     is_drawn(&rt, rt.alloc(), &design, &[], &[], &[], columns, Text, text);
     Ok(())
 }
