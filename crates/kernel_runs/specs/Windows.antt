@@ -1,5 +1,5 @@
 -- How far past what every net knows a sweep goes.
-use Rattle.std.specs.Prelude.{ℕ, ◌+◌, ◌*◌, ◌/◌, ◌-◌, ◌==◌, nat_lt, if◌then◌else◌, min, max}
+use Rattle.std.specs.Prelude.{ℕ, ◌*◌, ◌/◌, ◌-◌, ◌==◌, nat_lt, if◌then◌else◌, min, max}
 
 -- the most changes that a sweep over few nets should send
 abbrev pub most_sent_by_few : ℕ
@@ -19,12 +19,11 @@ widest = 16_777_216
 
 -- the width of the next window, given the ticks that were known before a sweep, the width of its window, and the number
 -- of changes that it sent: the same after the first sweep. Else it is twice as wide if they are fewer than a quarter of
--- the most that it should send, a quarter and a tick wider if they are fewer than half, a quarter narrower if they are more
--- than the most, and half as wide if they are more than twice as many
+-- the most that it should send, a quarter narrower if they are more than the most, and half as wide if they are more than
+-- twice as many
 abbrev pub next_width : ℕ → ℕ → ℕ → ℕ → ℕ
 next_width known width sent most =
     if known == 0 then width
     else if nat_lt sent (most / 4) then min (width * 2) widest
-    else if nat_lt sent (most / 2) then min (width + (width / 4 + 1)) widest
     else if nat_lt most (sent / 2) then max (width / 2) 1
     else if nat_lt most sent then max (width - width / 4) 1 else width

@@ -46,8 +46,6 @@ pub(crate) fn next_width(known: u64, width: u64, sent: u64, most: u64) -> u64
         width
     } else if sent < most / 4 {
         WIDEST.min(width.saturating_mul(2))
-    } else if sent < most / 2 {
-        WIDEST.min(width.saturating_add(width / 4 + 1))
     } else if sent / 2 > most {
         1.max(width / 2)
     } else if sent > most {
