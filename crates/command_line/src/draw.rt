@@ -14,7 +14,8 @@ use std::alloc::{AllocError, Global};
 use timing_diagram::Form;
 
 const ABOUT: &str =
-    "Simulates a circuit and draws a timing diagram on standard output, as text or as SVG";
+    "Simulates a circuit and draws a timing diagram on standard output, as text, as SVG or as\n\
+     WaveJSON";
 
 const USAGE: &str = "nullsim draw --bench <FILE> --horizon <N> [OPTIONS]";
 
@@ -34,16 +35,24 @@ const AT_END: &str = "Show in each column the value at its last tick, whatever i
 
 const SVG: &str = "Draw the diagram as an SVG picture, which browsers show";
 
+const WAVEJSON: &str = "Draw the diagram as WaveJSON, which WaveDrom draws";
+
 const BUS: &str = "Also draw a bus in hexadecimal: data[7:0] is data[7] to data[0]; can be\n\
      repeated. Without --show and --nets, only the buses are drawn";
 
-static OPTIONS: [Described; 6] = [
+static OPTIONS: [Described; 7] = [
     Described("bus", Takes::Bus, Absent::Nothing, BUS),
     Described("from", Takes::Number, Absent::Default("0"), FROM),
     Described("to", Takes::Number, Absent::Nothing, TO),
     Described("step", Takes::Number, Absent::Default("1"), STEP),
     Described("at-end", Takes::Nothing, Absent::Nothing, AT_END),
     Described("svg", Takes::Nothing, Absent::Nothing, SVG),
+    Described(
+        "wavejson",
+        Takes::NothingFor(&["svg"]),
+        Absent::Nothing,
+        WAVEJSON,
+    ),
 ];
 
 /// Returns the subcommand with its options.
@@ -104,6 +113,8 @@ fn shown_given<'a>(alloc: Global, options: &ArgMatches<'a>) -> Result<Selection<
 fn form_given(options: &ArgMatches<'_>) -> Form {
     if options.get_flag("svg") {
         Form::Svg
+    } else if options.get_flag("wavejson") {
+        Form::WaveJson
     } else {
         Form::Text
     }

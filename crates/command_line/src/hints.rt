@@ -62,7 +62,7 @@ static OPTIONS: [(&str, &str); 3] = [
 ];
 
 /// The options of one command alone.
-static ELSEWHERE: [(&str, &str); 11] = [
+static ELSEWHERE: [(&str, &str); 12] = [
     ("counts", "run"),
     ("clock", "stimuli"),
     ("hold", "stimuli"),
@@ -71,6 +71,7 @@ static ELSEWHERE: [(&str, &str); 11] = [
     ("at", "why"),
     ("step", "draw"),
     ("svg", "draw"),
+    ("wavejson", "draw"),
     ("to", "draw"),
     ("no-idle", "trace"),
     ("frontiers", "trace"),

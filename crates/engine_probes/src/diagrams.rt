@@ -3,7 +3,7 @@
 use crate::circuit_texts::inverter;
 use crate::following::Follower;
 use crate::telling::Teller;
-use Form::{Svg, Text};
+use Form::{Svg, Text, WaveJson};
 use design::{Design, plain_waves};
 use logic3::Waveform;
 use std::alloc::Global;
@@ -29,7 +29,12 @@ const PICTURE: &[u8] =
       <text x=\"44\" y=\"102\">3</text>\n\
       </svg>\n";
 
-/// Probes both forms.
+/// The same as WaveJSON.
+const WAVES: &[u8] = b"{\"foot\":{\"tick\":[\"2\",\"\",\"\",\"\",\"\",\"\",\"\",\"\",\"\",\"\"]},\
+      \"signal\":[{\"name\":\"a\",\"wave\":\"01\"},{\"name\":\"y\",\"wave\":\"1.\"},\
+      {\"data\":[\"1\",\"3\"],\"name\":\"ay\",\"wave\":\"==\"}]}\n";
+
+/// Probes all forms.
 pub(crate) fn probe<W: Write>(alloc: Global, teller: &mut Teller<W>) -> Option<()> {
     let design = inverter(alloc, teller)?;
     let waves = plain_waves(alloc, &design, Horizon::new(5).ok()?);
@@ -54,6 +59,15 @@ pub(crate) fn probe<W: Write>(alloc: Global, teller: &mut Teller<W>) -> Option<(
         &buses,
         Svg,
         PICTURE,
+    )?;
+    drawn(
+        alloc,
+        teller,
+        &design,
+        waves.as_slice(),
+        &buses,
+        WaveJson,
+        WAVES,
     )
 }
 

@@ -9,12 +9,13 @@ use Rattle.logic3.proofs.CallerLemmas.{changes_between-same}
 use Rattle.texts.specs.Text.{is_empty}
 use Rattle.vcd_dump.specs.Dump.{Trace}
 use Rattle.timing_diagram.specs.declared.form.Form.{Form}
-use Rattle.timing_diagram.specs.declared.form.Form.TheVariants.{Text, Svg}
+use Rattle.timing_diagram.specs.declared.form.Form.TheVariants.{Text, Svg, WaveJson}
 use Rattle.timing_diagram.specs.Bus.{BusTrace, are_alike, begins, bit_at, digit_at, digit_count, digits, fits, lasting, shows_bits, shows_same}
 use Rattle.timing_diagram.specs.Columns.{Ticks, IsDrawable, column_count, first_tick, last_tick, shown_tick}
 use Rattle.timing_diagram.specs.Marks.{is_steady, mark_at, shows_value}
 use Rattle.timing_diagram.specs.Picture.{widest, name_width, bus_labels, bus_path, bus_row, column_path, signal_path, trace_row, value_label, value_path}
 use Rattle.timing_diagram.specs.Drawing.{mark_byte, marks_text, bus_line, bus_piece, bus_text, line_text, drawing}
+use Rattle.timing_diagram.specs.WaveJson.{bus_character, bus_characters, bus_data, bus_value, bus_values, net_data, wave_character, wave_characters, wave_json_text}
 
 -- what is written of each number of a span
 flat_map-span : {A : Type 0} (first second : ℕ → List A) (from count : ℕ) → ((n : ℕ) → from ≤ n → n < from + count → first n ≡ second n) →
@@ -84,6 +85,16 @@ module _ (ticks : Ticks) (ok : IsDrawable ticks) (first second : ℕ → Value) 
   signal_path-same =
       flat_map-span (column_path first ticks) (column_path second ticks) 0 (column_count ticks)
       (λ column a b. rw (mark_at-same column (omega arith)) refl)
+
+  wave_characters-same : wave_characters first ticks ≡ wave_characters second ticks
+  wave_characters-same =
+      map-span (wave_character first ticks) (wave_character second ticks) 0 (column_count ticks)
+      (λ column a b. let inside : column < column_count ticks = omega arith in
+      rw (
+        shows_same-same (column - 1) column (omega arith) inside,
+        shows_value-same column inside,
+        same (shown_tick ticks column) (shown-within ticks column ok inside),
+      ) refl)
 
 -- the first place of a span at which a test passes
 position-span : (first second : ℕ → Bool) (from count : ℕ) → ((n : ℕ) → from ≤ n → n < from + count → first n ≡ second n) →
@@ -167,6 +178,18 @@ module _ {A : Type 0} (ticks : Ticks) (ok : IsDrawable ticks) (first second : A 
         (λ column a b. let inside : column < column_count ticks = omega arith in
         rw (begins-same column inside, shows_bits-same column inside xs, fits-same column inside, shown_digits-same column inside) refl)
 
+    bus_characters-same : bus_characters (map first xs) ticks ≡ bus_characters (map second xs) ticks
+    bus_characters-same =
+        map-span (bus_character (map first xs) ticks) (bus_character (map second xs) ticks) 0 (column_count ticks)
+        (λ column a b. let inside : column < column_count ticks = omega arith in
+        rw (begins-same column inside, shows_bits-same column inside xs) refl)
+
+    bus_values-same : bus_values (map first xs) ticks ≡ bus_values (map second xs) ticks
+    bus_values-same =
+        flat_map-span (bus_value (map first xs) ticks) (bus_value (map second xs) ticks) 0 (column_count ticks)
+        (λ column a b. let inside : column < column_count ticks = omega arith in
+        rw (begins-same column inside, shows_bits-same column inside xs, shown_digits-same column inside) refl)
+
 -- so do named signals
 module _ {A : Type 0} (ticks : Ticks) (ok : IsDrawable ticks) (name : A → List ℕ) (first second : A → ℕ → Value)
     (same : (x : A) (tick : ℕ) → tick ≤ ticks.to → first x tick ≡ second x tick) where
@@ -221,6 +244,24 @@ module _ {A : Type 0} (ticks : Ticks) (ok : IsDrawable ticks) (name : A → List
       let labels = bus_labels-same ticks ok first second same bus.1 left place in
       let rest = bus_rows-same left (place + 1) buses in rw (path, labels, rest) refl
 
+  nets_data-same : (xs : List A) → map (net_data ticks) (traced first xs) ≡ map (net_data ticks) (traced second xs)
+  nets_data-same [] = refl
+  nets_data-same (x ∷ xs) =
+      let here = wave_characters-same ticks ok (first x) (second x) (same x) in
+      let rest = nets_data-same xs in rw (here, rest) refl
+
+  buses_data-same : (buses : List (List ℕ × List A)) → map (bus_data ticks) (bused first buses) ≡ map (bus_data ticks) (bused second buses)
+  buses_data-same [] = refl
+  buses_data-same (bus ∷ buses) =
+      let values = bus_values-same ticks ok first second same bus.1 in
+      let wave = bus_characters-same ticks ok first second same bus.1 in
+      let rest = buses_data-same buses in rw (values, wave, rest) refl
+
+  wave_json-same : (xs : List A) (buses : List (List ℕ × List A)) →
+      wave_json_text ticks (traced first xs) (bused first buses) ≡ wave_json_text ticks (traced second xs) (bused second buses)
+  unfolding wave_json_text
+  wave_json-same xs buses = rw (nets_data-same xs, buses_data-same buses) refl
+
   pub drawing-same : (form : Form) (xs : List A) (buses : List (List ℕ × List A)) →
       drawing form ticks (traced first xs) (bused first buses) ≡ drawing form ticks (traced second xs) (bused second buses)
   drawing-same Text xs buses =
@@ -232,3 +273,4 @@ module _ {A : Type 0} (ticks : Ticks) (ok : IsDrawable ticks) (name : A → List
       ) refl
   drawing-same Svg xs buses =
       rw (widest-same xs, widest_bus-same buses, length-same xs, buses-same buses, rows-same _ 0 xs, bus_rows-same _ (length (traced second xs)) buses) refl
+  drawing-same WaveJson xs buses = wave_json-same xs buses

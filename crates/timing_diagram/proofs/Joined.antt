@@ -19,25 +19,25 @@ joined₈ l l₁ l₂ l₃ l₄ l₅ l₆ l₇ l₈ a b c d e f g h p q r s t u 
 pub regrouped₅ : (l a b c d e : List ℕ) → l ++ a ++ b ++ c ++ d ++ e ≡ l ++ (a ++ b ++ c ++ d ++ e)
 regrouped₅ l a b c d e = simp append_assoc
 
--- the texts of the numbers from one up to but not including another
-abbrev pub from_on : (ℕ → List ℕ) → ℕ → ℕ → List ℕ
+-- what is written of the numbers from one up to but not including another
+abbrev pub from_on : {A : Type 0} → (ℕ → List A) → ℕ → ℕ → List A
 from_on text at end = flat_map text (range_with_len at (end - at))
 
 -- one more of them
-pub from_on-more : (text : ℕ → List ℕ) (at end : ℕ) (xs ys : List ℕ) → at < end → ys ≡ xs ++ text at →
+pub from_on-more : {A : Type 0} (text : ℕ → List A) (at end : ℕ) (xs ys : List A) → at < end → ys ≡ xs ++ text at →
     ys ++ from_on text (at + 1) end ≡ xs ++ from_on text at end
 from_on-more text at end xs ys inside is =
     let one : end - at ≡ suc (end - (at + 1)) = omega arith in
     rw (is, one) (append_assoc xs (text at) (from_on text (at + 1) end))
 
-pub map-more : (f : ℕ → ℕ) (at end : ℕ) (xs ys : List ℕ) → at < end → ys ≡ xs ++ (f at ∷ []) →
+pub map-more : {A : Type 0} (f : ℕ → A) (at end : ℕ) (xs ys : List A) → at < end → ys ≡ xs ++ (f at ∷ []) →
     ys ++ map f (range_with_len (at + 1) (end - (at + 1))) ≡ xs ++ map f (range_with_len at (end - at))
 map-more f at end xs ys inside is =
     let one : end - at ≡ suc (end - (at + 1)) = omega arith in
     rw (is, one) (append_assoc xs (f at ∷ []) (map f (range_with_len (at + 1) (end - (at + 1)))))
 
 -- where none is left, those so far are all
-pub from_on-end : (text : ℕ → List ℕ) (at end : ℕ) (xs ys : List ℕ) → end ≤ at → xs ++ from_on text at end ≡ ys → xs ≡ ys
+pub from_on-end : {A : Type 0} (text : ℕ → List A) (at end : ℕ) (xs ys : List A) → end ≤ at → xs ++ from_on text at end ≡ ys → xs ≡ ys
 from_on-end text at end xs ys past so_far =
     let none : end - at ≡ 0 = omega (arith, past) in
     sym (append-nil xs) ∙ ap (λ n. xs ++ flat_map text (range_with_len at n)) (sym none) ∙ so_far

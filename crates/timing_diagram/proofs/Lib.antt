@@ -3,7 +3,9 @@ mod Bits
 pub mod CallerLemmas
 mod Escapes
 mod Joined
+mod Lanes
 mod Rulers
 mod Nets
 mod Shown
 mod Steady
+mod Waves

@@ -7,5 +7,6 @@ pub mod Ruler
 pub mod Faults
 pub mod Marks
 pub mod Picture
+pub mod WaveJson
 pub mod Drawing
 pub mod Read

@@ -10,6 +10,7 @@ use crate::columns::Columns;
 use crate::form::Form;
 use crate::picture::push_svg;
 use crate::text::push_text;
+use crate::wave_json::push_wave_json;
 use design::Design;
 use logic3::Waveform;
 use std::alloc::{AllocError, Global};
@@ -18,6 +19,7 @@ use texts::write_all_bytes;
 use vcd_dump::DumpFault;
 
 fn push_drawing(
+    alloc: Global,
     text: &mut Vec<u8>,
     design: &Design,
     shown: &[u32],
@@ -38,6 +40,7 @@ fn push_drawing(
             prove!(shown.len() as u64 <= u64::from(design.nets()));
             push_svg(text, design, shown, waves, buses, columns)
         }
+        Form::WaveJson => push_wave_json(alloc, text, design, shown, waves, buses, columns),
     }
 }
 
@@ -75,7 +78,7 @@ pub fn draw<W: Write>(
     ensures memory { result ≡ Err DumpFault.Memory → W.contents out.new ≡ W.contents out.old }
 {
     let mut text = Vec::new(alloc);
-    push_drawing(&mut text, design, shown, waves, buses, columns, form)?;
+    push_drawing(alloc, &mut text, design, shown, waves, buses, columns, form)?;
     write_all_bytes(out, text.as_slice())?;
     Ok(())
 }

@@ -5,4 +5,6 @@ pub enum Form {
     Text,
     /// As SVG, with lines.
     Svg,
+    /// As WaveJSON, which WaveDrom draws.
+    WaveJson,
 }

@@ -1,12 +1,14 @@
 //! Facts about the definitions alone.
-ghost use Rattle.std.specs.Prelude.{◌≡◌, ℕ, ◌+◌, ◌%◌, ◌<◌, ◌≤◌, ◌==◌, true, false, List, Some};
+ghost use Rattle.std.specs.Prelude.{◌≡◌, ℕ, ◌+◌, ◌%◌, ◌<◌, ◌≤◌, ◌==◌, true, false, List, Some, IsAscii};
 ghost use Rattle.std.specs.List.{list_any};
 ghost use Rattle.logic3.specs.declared.value.Value.{Value};
 ghost use Rattle.timing_diagram.specs.Columns.{Ticks, column_count, first_tick, last_tick};
 ghost use Rattle.timing_diagram.specs.Marks.{is_steady};
 ghost use Rattle.timing_diagram.specs.Picture.{escaped};
 ghost use Rattle.timing_diagram.specs.Ruler.{label_column, label_count, label_tick, ten_steps};
-ghost use Rattle.timing_diagram.specs.Read.{drawn_value, column_value};
+ghost use Rattle.serde_json.specs.Data.{string};
+ghost use Rattle.timing_diagram.specs.Read.{drawn_value, column_value, wave_value};
+ghost use Rattle.timing_diagram.specs.WaveJson.{text_data};
 
 /// The character of a column shows the value that the signal has at every tick of the column, and no value if
 /// the signal changes within the column. If columns show their ends, it shows the value at the last tick.
@@ -17,6 +19,14 @@ pub fn columns_show_the_signal()
         ticks.at_end ≡ true → drawn_value signal ticks column ≡ Some (signal (last_tick ticks column)) }
     ensures steady { (signal : ℕ → Value) (first last tick : ℕ) → is_steady signal first last ≡ true →
         first ≤ tick → tick ≤ last → signal tick ≡ signal first }
+{}
+
+/// The characters of WaveJSON up to a column show the value that the signal shows in the column, or none if it changes
+/// within, by the rule that a dot shows the same as the character before. ASCII is written as it is.
+pub fn waves_show_the_signal()
+    ensures shown { (signal : ℕ → Value) (ticks : Ticks) (column : ℕ) → column < column_count ticks →
+        wave_value signal ticks column ≡ column_value signal ticks column }
+    ensures ascii { (characters : List ℕ) → IsAscii characters → text_data characters ≡ string characters }
 {}
 
 /// A name escaped for XML has no mark that opens or closes a tag.

@@ -1,4 +1,4 @@
-//! Timing diagrams, as text and as SVG.
+//! Timing diagrams, as text, as SVG and as WaveJSON.
 #![tactic(auto)]
 
 mod bus;
@@ -9,6 +9,7 @@ mod diagram;
 mod digits;
 mod fault;
 mod form;
+mod json_text;
 pub mod laws;
 mod mark;
 mod marks;
@@ -16,6 +17,7 @@ mod picture;
 mod pieces;
 mod spans;
 mod text;
+mod wave_json;
 
 pub use bus::Bus;
 pub use columns::Columns;

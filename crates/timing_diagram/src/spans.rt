@@ -23,7 +23,7 @@ pub(crate) fn shows_bits(bits: &[Waveform], columns: Columns, column: u64) -> bo
 }
 
 /// Returns whether two columns show the same value of a bit.
-fn shows_same(bit: &Waveform, columns: Columns, column: u64, other: u64) -> bool
+pub(crate) fn shows_same(bit: &Waveform, columns: Columns, column: u64, other: u64) -> bool
     requires column { column < column_count columns }
     requires other { other < column_count columns }
     ensures { result ≡ shows_same columns column other (value_at bit.now) }

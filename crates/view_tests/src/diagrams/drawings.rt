@@ -1,6 +1,6 @@
 //! The worked circuits, drawn.
 use crate::diagrams::circuits::{CROSSING, Circuit, HAZARD, INVERTER, MARKED, S27, SAMPLER};
-use Form::{Svg, Text};
+use Form::{Svg, Text, WaveJson};
 use design::{Design, plain_waves};
 use logic3::Waveform;
 use std::alloc::Global;
@@ -73,7 +73,15 @@ const S27_TEXT: &[u8] = b"     0.........10........20........30........\n\
       G12  x\\_____________________/------------\n\
       G13  xx/----------\\______________________\n";
 
-static DRAWN: [Row; 13] = [
+// A tick above each column that has one in the text, and the characters of the columns.
+const INVERTER_WAVES: &[u8] = b"{\"foot\":{\"tick\":[\"0\",\"\",\"\",\"\",\"\",\"\",\"\",\"\",\"\",\"\"]},\
+      \"signal\":[{\"name\":\"a\",\"wave\":\"0..1..\"},{\"name\":\"y\",\"wave\":\"x1..0.\"}]}\n";
+
+const HAZARD_WAVES: &[u8] = b"{\"foot\":{\"tick\":[\"0\",\"\",\"\",\"\",\"\",\"\",\"\",\"\",\"\",\"\"]},\
+      \"signal\":[{\"name\":\"a\",\"wave\":\"0.|1.\"},{\"name\":\"b\",\"wave\":\"|0.1.\"},\
+      {\"name\":\"y\",\"wave\":\"x0.|0\"}]}\n";
+
+static DRAWN: [Row; 15] = [
     (
         INVERTER,
         5,
@@ -127,6 +135,8 @@ static DRAWN: [Row; 13] = [
     ),
     (S27, 35, (0, 35, 1), Text, S27_TEXT),
     (INVERTER, 5, (0, 5, 1), Svg, INVERTER_SVG),
+    (INVERTER, 5, (0, 5, 1), WaveJson, INVERTER_WAVES),
+    (HAZARD, 8, (0, 8, 2), WaveJson, HAZARD_WAVES),
     (INVERTER, 14, (3, 14, 1), Svg, ROUND_SVG),
     (HAZARD, 8, (4, 8, 2), Svg, HAZARD_SVG),
     (MARKED, 7, (7, 7, 1), Svg, MARKED_SVG),
@@ -176,7 +186,10 @@ const BUS_SVG: &[u8] =
       </svg>\n";
 
 // All nets of a circuit as one bus. Seventeen bits have five digits, for which one column isn't enough.
-static BUSES: [Row; 4] = [
+const BUS_WAVES: &[u8] = b"{\"foot\":{\"tick\":[\"0\",\"\",\"\",\"\",\"\",\"\",\"\",\"\",\"\",\"\"]},\
+      \"signal\":[{\"data\":[\"0\",\"6\"],\"name\":\"all\",\"wave\":\"|=||=\"}]}\n";
+
+static BUSES: [Row; 5] = [
     (
         INVERTER,
         5,
@@ -187,6 +200,7 @@ static BUSES: [Row; 4] = [
     (HAZARD, 8, (0, 8, 2), Text, b"     0.........\nall  |0||6\n"),
     (S27, 4, (0, 4, 1), Text, b"     0.........\nall  #####\n"),
     (INVERTER, 5, (0, 5, 1), Svg, BUS_SVG),
+    (HAZARD, 8, (0, 8, 2), WaveJson, BUS_WAVES),
 ];
 
 // The diagram of these nets and buses is this text.
