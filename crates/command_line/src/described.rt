@@ -16,6 +16,8 @@ pub(super) struct Described(
 pub(super) enum Takes {
     File,
     Number,
+    /// A number, in place of the options with these names, with which it conflicts.
+    NumberFor(&'static [&'static str]),
     /// One of these words, with the name that the help has for them.
     Word(&'static str, &'static [&'static str]),
     /// The name of a net.
@@ -116,7 +118,8 @@ fn valued<'a>(
 fn taking<'a>(arg: Arg<'a>, takes: Takes) -> Result<Arg<'a>, AllocError> {
     Ok(match takes {
         Takes::File => arg.value_name("FILE"),
-        Takes::Number => arg.value_name("N").value_parser(clap::value_parser!(u64)),
+        Takes::Number => number(arg),
+        Takes::NumberFor(others) => number(arg).conflicts_with_all(others)?,
         Takes::Word(name, words) => arg
             .value_name(name)
             .value_parser(words)
@@ -130,6 +133,10 @@ fn taking<'a>(arg: Arg<'a>, takes: Takes) -> Result<Arg<'a>, AllocError> {
         Takes::Nothing => arg.action(ArgAction::SetTrue),
         Takes::NothingFor(others) => arg.action(ArgAction::SetTrue).conflicts_with_all(others)?,
     })
+}
+
+fn number<'a>(arg: Arg<'a>) -> Arg<'a> {
+    arg.value_name("N").value_parser(clap::value_parser!(u64))
 }
 
 fn net_list<'a>(arg: Arg<'a>) -> Arg<'a> {

@@ -33,6 +33,9 @@ const STEP: &str = "The number of ticks in a column: at least 1; there can be at
 const AT_END: &str = "Show in each column the value at its last tick, whatever is before it: with\n\
      a clock's period as the step, a table of cycles";
 
+const WIDTH: &str = "Draw text on lines of at most this number of characters: the columns that\n\
+     don't fit are drawn below the others. Each line has at least ten columns";
+
 const SVG: &str = "Draw the diagram as an SVG picture, which browsers show";
 
 const WAVEJSON: &str = "Draw the diagram as WaveJSON, which WaveDrom draws";
@@ -40,12 +43,18 @@ const WAVEJSON: &str = "Draw the diagram as WaveJSON, which WaveDrom draws";
 const BUS: &str = "Also draw a bus in hexadecimal: data[7:0] is data[7] to data[0]; can be\n\
      repeated. Without --show and --nets, only the buses are drawn";
 
-static OPTIONS: [Described; 7] = [
+static OPTIONS: [Described; 8] = [
     Described("bus", Takes::Bus, Absent::Nothing, BUS),
     Described("from", Takes::Number, Absent::Default("0"), FROM),
     Described("to", Takes::Number, Absent::Nothing, TO),
     Described("step", Takes::Number, Absent::Default("1"), STEP),
     Described("at-end", Takes::Nothing, Absent::Nothing, AT_END),
+    Described(
+        "width",
+        Takes::NumberFor(&["svg", "wavejson"]),
+        Absent::Nothing,
+        WIDTH,
+    ),
     Described("svg", Takes::Nothing, Absent::Nothing, SVG),
     Described(
         "wavejson",
@@ -116,6 +125,6 @@ fn form_given(options: &ArgMatches<'_>) -> Form {
     } else if options.get_flag("wavejson") {
         Form::WaveJson
     } else {
-        Form::Text
+        options.get_one("width").map_or(Form::Text, Form::Folded)
     }
 }

@@ -1,20 +1,21 @@
 -- A drawing depends on what its signals show up to its last tick alone.
-use Rattle.std.proofs.Common.{◌≡◌, refl, ap, arith, ℕ, zero, suc, ◌+◌, ◌-◌, ◌*◌, ◌/◌, ◌<◌, ◌≤◌, nat_lt, List, [], ◌∷◌, length, map, max, flat_map, get_or, not, sym, ◌∙◌, if◌then◌else◌, add-one, Bool, true, false, cond}
+use Rattle.std.proofs.Common.{◌≡◌, refl, ap, arith, ℕ, zero, suc, ◌+◌, ◌-◌, ◌*◌, ◌/◌, ◌<◌, ◌≤◌, nat_lt, List, [], ◌∷◌, length, map, max, min, ◌++◌, flat_map, get_or, not, sym, ◌∙◌, if◌then◌else◌, add-one, Bool, true, false, cond}
 use Rattle.std.proofs.lemmas.List.{length-map}
 use Rattle.logic3.specs.declared.value.Value.TheVariants.{Zero, Unknown}
 use Rattle.std.proofs.Math.Nat.{div-mul-le_self, mul-le-mul_right}
+use Rattle.std.proofs.lemmas.Nat.{le-div}
 use Rattle.std.specs.List.{range_with_len, enumerate_from, position_or_len}
 use Rattle.logic3.specs.declared.value.Value.{Value}
 use Rattle.logic3.proofs.CallerLemmas.{changes_between-same}
 use Rattle.texts.specs.Text.{is_empty}
 use Rattle.vcd_dump.specs.Dump.{Trace}
 use Rattle.timing_diagram.specs.declared.form.Form.{Form}
-use Rattle.timing_diagram.specs.declared.form.Form.TheVariants.{Text, Svg, WaveJson}
+use Rattle.timing_diagram.specs.declared.form.Form.TheVariants.{Text, Folded, Svg, WaveJson}
 use Rattle.timing_diagram.specs.Bus.{BusTrace, are_alike, begins, bit_at, digit_at, digit_count, digits, fits, lasting, shows_bits, shows_same}
 use Rattle.timing_diagram.specs.Columns.{Ticks, IsDrawable, column_count, first_tick, last_tick, shown_tick}
 use Rattle.timing_diagram.specs.Marks.{is_steady, mark_at, shows_value}
-use Rattle.timing_diagram.specs.Picture.{widest, name_width, bus_labels, bus_path, bus_row, column_path, signal_path, trace_row, value_label, value_path}
-use Rattle.timing_diagram.specs.Drawing.{mark_byte, marks_text, bus_line, bus_piece, bus_text, line_text, drawing}
+use Rattle.timing_diagram.specs.Picture.{widest, name_width, bus_labels, bus_path, bus_row, column_path, signal_path, svg_text, trace_row, value_label, value_path}
+use Rattle.timing_diagram.specs.Drawing.{mark_byte, marks_text, bus_line, bus_piece, bus_text, columns_a_part, drawing, drawn_text, folded_text, line_text, part_below, part_from, parts_below}
 use Rattle.timing_diagram.specs.WaveJson.{bus_character, bus_characters, bus_data, bus_value, bus_values, net_data, wave_character, wave_characters, wave_json_text}
 
 -- what is written of each number of a span
@@ -262,15 +263,93 @@ module _ {A : Type 0} (ticks : Ticks) (ok : IsDrawable ticks) (name : A → List
   unfolding wave_json_text
   wave_json-same xs buses = rw (nets_data-same xs, buses_data-same buses) refl
 
-  pub drawing-same : (form : Form) (xs : List A) (buses : List (List ℕ × List A)) →
-      drawing form ticks (traced first xs) (bused first buses) ≡ drawing form ticks (traced second xs) (bused second buses)
-  drawing-same Text xs buses =
+  svg-same : (xs : List A) (buses : List (List ℕ × List A)) →
+      svg_text ticks (traced first xs) (bused first buses) ≡ svg_text ticks (traced second xs) (bused second buses)
+  svg-same xs buses =
+      rw (widest-same xs, widest_bus-same buses, length-same xs, buses-same buses, rows-same _ 0 xs, bus_rows-same _ (length (traced second xs)) buses) refl
+
+  drawn-same : (xs : List A) (buses : List (List ℕ × List A)) →
+      drawn_text ticks (traced first xs) (bused first buses) ≡ drawn_text ticks (traced second xs) (bused second buses)
+  drawn-same xs buses =
       rw (
         widest-same xs,
         widest_bus-same buses,
         lines-same (name_width (traced second xs) (bused second buses)) xs,
         bus_lines-same (name_width (traced second xs) (bused second buses)) buses,
       ) refl
-  drawing-same Svg xs buses =
-      rw (widest-same xs, widest_bus-same buses, length-same xs, buses-same buses, rows-same _ 0 xs, bus_rows-same _ (length (traced second xs)) buses) refl
-  drawing-same WaveJson xs buses = wave_json-same xs buses
+
+-- a part of drawable ticks is drawable
+part-drawable : (ticks : Ticks) (columns column : ℕ) → IsDrawable ticks → column < column_count ticks → IsDrawable (part_from ticks columns column)
+part-drawable ticks columns column ok inside =
+    let begins = begins-within ticks column ok inside in
+    let most : column ≤ min (column + (columns - 1)) (column_count ticks - 1) = omega (arith, inside) in
+    let later : column * ticks.step ≤ min (column + (columns - 1)) (column_count ticks - 1) * ticks.step = mul-le-mul_right ticks.step most in
+    let to : last_tick ticks (min (column + (columns - 1)) (column_count ticks - 1)) ≤ ticks.to = omega arith in
+    let part = last_tick ticks (min (column + (columns - 1)) (column_count ticks - 1)) - first_tick ticks column in
+    let whole : part / ticks.step * ticks.step ≤ part = div-mul-le_self part ticks.step in
+    let fewer = le-div (part / ticks.step) (ticks.to - ticks.from) ticks.step ok.some (omega (arith, whole, to)) in
+    record {
+      some = ok.some;
+      forward = omega (arith, begins, later);
+      few = (let few = ok.few in omega (arith, few, fewer));
+    }
+
+-- each part after the first begins at a column
+part-inside : (part columns count : ℕ) → part < (count - 1) / columns → (part + 1) * columns < count
+part-inside part columns count below =
+    let all : (count - 1) / columns * columns ≤ count - 1 = div-mul-le_self (count - 1) columns in
+    let most : (part + 1) * columns ≤ (count - 1) / columns * columns = mul-le-mul_right columns (omega (arith, below)) in
+    let some : 0 < (count - 1) / columns = omega (arith, below) in
+    omega (arith, all, most, some)
+
+-- so do the drawings of named signals
+module _ {A : Type 0} (ticks : Ticks) (ok : IsDrawable ticks) (name : A → List ℕ) (first second : A → ℕ → Value)
+    (same : (x : A) (tick : ℕ) → tick ≤ ticks.to → first x tick ≡ second x tick) where
+  -- named signals, and buses of them
+  abbrev nets_as : (A → ℕ → Value) → List A → List Trace
+  nets_as shown xs = map (λ x. (name x, shown x)) xs
+
+  abbrev buses_as : (A → ℕ → Value) → List (List ℕ × List A) → List BusTrace
+  buses_as shown buses = map (λ (bus : List ℕ × List A). (bus.0, map shown bus.1)) buses
+
+  part-same : (columns column : ℕ) → column < column_count ticks → (xs : List A) (buses : List (List ℕ × List A)) →
+      drawn_text (part_from ticks columns column) (nets_as first xs) (buses_as first buses)
+      ≡ drawn_text (part_from ticks columns column) (nets_as second xs) (buses_as second buses)
+  part-same columns column inside xs buses =
+      drawn-same (part_from ticks columns column) (part-drawable ticks columns column ok inside) name first second
+      (λ x tick within. same x tick (omega (arith, within))) xs buses
+
+  -- the parts of this number of columns
+  abbrev parts : ℕ → List Trace → List BusTrace → List ℕ
+  parts columns traces buses =
+      drawn_text (part_from ticks columns 0) traces buses ++ flat_map (part_below ticks columns traces buses) (range_with_len 0 (parts_below ticks columns))
+
+  parts-same : (columns : ℕ) (xs : List A) (buses : List (List ℕ × List A)) →
+      parts columns (nets_as first xs) (buses_as first buses) ≡ parts columns (nets_as second xs) (buses_as second buses)
+  parts-same columns xs buses =
+      let above = part-same columns 0 (omega arith) xs buses in
+      let below = flat_map-span (part_below ticks columns (nets_as first xs) (buses_as first buses))
+      (part_below ticks columns (nets_as second xs) (buses_as second buses)) 0 (parts_below ticks columns)
+      (λ part from inside. ap (λ text. 10 ∷ text)
+      (part-same columns ((part + 1) * columns) (part-inside part columns (column_count ticks) (omega (arith, inside))) xs buses)) in
+      ap (λ text. text ++ flat_map (part_below ticks columns (nets_as first xs) (buses_as first buses)) (range_with_len 0 (parts_below ticks columns))) above
+      ∙ ap (λ text. drawn_text (part_from ticks columns 0) (nets_as second xs) (buses_as second buses) ++ text) below
+
+  widths-same : (xs : List A) (buses : List (List ℕ × List A)) →
+      name_width (nets_as first xs) (buses_as first buses) ≡ name_width (nets_as second xs) (buses_as second buses)
+  widths-same xs buses =
+      let nets = widest-same ticks ok name first second same xs in
+      let widest_buses = widest_bus-same ticks ok name first second same buses in rw (nets, widest_buses) refl
+
+  folded-same : (line : ℕ) (xs : List A) (buses : List (List ℕ × List A)) →
+      folded_text line ticks (nets_as first xs) (buses_as first buses) ≡ folded_text line ticks (nets_as second xs) (buses_as second buses)
+  folded-same line xs buses =
+      ap (λ width. parts (columns_a_part line width) (nets_as first xs) (buses_as first buses)) (widths-same xs buses)
+      ∙ parts-same (columns_a_part line (name_width (nets_as second xs) (buses_as second buses))) xs buses
+
+  pub drawing-same : (form : Form) (xs : List A) (buses : List (List ℕ × List A)) →
+      drawing form ticks (nets_as first xs) (buses_as first buses) ≡ drawing form ticks (nets_as second xs) (buses_as second buses)
+  drawing-same Text xs buses = drawn-same ticks ok name first second same xs buses
+  drawing-same (Folded line) xs buses = folded-same line xs buses
+  drawing-same Svg xs buses = svg-same ticks ok name first second same xs buses
+  drawing-same WaveJson xs buses = wave_json-same ticks ok name first second same xs buses

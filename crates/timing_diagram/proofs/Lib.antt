@@ -2,6 +2,7 @@ mod Alike
 mod Bits
 pub mod CallerLemmas
 mod Escapes
+mod Folds
 mod Joined
 mod Lanes
 mod Rulers

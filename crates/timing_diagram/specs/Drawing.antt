@@ -1,14 +1,14 @@
 -- The text of a drawing.
-use Rattle.std.specs.Prelude.{ℕ, ◌-◌, if◌then◌else◌, List, [], ◌++◌, length, map, flat_map, replicate, codes, decimal}
+use Rattle.std.specs.Prelude.{ℕ, ◌+◌, ◌-◌, ◌*◌, ◌/◌, min, max, if◌then◌else◌, List, [], ◌++◌, length, map, flat_map, replicate, codes, decimal}
 use Rattle.std.specs.List.{range_with_len}
 use Rattle.logic3.specs.declared.value.Value.{Value}
 use Rattle.vcd_dump.specs.Dump.{Trace}
 use Rattle.timing_diagram.specs.declared.mark.Mark.{Mark}
 use Rattle.timing_diagram.specs.declared.mark.Mark.TheVariants.{Low, Fall, High, Rise, Unsure, Changing}
 use Rattle.timing_diagram.specs.declared.form.Form.{Form}
-use Rattle.timing_diagram.specs.declared.form.Form.TheVariants.{Text, Svg, WaveJson}
+use Rattle.timing_diagram.specs.declared.form.Form.TheVariants.{Text, Folded, Svg, WaveJson}
 use Rattle.timing_diagram.specs.Bus.{BusTrace, begins, digit_count, digits, fits, lasting, shows_bits}
-use Rattle.timing_diagram.specs.Columns.{Ticks, column_count, shown_tick}
+use Rattle.timing_diagram.specs.Columns.{Ticks, column_count, first_tick, last_tick, shown_tick}
 use Rattle.timing_diagram.specs.Marks.{mark_at}
 use Rattle.timing_diagram.specs.Ruler.{label_column, label_count, label_tick}
 use Rattle.timing_diagram.specs.Picture.{name_width, svg_text}
@@ -72,8 +72,40 @@ drawn_text ticks traces buses =
     let width = name_width traces buses in
     ruler_text width ticks ++ flat_map (line_text width ticks) traces ++ flat_map (bus_line width ticks) buses
 
+-- the characters of a line beside its name and its columns: two spaces, and nine by which a label goes on after its column
+abbrev pub beside_columns : ℕ
+beside_columns = 11
+
+-- the number of columns in a part, given the characters of a line and those of the longest name: what fits, in tens, and at
+-- least ten
+abbrev pub columns_a_part : ℕ → ℕ → ℕ
+columns_a_part line names = max 10 ((line - names - beside_columns) / 10 * 10)
+
+-- the number of parts after the first one, if each has this number of columns, but for the last
+abbrev pub parts_below : Ticks → ℕ → ℕ
+parts_below ticks columns = (column_count ticks - 1) / columns
+
+-- the ticks of the part that begins at a column
+abbrev pub part_from : Ticks → ℕ → ℕ → Ticks
+part_from ticks columns column = record ticks {
+  from = first_tick ticks column;
+  to = last_tick ticks (min (column + (columns - 1)) (column_count ticks - 1));
+}
+
+-- the part after one, below an empty line
+abbrev pub part_below : Ticks → ℕ → List Trace → List BusTrace → ℕ → List ℕ
+part_below ticks columns traces buses part = codes "\n" ++ drawn_text (part_from ticks columns ((part + 1) * columns)) traces buses
+
+-- the drawing on lines of this number of characters: each part as a drawing of its ticks
+abbrev pub folded_text : ℕ → Ticks → List Trace → List BusTrace → List ℕ
+folded_text line ticks traces buses =
+    let columns = columns_a_part line (name_width traces buses) in
+    drawn_text (part_from ticks columns 0) traces buses
+    ++ flat_map (part_below ticks columns traces buses) (range_with_len 0 (parts_below ticks columns))
+
 -- the drawing in a form
 abbrev pub drawing : Form → Ticks → List Trace → List BusTrace → List ℕ
 drawing Text ticks traces buses = drawn_text ticks traces buses
+drawing (Folded line) ticks traces buses = folded_text line ticks traces buses
 drawing Svg ticks traces buses = svg_text ticks traces buses
 drawing WaveJson ticks traces buses = wave_json_text ticks traces buses

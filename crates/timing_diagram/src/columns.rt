@@ -1,4 +1,4 @@
-ghost use Rattle.std.specs.Prelude.{◌≡◌, ◌<◌, ◌≤◌, ◌*◌, ◌+◌, ◌/◌, Result, Ok, Err, IfOk};
+ghost use Rattle.std.specs.Prelude.{◌≡◌, ℕ, ◌<◌, ◌≤◌, ◌*◌, ◌+◌, ◌/◌, Result, Ok, Err, IfOk};
 ghost use Rattle.timing_diagram.specs.Columns.{most_columns};
 
 use crate::fault::ColumnsFault;
@@ -35,6 +35,7 @@ impl Model for Columns {
 
 impl Columns {
     ghost use Rattle.timing_diagram.specs.Columns.{IsDrawable, columns_of, column_count, first_tick, last_tick, shown_tick};
+    ghost use Rattle.timing_diagram.specs.Drawing.{part_from, parts_below};
     ghost use Rattle.timing_diagram.specs.Ruler.{first_label, label_column, label_count, label_tick};
 
     /// Returns the ticks from `from` to `to`, in columns of `step` ticks, of a run up to this horizon. If
@@ -109,6 +110,29 @@ impl Columns {
             self.last(column)
         } else {
             self.first(column)
+        }
+    }
+
+    /// Returns the number of parts after the first one, if each has this number of columns, but for the last.
+    pub(crate) fn parts_below(self, columns: u64) -> u64
+        requires { 1 ≤ columns }
+        ensures count { result ≡ parts_below self columns }
+        ensures inside { (part : ℕ) → part < result → (part + 1) * columns < column_count self }
+    {
+        (self.count() - 1) / columns
+    }
+
+    /// Returns the ticks of the part with this number of columns that begins at a column.
+    pub(crate) fn part(self, column: u64, columns: u64) -> Columns
+        requires begin { column < column_count self }
+        requires some { 1 ≤ columns }
+        ensures { result ≡ part_from self columns column }
+    {
+        let last = column.saturating_add(columns - 1).min(self.count() - 1);
+        Columns {
+            from: self.first(column),
+            to: self.last(last),
+            ..self
         }
     }
 

@@ -7,6 +7,7 @@ ghost use Rattle.timing_diagram.specs.Drawing.{drawing};
 
 use crate::bus::Bus;
 use crate::columns::Columns;
+use crate::folded::push_folded;
 use crate::form::Form;
 use crate::picture::push_svg;
 use crate::text::push_text;
@@ -36,6 +37,7 @@ fn push_drawing(
 {
     match form {
         Form::Text => push_text(text, design, shown, waves, buses, columns),
+        Form::Folded(line) => { push_folded(text, design, shown, waves, buses, columns, line) }
         Form::Svg => {
             prove!(shown.len() as u64 <= u64::from(design.nets()));
             push_svg(text, design, shown, waves, buses, columns)

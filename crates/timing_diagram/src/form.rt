@@ -3,6 +3,9 @@
 pub enum Form {
     /// As plain text, one character per column.
     Text,
+    /// As plain text on lines of this number of characters: the columns are cut into parts of ten, twenty and so on,
+    /// and each part is drawn below the one before.
+    Folded(u64),
     /// As SVG, with lines.
     Svg,
     /// As WaveJSON, which WaveDrom draws.

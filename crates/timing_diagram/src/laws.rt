@@ -2,9 +2,12 @@
 ghost use Rattle.std.specs.Prelude.{◌≡◌, ℕ, ◌+◌, ◌%◌, ◌<◌, ◌≤◌, ◌==◌, true, false, List, Some, IsAscii};
 ghost use Rattle.std.specs.List.{list_any};
 ghost use Rattle.logic3.specs.declared.value.Value.{Value};
-ghost use Rattle.timing_diagram.specs.Columns.{Ticks, column_count, first_tick, last_tick};
+ghost use Rattle.timing_diagram.specs.Bus.{BusTrace};
+ghost use Rattle.timing_diagram.specs.Columns.{Ticks, IsDrawable, column_count, first_tick, last_tick};
+ghost use Rattle.timing_diagram.specs.Drawing.{columns_a_part, drawn_text, folded_text};
 ghost use Rattle.timing_diagram.specs.Marks.{is_steady};
-ghost use Rattle.timing_diagram.specs.Picture.{escaped};
+ghost use Rattle.timing_diagram.specs.Picture.{escaped, name_width};
+ghost use Rattle.vcd_dump.specs.Dump.{Trace};
 ghost use Rattle.timing_diagram.specs.Ruler.{label_column, label_count, label_tick, ten_steps};
 ghost use Rattle.serde_json.specs.Data.{string};
 ghost use Rattle.timing_diagram.specs.Read.{drawn_value, column_value, wave_value};
@@ -45,4 +48,11 @@ pub fn labels_are_round()
     ensures inside { (ticks : Ticks) (place : ℕ) → 1 ≤ ticks.step → ticks.from ≤ label_tick ticks place →
         (first_tick ticks (label_column ticks place) ≤ label_tick ticks place)
         × (label_tick ticks place < first_tick ticks (label_column ticks place + 1)) }
+{}
+
+/// A drawing whose columns fit on a line isn't folded.
+pub fn short_drawings_stay()
+    ensures { (line : ℕ) (ticks : Ticks) (traces : List Trace) (buses : List BusTrace) → IsDrawable ticks →
+        column_count ticks ≤ columns_a_part line (name_width traces buses) →
+        folded_text line ticks traces buses ≡ drawn_text ticks traces buses }
 {}

@@ -8,6 +8,7 @@ mod columns;
 mod diagram;
 mod digits;
 mod fault;
+mod folded;
 mod form;
 mod json_text;
 pub mod laws;
