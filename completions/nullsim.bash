@@ -19,7 +19,8 @@ _nullsim_options() {
         plain) options=(--bench=FILE --verbose --delays=FILE --stimuli=FILE --delay=N --period=N --horizon=N
             --show=all/outputs --nets=NAMES --unit=s/ms/us/ns/ps/fs --progress --help) ;;
         draw) options=(--bench=FILE --verbose --delays=FILE --stimuli=FILE --delay=N --period=N --horizon=N
-            --show=all/outputs --nets=NAMES --bus=BUS --from=N --to=N --step=N --at-end --svg --progress --help) ;;
+            --show=all/outputs --nets=NAMES --bus=BUS --from=N --to=N --step=N --at-end --svg --wavejson --progress
+            --help) ;;
         trace) options=(--bench=FILE --verbose --delays=FILE --stimuli=FILE --delay=N --period=N --horizon=N
             --schedule=FILE --seed=N --picks=N --no-idle --net=NAME --frontiers --nets=NAMES --help) ;;
         why) options=(--bench=FILE --verbose --delays=FILE --stimuli=FILE --delay=N --period=N --net=NAME --at=N
