@@ -1,10 +1,10 @@
 -- The changes of a waveform after a tick are those of what it shows.
-use Rattle.std.proofs.Common.{◌≡◌, ◌∙◌, refl, ap, sym, subst, arith, ℕ, zero, suc, ◌+◌, ◌<◌, ◌≤◌, ◌⊎◌, inl, inr, List, [], ◌∷◌, max, All, nat_le}
+use Rattle.std.proofs.Common.{◌≡◌, ◌∙◌, refl, ap, sym, subst, arith, ℕ, zero, suc, ◌+◌, ◌<◌, ◌≤◌, ◌⊎◌, inl, inr, List, [], ◌∷◌, max, All}
 use Rattle.std.proofs.lemmas.Bool.{cases_lt, le-leb, lt-leb}
 use Rattle.std.proofs.lemmas.List.Elements.{All-cons, All-nil}
 use Rattle.logic3.specs.declared.value.Value.{Value}
 use Rattle.logic3.specs.declared.change.Change.{Change}
-use Rattle.logic3.specs.Wave.{Alternates, IsWave, Wave, changes_below, changes_between, changes_from, changes_within, value_after, value_at, value_before}
+use Rattle.logic3.specs.Wave.{Alternates, IsWave, Wave, changes_between, changes_within, value_after, value_at}
 use Rattle.logic3.proofs.CallerLemmas.{changes_between-same, changes_between-value_after, changes_within-between, value_after-ahead}
 use Rattle.timing_diagram.specs.Columns.{Ticks}
 use Rattle.timing_diagram.specs.WavesPage.{later_changes}

@@ -1,5 +1,5 @@
 -- What a page shows depends on what its signals show up to the last tick alone, and has no float.
-use Rattle.std.proofs.Common.{◌≡◌, ◌∙◌, refl, sym, ap, arith, ℕ, ◌+◌, ◌≤◌, nat_lt, List, [], ◌∷◌, ◌++◌, map, length, add-one, false, append_assoc}
+use Rattle.std.proofs.Common.{◌≡◌, ◌∙◌, refl, sym, ap, arith, ℕ, ◌+◌, ◌≤◌, List, [], ◌∷◌, ◌++◌, map, length, add-one, false}
 use Rattle.std.specs.List.{sum_by}
 use Rattle.std.proofs.lemmas.List.Sums.{sum_by-cons}
 use Rattle.logic3.specs.declared.value.Value.{Value}
@@ -14,7 +14,7 @@ use Rattle.timing_diagram.specs.declared.form.Form.{Form}
 use Rattle.timing_diagram.specs.declared.form.Form.TheVariants.{Text, Svg, WaveJson, Html}
 use Rattle.timing_diagram.specs.Bus.{BusTrace}
 use Rattle.timing_diagram.specs.Columns.{Ticks}
-use Rattle.timing_diagram.specs.WavesPage.{begin_ticks, bit_lane, bus_lane, is_too_long, later_changes, most_values, net_lane, number_data, page_data, page_text, page_values, ticks_data, unopened, value_count}
+use Rattle.timing_diagram.specs.WavesPage.{begin_ticks, bit_lane, bus_lane, is_too_long, later_changes, net_lane, number_data, page_data, page_text, unopened, value_count}
 use Rattle.timing_diagram.proofs.Joined.{joined₃}
 use Rattle.timing_diagram.proofs.Lanes.{none-map}
 

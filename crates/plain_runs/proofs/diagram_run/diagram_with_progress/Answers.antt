@@ -1,10 +1,7 @@
-use Rattle.std.proofs.Common.{ℕ, ◌+◌, List, Result, sym, subst, arith}
+use Rattle.std.proofs.Common.{◌+◌, sym, subst, arith}
 use Rattle.std.proofs.lemmas.Result.{err_from_is_err_and}
 use Rattle.prepared_runs.specs.Source.{design_of_source, seen_source}
-use Rattle.plain_runs.specs.declared.diagram_fault.DiagramFault.{DiagramFault}
-use Rattle.plain_runs.specs.declared.diagram_fault.DiagramFault.TheVariants.{Run}
-use Rattle.plain_runs.specs.Drawn.{DiagramEndsBy}
-use Rattle.plain_runs.proofs.Diagrams.{DiagramEndsBy-BreaksOff, DiagramEndsBy-IsRefusal, DiagramEndsBy-ticks, diagram_of_source-bad_ticks, diagram_of_source-bad, diagram_of_source-good, diagram_of_source-no_lanes}
+use Rattle.plain_runs.proofs.Diagrams.{DiagramEndsBy-IsRefusal, DiagramEndsBy-ticks, diagram_of_source-bad_ticks, diagram_of_source-bad, diagram_of_source-good, diagram_of_source-no_lanes}
 use Rattle.prepared_runs.specs.Reported.{CountsBelow, CountsTo, Reported}
 use Rattle.prepared_runs.proofs.CallerLemmas.{AreLanes-lanes_of, IsReady-design_of_source, tick_by_tick-nothing}
 use Rattle.plain_runs.proofs.diagram_run.diagram_with_progress.Goals as goal
