@@ -62,7 +62,7 @@ static OPTIONS: [(&str, &str); 3] = [
 ];
 
 /// The options of one command alone.
-static ELSEWHERE: [(&str, &str); 13] = [
+static ELSEWHERE: [(&str, &str); 14] = [
     ("counts", "run"),
     ("clock", "stimuli"),
     ("hold", "stimuli"),
@@ -72,6 +72,7 @@ static ELSEWHERE: [(&str, &str); 13] = [
     ("step", "draw"),
     ("svg", "draw"),
     ("wavejson", "draw"),
+    ("html", "draw"),
     ("width", "draw"),
     ("to", "draw"),
     ("no-idle", "trace"),

@@ -10,12 +10,13 @@ use Rattle.logic3.proofs.CallerLemmas.{changes_between-same}
 use Rattle.texts.specs.Text.{is_empty}
 use Rattle.vcd_dump.specs.Dump.{Trace}
 use Rattle.timing_diagram.specs.declared.form.Form.{Form}
-use Rattle.timing_diagram.specs.declared.form.Form.TheVariants.{Text, Folded, Svg, WaveJson}
+use Rattle.timing_diagram.specs.declared.form.Form.TheVariants.{Text, Folded, Svg, WaveJson, Html}
 use Rattle.timing_diagram.specs.Bus.{BusTrace, are_alike, begins, bit_at, digit_at, digit_count, digits, fits, lasting, shows_bits, shows_same}
 use Rattle.timing_diagram.specs.Columns.{Ticks, IsDrawable, column_count, first_tick, last_tick, shown_tick}
 use Rattle.timing_diagram.specs.Marks.{is_steady, mark_at, shows_value}
 use Rattle.timing_diagram.specs.Picture.{widest, name_width, bus_labels, bus_path, bus_row, column_path, signal_path, svg_text, trace_row, value_label, value_path}
 use Rattle.timing_diagram.specs.Drawing.{mark_byte, marks_text, bus_line, bus_piece, bus_text, columns_a_part, drawing, drawn_text, folded_text, line_text, part_below, part_from, parts_below}
+use Rattle.timing_diagram.proofs.Pages.{page-same}
 use Rattle.timing_diagram.specs.WaveJson.{bus_character, bus_characters, bus_data, bus_value, bus_values, net_data, wave_character, wave_characters, wave_json_text}
 
 -- what is written of each number of a span
@@ -353,3 +354,4 @@ module _ {A : Type 0} (ticks : Ticks) (ok : IsDrawable ticks) (name : A → List
   drawing-same (Folded line) xs buses = folded-same line xs buses
   drawing-same Svg xs buses = svg-same ticks ok name first second same xs buses
   drawing-same WaveJson xs buses = wave_json-same ticks ok name first second same xs buses
+  drawing-same Html xs buses = page-same ticks ok.forward first second same name xs buses
