@@ -26,7 +26,7 @@ pub(super) enum Takes {
     Fault,
     /// The names of nets, as positional arguments.
     Nets,
-    /// The names of nets, separated by commas; may be repeated.
+    /// Words that mean nets, separated by commas; may be repeated.
     NetList,
     /// The same, in place of the option with this name, with which it conflicts.
     NetListFor(&'static str),

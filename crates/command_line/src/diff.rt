@@ -23,8 +23,9 @@ const ENDS: &str = ends!(
     "nullsim diff --horizon 12 --nets p --first examples/parity.bench --first-stimuli examples/parity.stimuli --second examples/bigger.bench --second-stimuli examples/bigger.stimuli"
 );
 
-const NETS: &str = "The nets to compare, by their names in both circuits, such as y,q; or all;\n\
-     without this option the outputs of both";
+const NETS: &str = "The nets to compare, by their names in both circuits: names, ranges,\n\
+     patterns or outputs, such as y,data[7:0],bit*; or all; without this\n\
+     option the outputs of both";
 
 const FROM: &str = "The first tick to compare: 0 up to the horizon";
 

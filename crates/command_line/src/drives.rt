@@ -1,6 +1,7 @@
 //! The options for what drives inputs, and their values.
 use crate::described::{Absent, Described, Takes};
 use crate::help::mistake;
+use crate::numbers::number_of;
 use clap::error::ErrorKind;
 use clap::{ArgMatches, Error};
 use drawn_stimuli::{Drive, Driven};
@@ -89,7 +90,7 @@ fn clock_of(word: &str) -> Option<Drive> {
     match word.split_once(',') {
         Some((half, rest)) => clock_from(half, rest),
         None => Some(Drive::Clock {
-            half: word.parse().ok()?,
+            half: number_of(word)?,
         }),
     }
 }
@@ -103,8 +104,8 @@ fn clock_from(half: &str, rest: &str) -> Option<Drive> {
         None => (rest, false),
     };
     Some(Drive::ClockFrom {
-        half: half.parse().ok()?,
-        first: first.parse().ok()?,
+        half: number_of(half)?,
+        first: number_of(first)?,
         begins_high,
     })
 }
@@ -121,7 +122,7 @@ fn held_of(word: &str) -> Option<Drive> {
         return bits_of(digits, 2);
     }
     Some(Drive::HoldBits {
-        ones: word.parse().ok()?,
+        ones: number_of(word)?,
         unknown: 0,
     })
 }
@@ -156,7 +157,7 @@ fn digit_of(digit: u8, radix: u64) -> Option<(u64, u64)> {
 fn pulse_of(word: &str) -> Option<Drive> {
     let (from, to) = word.split_once("..")?;
     Some(Drive::Pulse {
-        from: from.parse().ok()?,
-        to: to.parse().ok()?,
+        from: number_of(from)?,
+        to: number_of(to)?,
     })
 }

@@ -13,6 +13,7 @@ mod explain;
 mod help;
 mod hints;
 mod info;
+mod numbers;
 mod options;
 mod order;
 mod picks;

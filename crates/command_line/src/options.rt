@@ -70,8 +70,8 @@ const HORIZON: &str = "The last tick of the run: 0 to 10000000";
 
 const SHOW: &str = "The nets to show: all or outputs";
 
-const NETS: &str = "The nets to show, by name and in this order, such as y,q; can't be used\n\
-     with --show";
+const NETS: &str = "The nets to show, in this order: names, ranges, patterns or outputs, such\n\
+     as y,data[7:0],bit*; can't be used with --show";
 
 const UNIT: &str = "The length of a tick in the dump: s, ms, us, ns, ps or fs";
 

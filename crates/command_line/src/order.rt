@@ -79,7 +79,7 @@ pub enum Order<'a> {
     Diff {
         first: SourceOptions<'a>,
         second: SourceOptions<'a>,
-        /// The names of the nets, or `all`; if there are none, the outputs of both runs are compared.
+        /// The words for the nets, or `all`; if there are none, the outputs of both runs are compared.
         names: Vec<&'a [u8]>,
         ticks: DiffTicks,
     },
@@ -159,7 +159,7 @@ impl<'a> Order<'a> {
         }
     }
 
-    /// Returns the nets that the order names.
+    /// Returns the names of nets, or words for nets, that the order gives.
     pub fn names<'o>(&'o self) -> &'o [&'a [u8]]
         ensures { seen_names result.now ≡ names_asked self.now }
     {

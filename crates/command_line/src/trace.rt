@@ -26,8 +26,8 @@ const FRONTIERS: &str =
     "In place of events, write a table of frontiers: the number of known ticks of\n\
      each net at the start and after each round";
 
-const NETS: &str = "The nets in the table, by name and in this order, such as y,q; only with\n\
-     --frontiers";
+const NETS: &str = "The nets in the table, in this order: names, ranges, patterns or outputs,\n\
+     such as y,data[7:0],bit*; only with --frontiers";
 
 static OPTIONS: [Described; 4] = [
     Described("no-idle", Takes::Nothing, Absent::Nothing, NO_IDLE),

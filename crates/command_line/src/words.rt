@@ -5,6 +5,7 @@ ghost use Rattle.command_line.specs.Words.{HelpsIfAsked, asks_for_help};
 use crate::chance::without_chance;
 use crate::help::{mistake, program};
 use crate::hints::with_tip;
+use crate::numbers::refuse_signs;
 use crate::order::Order;
 use crate::{check, cone, diff, draw, explain, info, plain, run, stimuli, trace, twin, why};
 use clap::error::ErrorKind;
@@ -95,6 +96,9 @@ fn read_asked<'a>(alloc: Global, words: &'a [String]) -> Result<Asked<'a>, Error
     let matches = program(alloc)?.try_get_matches_from(words)?;
     if let Some(("explain", options)) = matches.subcommand() {
         return explain::asked_given(alloc, options);
+    }
+    if let Some((_, options)) = matches.subcommand() {
+        refuse_signs(alloc, options)?;
     }
     Ok(Asked::Order {
         order: order_matched(alloc, &matches)?,

@@ -178,7 +178,8 @@ pub(crate) static TICKS: [Explanation; 2] = [
 
 pub(crate) static NAMES: [Explanation; 1] = [Explanation {
     name: "UnknownNet",
-    meaning: "no net of the circuit has a name that the arguments give.",
+    meaning: "a name or a word in the arguments means no net of the circuit. In --nets, data[7:0] means\n\
+         the nets data[7] to data[0], bit* all nets whose names begin with bit, and outputs all outputs.",
     wanted: "the name of a net that the .bench text defines, byte for byte",
     example: Some(Example {
         line: 0,

@@ -1,5 +1,5 @@
--- Which names are known, and which are those of outputs, by the marks of the outputs.
-use Rattle.std.proofs.Common.{◌≡◌, ◌≢◌, ℕ, ◌+◌, ◌<◌, ◌==◌, ◌||◌, Bool, true, false, List, [], ◌∷◌, ◌++◌, cond, take, filter, length, map, append_assoc, append-nil, arith, get_or, All, Option, Some, None, is_some, Bor, bytes_eq, refl, sym, ap, ◌∙◌, ◌⊎◌, inl, inr}
+-- The names for words, one word after the other, and which names are those of marked nets.
+use Rattle.std.proofs.Common.{◌≡◌, ◌≢◌, ℕ, ◌+◌, ◌<◌, ◌==◌, ◌||◌, Bool, true, false, List, [], ◌∷◌, ◌++◌, cond, drop, take, filter, flat_map, length, map, append_assoc, append-nil, arith, get_or, All, Option, Some, None, is_some, Bor, bytes_eq, refl, sym, ap, ◌∙◌, ◌⊎◌, inl, inr}
 use Rattle.std.specs.List.{list_all, list_any, range_with_len}
 use Rattle.std.proofs.lemmas.Bool.{cases_eq, eq-eqb, ne_eqb}
 use Rattle.std.proofs.lemmas.List.{get_or-map, length-map, map-append}
@@ -9,20 +9,11 @@ use Rattle.std.proofs.lemmas.List.Folds.{list_all_at, list_all_more, list_any_no
 use Rattle.netlist.specs.Netlist.{IsNetlist, NetView, NetlistView, name_at, net_named}
 use Rattle.netlist.proofs.CallerLemmas.{All-from_no_position, bytes_eq-other, bytes_eq-same, names-differ, net_at-named, no_net}
 use Rattle.netlist.specs.Names.{seen_names}
-use Rattle.kernel_runs.specs.Diffs.{is_known, is_output_name}
+use Rattle.net_words.proofs.CallerLemmas.{next}
+use Rattle.kernel_runs.specs.Diffs.{is_name_among}
 use Rattle.prepared_runs.specs.Marked.{is_among}
 
--- ---- whether a name is known
-
-module _ (first second : NetlistView) (name : List ℕ) (net other : Option ℕ) (is : net ≡ net_named first name) (also : other ≡ net_named second name) where
-  -- where the first has no net of the name it is known where the second has one
-  pub is_known-second : (known : Bool) → is_some net ≡ false → is_some other ≡ known → is_known first second name ≡ known
-  is_known-second known lacks says =
-      ap (λ b. b || is_some (net_named second name)) (sym (ap is_some is) ∙ lacks) ∙ sym (ap is_some also) ∙ says
-
--- a net of the first is known
-pub is_known-first : (first second : NetlistView) (name : List ℕ) (net : Option ℕ) → net ≡ net_named first name → is_some net ≡ true → is_known first second name ≡ true
-is_known-first first second name net is has = ap (λ b. b || is_some (net_named second name)) (sym (ap is_some is) ∙ has)
+-- ---- words one after the other
 
 module _ (p : List ℕ → Bool) (names : List (Bor (List ℕ))) (at : ℕ) (d : Bor (List ℕ)) (inside : at < length names) where
   abbrev name : List ℕ
@@ -42,7 +33,16 @@ module _ (p : List ℕ → Bool) (names : List (Bor (List ℕ))) (at : ℕ) (d :
   pub all_fail : p name ≡ false → list_all p (seen_names names) ≡ false
   all_fail fails = list_all_at p (seen_names names) at [] place (ap p here ∙ fails)
 
--- ---- which names are those of outputs
+-- the names for one word more
+pub one_word : (names_for : List ℕ → List (List ℕ)) (words : List (Bor (List ℕ))) (at : ℕ) (d : Bor (List ℕ)) → at < length words →
+    (names more : List (List ℕ)) → more ≡ names ++ names_for (get_or words at d).now →
+    more ++ flat_map names_for (drop (at + 1) (seen_names words)) ≡ names ++ flat_map names_for (drop at (seen_names words))
+one_word names_for words at d inside names more longer =
+    ap (λ (all : List (List ℕ)). all ++ flat_map names_for (drop (at + 1) (seen_names words))) longer
+    ∙ append_assoc names (names_for (get_or words at d).now) (flat_map names_for (drop (at + 1) (seen_names words)))
+    ∙ ap (λ (rest : List (List ℕ)). names ++ flat_map names_for rest) (sym (next (λ (word : Bor (List ℕ)). word.now) words at d inside))
+
+-- ---- which names are those of some nets
 
 -- tests that answer the same for each element find one in the same lists
 list_any-alike : (p q : ℕ → Bool) (xs : List ℕ) → All (λ x. p x ≡ q x) xs → list_any p xs ≡ list_any q xs
@@ -57,32 +57,32 @@ list_any-map : {X Y : Type 0} (p : Y → Bool) (f : X → Y) (xs : List X) → l
 list_any-map p f [] = refl
 list_any-map p f (x ∷ xs) = ap (λ b. p (f x) || b) (list_any-map p f xs)
 
-module _ (netlist : NetlistView) (formed : IsNetlist netlist) (name : List ℕ) where
+module _ (netlist : NetlistView) (formed : IsNetlist netlist) (nets : List ℕ) (exist : All (λ net. net < length netlist.nets) nets) (name : List ℕ) where
   abbrev has_name : ℕ → Bool
-  has_name output = bytes_eq (name_at netlist output) name
+  has_name net = bytes_eq (name_at netlist net) name
 
-  -- a name that no net has is no output's
-  pub is_output_name-None : net_named netlist name ≡ None → is_output_name netlist name ≡ false
-  is_output_name-None lacks =
-      list_any-map (λ output. bytes_eq output name) (name_at netlist) netlist.outputs
-      ∙ list_any_none has_name netlist.outputs
-      (λ k d inside. All-from_no_position (λ (net : NetView). bytes_eq net.name name) netlist.nets lacks (get_or netlist.outputs k d) no_net (formed.outputs k d inside))
+  -- a name that no net has isn't among those of some nets
+  pub is_name_among-None : net_named netlist name ≡ None → is_name_among netlist nets name ≡ false
+  is_name_among-None lacks =
+      list_any-map (λ own. bytes_eq own name) (name_at netlist) nets
+      ∙ list_any_none has_name nets
+      (λ k d inside. All-from_no_position (λ (net : NetView). bytes_eq net.name name) netlist.nets lacks (get_or nets k d) no_net (exist k d inside))
 
-  -- one that a net has is an output's where the net is an output
-  pub is_output_name-Some : (net : ℕ) → net_named netlist name ≡ Some net → is_output_name netlist name ≡ is_among netlist.outputs net
-  is_output_name-Some net found =
-      list_any-map (λ output. bytes_eq output name) (name_at netlist) netlist.outputs
-      ∙ list_any-alike has_name (λ output. net == output) netlist.outputs
-      (λ k d inside. alike (get_or netlist.outputs k d) (formed.outputs k d inside) (cases_eq net (get_or netlist.outputs k d)))
+  -- one that a net has is among them if the net is
+  pub is_name_among-Some : (net : ℕ) → net_named netlist name ≡ Some net → is_name_among netlist nets name ≡ is_among nets net
+  is_name_among-Some net found =
+      list_any-map (λ own. bytes_eq own name) (name_at netlist) nets
+      ∙ list_any-alike has_name (λ other. net == other) nets
+      (λ k d inside. alike (get_or nets k d) (exist k d inside) (cases_eq net (get_or nets k d)))
     where
-      alike : (output : ℕ) → output < length netlist.nets → (net ≡ output) ⊎ (net ≢ output) → has_name output ≡ (net == output)
-      alike output there (inl same) =
-          let named : name_at netlist output ≡ name = ap (name_at netlist) (sym same) ∙ (net_at-named netlist name net found).1 in
-          ap (λ n. bytes_eq n name) named ∙ bytes_eq-same name ∙ sym (eq-eqb net output same)
-      alike output there (inr apart) =
+      alike : (other : ℕ) → other < length netlist.nets → (net ≡ other) ⊎ (net ≢ other) → has_name other ≡ (net == other)
+      alike other there (inl same) =
+          let named : name_at netlist other ≡ name = ap (name_at netlist) (sym same) ∙ (net_at-named netlist name net found).1 in
+          ap (λ n. bytes_eq n name) named ∙ bytes_eq-same name ∙ sym (eq-eqb net other same)
+      alike other there (inr apart) =
           let at = net_at-named netlist name net found in
-          let other : name_at netlist output ≢ name = λ same. names-differ netlist.nets net output formed.distinct at.0 there (λ e. apart (sym e)) (same ∙ sym at.1) in
-          bytes_eq-other (name_at netlist output) name other ∙ sym (ne_eqb net output apart)
+          let differ : name_at netlist other ≢ name = λ same. names-differ netlist.nets net other formed.distinct at.0 there (λ e. apart (sym e)) (same ∙ sym at.1) in
+          bytes_eq-other (name_at netlist other) name differ ∙ sym (ne_eqb net other apart)
 
 -- ---- the names of nets, one after another
 

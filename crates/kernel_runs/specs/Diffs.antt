@@ -1,8 +1,10 @@
 -- Two runs to one horizon, compared net by net.
 use Rattle.std.specs.Prelude.{◌≡◌, ℕ, ◌&&◌, ◌||◌, ◌↔◌, not, Bool, false, IsTrue, if◌then◌else◌, List, [], ◌∷◌, ◌++◌, length, map, filter, flat_map, All, Option, Some, None, is_some, Result, Ok, Err, bytes_eq, codes}
 use Rattle.std.specs.List.{list_all, list_any, range_with_len}
+use Rattle.std.specs.Option.{unwrap_or}
 use Rattle.texts.specs.Text.{◌>>=◌}
 use Rattle.netlist.specs.Netlist.{NetlistView, name_at, net_named}
+use Rattle.net_words.specs.Listed.{nets_listed}
 use Rattle.timing_text.specs.Options.{horizon_of}
 use Rattle.design.specs.Equations.{value_of}
 use Rattle.fanin_cone.specs.Agreement.{AgreesOn}
@@ -50,17 +52,21 @@ IsDiffRefusal answer (Run fault) = refused fault.side fault.fault
 
 -- ---- the names
 
--- the names of a netlist's outputs, in order
-abbrev pub output_names : NetlistView → List (List ℕ)
-output_names netlist = map (name_at netlist) netlist.outputs
+-- the names of these nets of a netlist, in order
+abbrev pub names_at : NetlistView → List ℕ → List (List ℕ)
+names_at netlist nets = map (name_at netlist) nets
 
--- a name is that of an output
-abbrev pub is_output_name : NetlistView → List ℕ → Bool
-is_output_name netlist name = list_any (λ output. bytes_eq output name) (output_names netlist)
+-- a name is that of one of these nets
+abbrev pub is_name_among : NetlistView → List ℕ → List ℕ → Bool
+is_name_among netlist nets name = list_any (λ own. bytes_eq own name) (names_at netlist nets)
 
--- the names of the first netlist's outputs in order, and after them those of the second's that aren't names of outputs of the first
+-- the names of these nets of the first netlist in order, and after them those of the second's that aren't among them
+abbrev pub joined_names : NetlistView → List ℕ → NetlistView → List ℕ → List (List ℕ)
+joined_names first nets second others = names_at first nets ++ filter (λ name. not (is_name_among first nets name)) (names_at second others)
+
+-- those of the outputs
 abbrev pub names_of_outputs : NetlistView → NetlistView → List (List ℕ)
-names_of_outputs first second = output_names first ++ filter (λ name. not (is_output_name first name)) (output_names second)
+names_of_outputs first second = joined_names first first.outputs second second.outputs
 
 -- the names of a netlist's nets, in order
 abbrev pub net_names : NetlistView → List (List ℕ)
@@ -74,21 +80,36 @@ names_of_nets first second = net_names first ++ filter (λ name. not (is_some (n
 abbrev pub is_known : NetlistView → NetlistView → List ℕ → Bool
 is_known first second name = is_some (net_named first name) || is_some (net_named second name)
 
--- the only name is the word for all nets, and neither netlist has a net of that name
+-- the only word is the one for all nets, and neither netlist has a net of that name
 abbrev pub mean_all : NetlistView → NetlistView → List (List ℕ) → Bool
 mean_all first second [] = false
 mean_all first second (name ∷ []) = bytes_eq name (codes "all") && not (is_known first second name)
 mean_all first second (name ∷ other ∷ names) = false
 
--- the names by which two netlists are compared: those that are given or mean all nets or, if there are none, those of the outputs
+-- a word means nets of one netlist or the other
+abbrev pub is_meant : NetlistView → NetlistView → List ℕ → Bool
+is_meant first second word = is_some (nets_listed first word) || is_some (nets_listed second word)
+
+-- the nets that a word means, or none
+abbrev pub nets_or_none : NetlistView → List ℕ → List ℕ
+nets_or_none netlist word = unwrap_or (nets_listed netlist word) []
+
+-- the names by which two netlists are compared for a word: itself, if one or the other has a net of this name; or else those of the
+-- nets that it means in the first, and after them those of the nets that it means in the second alone
+abbrev pub names_of_word : NetlistView → NetlistView → List ℕ → List (List ℕ)
+names_of_word first second word =
+    if is_known first second word then word ∷ []
+    else joined_names first (nets_or_none first word) second (nets_or_none second word)
+
+-- the names by which two netlists are compared: those for words, which may mean all nets, or, if there are none, those of the outputs
 abbrev pub names_compared : List (List ℕ) → NetlistView → NetlistView → List (List ℕ)
 names_compared [] first second = names_of_outputs first second
-names_compared (name ∷ names) first second =
-    if mean_all first second (name ∷ names) then names_of_nets first second else name ∷ names
+names_compared (word ∷ words) first second =
+    if mean_all first second (word ∷ words) then names_of_nets first second else flat_map (names_of_word first second) (word ∷ words)
 
--- each name is known, unless they mean all nets
+-- each word means nets, or they mean all nets
 abbrev pub are_accepted : NetlistView → NetlistView → List (List ℕ) → Bool
-are_accepted first second names = mean_all first second names || list_all (is_known first second) names
+are_accepted first second words = mean_all first second words || list_all (is_meant first second) words
 
 -- ---- the runs
 
@@ -102,11 +123,11 @@ pub record Pair : Type 0 where
 abbrev pub pair_by : RunView → RunView → ComparedTicks → List (List ℕ) → Pair
 pair_by one other ticks names = record { first = one; second = other; ticks = ticks; names = names }
 
--- two runs by the names that are given or mean all nets or, if there are none, by those of the outputs
+-- two runs by the names for words or, if there are none, by those of the outputs
 abbrev pub pair_named : RunView → RunView → ComparedTicks → List (List ℕ) → Pair
 pair_named one other ticks names = pair_by one other ticks (names_compared names one.design.netlist other.design.netlist)
 
--- the same, unless neither run has a net of one of them
+-- the same, unless one of the words means no net of either run
 unfoldable pub pair_in : RunView → RunView → ComparedTicks → List (List ℕ) → Result Pair TwinFault
 pair_in one other ticks names =
     if are_accepted one.design.netlist other.design.netlist names

@@ -1,21 +1,13 @@
 //! The names by which two runs are compared.
-ghost use Rattle.std.specs.Prelude.{◌≡◌, ℕ, ◌++◌, not, false, filter, is_some, length, slice_index_or, IfOk, OnOk};
-ghost use Rattle.std.specs.List.{list_all};
+ghost use Rattle.std.specs.Prelude.{◌≡◌, ℕ, ◌<◌, ◌++◌, not, false, filter, is_some, length, slice_index_or, All, IfOk, OnOk};
 ghost use Rattle.netlist.specs.Names.{seen_names};
-ghost use Rattle.netlist.specs.Netlist.{IsNetlist, net_named};
-ghost use Rattle.kernel_runs.specs.Diffs.{are_accepted, is_known, is_output_name, mean_all, names_of_nets, names_of_outputs, net_names, output_names};
+ghost use Rattle.netlist.specs.Netlist.{net_named};
+ghost use Rattle.kernel_runs.specs.Diffs.{is_known, is_name_among, joined_names, mean_all, names_at, names_of_nets, names_of_outputs, net_names};
 ghost use Rattle.prepared_runs.specs.Marked.{is_among};
 
 use netlist::Netlist;
 use prepared_runs::marks_of;
 use std::alloc::{AllocError, Global};
-
-/// Returns whether one netlist or the other has a net of each of these names, or they mean all nets.
-pub(crate) fn are_accepted(first: &Netlist, second: &Netlist, names: &[&[u8]]) -> bool
-    ensures { result ≡ are_accepted first.now second.now (seen_names names.now) }
-{
-    mean_all(first, second, names) || are_known(first, second, names)
-}
 
 /// Returns whether the only name is `all`, and neither netlist has a net of that name.
 pub(crate) fn mean_all(first: &Netlist, second: &Netlist, names: &[&[u8]]) -> bool
@@ -28,22 +20,10 @@ pub(crate) fn mean_all(first: &Netlist, second: &Netlist, names: &[&[u8]]) -> bo
 }
 
 /// Returns whether one netlist or the other has a net of this name.
-fn is_known(first: &Netlist, second: &Netlist, name: &[u8]) -> bool
+pub(crate) fn is_known(first: &Netlist, second: &Netlist, name: &[u8]) -> bool
     ensures { result ≡ is_known first.now second.now name.now }
 {
     first.find(name).is_some() || second.find(name).is_some()
-}
-
-/// Returns whether one netlist or the other has a net of each of these names.
-fn are_known(first: &Netlist, second: &Netlist, names: &[&[u8]]) -> bool
-    ensures { result ≡ list_all (is_known first.now second.now) (seen_names names.now) }
-{
-    for name in names {
-        if first.find(name).is_none() && second.find(name).is_none() {
-            return false;
-        }
-    }
-    true
 }
 
 /// Returns the names of the first netlist's outputs in order, and after them those of the second's outputs
@@ -55,11 +35,36 @@ pub(crate) fn names_of_outputs<'n>(
 ) -> Result<Vec<&'n [u8]>, AllocError>
     ensures { IfOk result (λ names. seen_names names.items ≡ names_of_outputs first.now second.now) }
 {
-    let marks = marks_of(alloc, first.nets(), first.outputs())?;
     let mut names = Vec::new(alloc);
-    push_outputs(first, &mut names)?;
-    push_others(second, first, marks.as_slice(), &mut names)?;
+    push_joined(
+        alloc,
+        first,
+        first.outputs(),
+        second,
+        second.outputs(),
+        &mut names,
+    )?;
     Ok(names)
+}
+
+/// Adds the names of these nets of the first netlist in order, and after them those of the second's that aren't
+/// among them.
+pub(crate) fn push_joined<'n>(
+    alloc: Global,
+    first: &'n Netlist,
+    nets: &[u32],
+    second: &'n Netlist,
+    others: &[u32],
+    names: &mut Vec<&'n [u8]>,
+) -> Result<(), AllocError>
+    requires nets { All (λ net. net < length first.now.nets) nets.now }
+    requires others { All (λ net. net < length second.now.nets) others.now }
+    ensures { OnOk result (seen_names names.new.items ≡ seen_names names.old.items
+        ++ joined_names first.now nets.now second.now others.now) }
+{
+    let marks = marks_of(alloc, first.nets(), nets)?;
+    push_names(first, nets, names)?;
+    push_others(second, others, first, nets, marks.as_slice(), names)
 }
 
 /// Returns the names of the first netlist's nets in order, and after them those of the second's nets that
@@ -105,45 +110,55 @@ fn push_new_nets<'n>(
     Ok(())
 }
 
-/// Adds the names of the outputs.
-fn push_outputs<'n>(netlist: &'n Netlist, names: &mut Vec<&'n [u8]>) -> Result<(), AllocError>
-    ensures { OnOk result (seen_names names.new.items ≡ seen_names names.old.items ++ output_names netlist.now) }
+/// Adds the names of these nets.
+fn push_names<'n>(
+    netlist: &'n Netlist,
+    nets: &[u32],
+    names: &mut Vec<&'n [u8]>,
+) -> Result<(), AllocError>
+    requires { All (λ net. net < length netlist.now.nets) nets.now }
+    ensures { OnOk result (seen_names names.new.items ≡ seen_names names.old.items ++ names_at netlist.now nets.now) }
 {
-    for net in netlist.outputs() {
+    for net in nets {
         names.push(netlist.name(*net))?;
     }
     Ok(())
 }
 
-/// Adds the names of the outputs that aren't names of outputs of another netlist, whose outputs are marked.
+/// Adds the names of these nets that aren't names of certain nets of another netlist, which are marked.
 fn push_others<'n>(
     netlist: &'n Netlist,
+    others: &[u32],
     first: &Netlist,
+    nets: &[u32],
     marks: &[bool],
     names: &mut Vec<&'n [u8]>,
 ) -> Result<(), AllocError>
-    requires well_formed { IsNetlist first.now }
+    requires others { All (λ net. net < length netlist.now.nets) others.now }
+    requires nets { All (λ net. net < length first.now.nets) nets.now }
     requires size { length marks.now ≡ length first.now.nets }
-    requires marks { (net : ℕ) → slice_index_or marks.now net false ≡ is_among first.now.outputs net }
+    requires marks { (net : ℕ) → slice_index_or marks.now net false ≡ is_among nets.now net }
     ensures { OnOk result (seen_names names.new.items ≡ seen_names names.old.items
-        ++ filter (λ name. not (is_output_name first.now name)) (output_names netlist.now)) }
+        ++ filter (λ name. not (is_name_among first.now nets.now name)) (names_at netlist.now others.now)) }
 {
-    for net in netlist.outputs() {
+    for net in others {
         let name = netlist.name(*net);
-        if !is_output(first, marks, name) {
+        if !is_marked(first, nets, marks, name) {
             names.push(name)?;
         }
     }
     Ok(())
 }
 
-/// Whether an output has this name; the outputs are marked.
-fn is_output(netlist: &Netlist, marks: &[bool], name: &[u8]) -> bool
-    requires well_formed { IsNetlist netlist.now }
+/// Whether one of these nets, which are marked, has this name.
+fn is_marked(netlist: &Netlist, nets: &[u32], marks: &[bool], name: &[u8]) -> bool
+    requires nets { All (λ net. net < length netlist.now.nets) nets.now }
     requires size { length marks.now ≡ length netlist.now.nets }
-    requires marks { (net : ℕ) → slice_index_or marks.now net false ≡ is_among netlist.now.outputs net }
-    ensures { result ≡ is_output_name netlist.now name.now }
+    requires marks { (net : ℕ) → slice_index_or marks.now net false ≡ is_among nets.now net }
+    ensures { result ≡ is_name_among netlist.now nets.now name.now }
 {
+    // No effect at run time. The proof reads from it that names are distinct.
+    let _ = netlist.outputs();
     match netlist.find(name) {
         Some(net) => marks[net as usize],
         None => false,

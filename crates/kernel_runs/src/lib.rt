@@ -7,6 +7,7 @@ mod check_run;
 mod diff_fault;
 mod diff_names;
 mod diff_run;
+mod diff_words;
 mod draining;
 mod hiding;
 mod kernel_calls;

@@ -1,3 +1,5 @@
 mod AllFound
 pub mod CallerLemmas
+mod Passing
 mod RealNets
+mod Words

@@ -1,13 +1,15 @@
 -- The nets that a word means are nets of the netlist.
-use Rattle.std.proofs.Common.{◌≡◌, refl, sym, ◌<◌, ℕ, List, [], ◌∷◌, length, option_and_then, option_map, Option, None, Some, Result, Ok, Err, Vec, All, IfOk, IfSome}
+use Rattle.std.proofs.Common.{◌≡◌, refl, sym, ap, subst, ◌∙◌, ◌<◌, ℕ, Bool, true, false, cond, List, [], ◌∷◌, flat_map, length, bytes_eq, codes, option_and_then, option_map, Option, None, Some, Result, Ok, Err, Vec, All, IfOk, IfSome, arith}
 use Rattle.std.specs.declared.alloc.Global.{Global}
 use Rattle.std.specs.declared.alloc.AllocError.{AllocError}
-use Rattle.std.specs.Option.{option_map_or}
-use Rattle.std.proofs.lemmas.List.Elements.{All-cons, All-nil}
-use Rattle.netlist.specs.Netlist.{NetlistView, net_named}
+use Rattle.std.specs.Option.{option_map_or, option_or}
+use Rattle.std.proofs.lemmas.List.Elements.{All-append, All-cons, All-head, All-nil, All-tail}
+use Rattle.netlist.specs.Netlist.{IsNetlist, NetlistView, net_named}
 use Rattle.netlist.proofs.CallerLemmas.{net_at-named}
-use Rattle.net_words.specs.Meant.{RangeView, bit_names, nets_meant, nets_of_range, range_of}
+use Rattle.net_words.specs.Listed.{if_any, nets_like, nets_listed, nets_of_words, other_nets}
+use Rattle.net_words.specs.Meant.{RangeView, all_found, bit_names, nets_meant, nets_of_range, range_of}
 use Rattle.net_words.proofs.AllFound.{All-all_found}
+use Rattle.net_words.proofs.Words.{exist-like}
 
 module _ (netlist : NetlistView) where
   abbrev IsNet : ℕ → Type 0
@@ -37,3 +39,44 @@ module _ (netlist : NetlistView) where
   IsNet-found_range range (Err fault) are = tt
   IsNet-found_range range (Ok None) are = tt
   IsNet-found_range range (Ok (Some nets)) are = IsNet-range range nets.items (sym are)
+
+-- ---- words of lists
+
+module _ (netlist : NetlistView) (formed : IsNetlist netlist) where
+  abbrev AreNets : List ℕ → Type 0
+  AreNets nets = All (λ net. net < length netlist.nets) nets
+
+  AreNets-other : (word : List ℕ) → AreNets (other_nets netlist word)
+  AreNets-other word = go (bytes_eq word (codes "outputs"))
+    where
+      go : (outputs : Bool) → AreNets (cond outputs netlist.outputs (nets_like netlist word))
+      go true = formed.outputs
+      go false = exist-like netlist word (length netlist.nets) (omega arith)
+
+  AreNets-if_any : (nets found : List ℕ) → AreNets nets → if_any nets ≡ Some found → AreNets found
+  AreNets-if_any [] found all is = absurd (cc)
+  AreNets-if_any (net ∷ nets) found all is = let same : net ∷ nets ≡ found = cc in subst AreNets same all
+
+  AreNets-listed : (word nets : List ℕ) → nets_listed netlist word ≡ Some nets → AreNets nets
+  unfolding nets_listed
+  AreNets-listed word nets are = go (nets_meant netlist word) refl are
+    where
+      go : (meant : Option (List ℕ)) → nets_meant netlist word ≡ meant → option_or meant (if_any (other_nets netlist word)) ≡ Some nets → AreNets nets
+      go (Some found) is e = let same : found ≡ nets = cc in IsNet-meant netlist word nets (is ∙ ap (λ nets. Some nets) same)
+      go None is e = AreNets-if_any (other_nets netlist word) nets (AreNets-other word) e
+
+  AreNets-flat : (lists : List (List ℕ)) → All AreNets lists → AreNets (flat_map (λ nets. nets) lists)
+  AreNets-flat [] all = All-nil (λ net. net < length netlist.nets)
+  AreNets-flat (nets ∷ lists) all =
+      All-append (λ net. net < length netlist.nets) nets (flat_map (λ nets. nets) lists) (All-head AreNets nets lists all) (AreNets-flat lists (All-tail AreNets nets lists all))
+
+  -- the nets that the words of a list mean are nets of the netlist
+  pub IsNet-words : (words : List (List ℕ)) (nets : List ℕ) → nets_of_words netlist words ≡ Some nets → AreNets nets
+  unfolding nets_of_words
+  IsNet-words words nets are = go (all_found (nets_listed netlist) words) refl are
+    where
+      go : (lists : Option (List (List ℕ))) → all_found (nets_listed netlist) words ≡ lists → option_map (flat_map (λ nets. nets)) lists ≡ Some nets → AreNets nets
+      go None is e = absurd (cc)
+      go (Some lists) is e =
+          let same : flat_map (λ nets. nets) lists ≡ nets = cc in
+          subst AreNets same (AreNets-flat lists (All-all_found (nets_listed netlist) AreNets AreNets-listed words lists is))

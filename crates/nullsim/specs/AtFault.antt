@@ -14,13 +14,15 @@ use Rattle.timing_diagram.specs.declared.fault.ColumnsFault.TheVariants as colum
 use Rattle.wave_diff.specs.declared.fault.ComparedFault.TheVariants as compared
 use Rattle.prepared_runs.specs.declared.fault.SimFault.TheVariants as sim
 use Rattle.prepared_runs.specs.declared.view.DiagramView.{DiagramView}
+use Rattle.prepared_runs.specs.declared.view.Selection.{Selection}
+use Rattle.net_words.specs.Listed.{nets_listed}
 use Rattle.net_words.specs.Meant.{nets_meant}
 use Rattle.wave_diff.specs.declared.diff_ticks.DiffTicks.{DiffTicks}
 use Rattle.wave_diff.specs.declared.comparison.Side.{Side}
 use Rattle.program_io.specs.declared.program_fault.ProgramFault.{ProgramFault}
 use Rattle.program_io.specs.declared.program_fault.ProgramFault.TheVariants as program
 use Rattle.command_line.specs.declared.order.Order.{Order}
-use Rattle.command_line.specs.declared.order.Order.TheVariants.{Draw, Stimuli, Diff}
+use Rattle.command_line.specs.declared.order.Order.TheVariants.{Run, Plain, Draw, Frontiers, Stimuli, Diff}
 use Rattle.command_line.specs.declared.source_options.SourceOptions.{SourceOptions}
 use Rattle.program_io.specs.declared.order_texts.OrderTexts.{OrderTexts}
 use Rattle.command_line.specs.Orders.{last_tick, names_asked, names_shown, options_on}
@@ -71,13 +73,21 @@ if_read (Err fault) = None
 abbrev pub netlist_in : List ℕ → Option NetlistView
 netlist_in text = if_read (netlist_of text)
 
--- no net of either netlist has the name
-abbrev pub in_neither : NetlistView → NetlistView → List ℕ → Bool
-in_neither one other name = is_none (net_named one name) && is_none (net_named other name)
+-- no net has the name
+abbrev pub names_nothing : NetlistView → List ℕ → Bool
+names_nothing netlist name = is_none (net_named netlist name)
 
--- the first such name, if there are both netlists
+-- the first such name, if there is the netlist
+abbrev pub first_unnamed : List (List ℕ) → Option NetlistView → Option (List ℕ)
+first_unnamed names netlist = option_and_then (λ netlist. find (names_nothing netlist) names) netlist
+
+-- a word of a list means no net of either netlist
+abbrev pub in_neither : NetlistView → NetlistView → List ℕ → Bool
+in_neither one other word = is_none (nets_listed one word) && is_none (nets_listed other word)
+
+-- the first such word, if there are both netlists
 abbrev pub first_in_neither : List (List ℕ) → Option NetlistView → Option NetlistView → Option (List ℕ)
-first_in_neither names one other = option_and_then (λ one. option_and_then (λ other. find (in_neither one other) names) other) one
+first_in_neither words one other = option_and_then (λ one. option_and_then (λ other. find (in_neither one other) words) other) one
 
 -- the first word of a bus that means no nets, if there is the netlist
 abbrev pub means_nothing : NetlistView → List ℕ → Bool
@@ -86,20 +96,25 @@ means_nothing netlist word = is_none (nets_meant netlist word)
 abbrev pub first_meaningless : List (List ℕ) → Option NetlistView → Option (List ℕ)
 first_meaningless words netlist = option_and_then (λ netlist. find (means_nothing netlist) words) netlist
 
--- what is unknown of a diagram: the first name of a net to be shown, or else the first bus
+-- what is unknown of nets to be shown: the first word that means none
+abbrev pub unknown_shown : Selection → Option NetlistView → Option (List ℕ)
+unknown_shown show netlist = first_in_neither (names_shown show) netlist netlist
+
+-- what is unknown of a diagram: that, or else the first bus
 abbrev pub unknown_drawn : DiagramView → Option NetlistView → Option (List ℕ)
 unknown_drawn view netlist =
-    option_or (first_in_neither (names_shown view.show) netlist netlist) (first_meaningless (seen_names view.buses.items) netlist)
+    option_or (unknown_shown view.show netlist) (first_meaningless (seen_names view.buses.items) netlist)
 
--- the first name that an order gives and no net of its netlist has, or word of a bus that means no nets; for `diff`, no net of
--- either netlist
+-- the first word of an order for nets to be shown or compared, or of a bus, that means no nets, for `diff` of either netlist; or
+-- else the first name that it gives and no net has
 abbrev pub unknown_asked : Order → Side → OrderTexts → Option (List ℕ)
 unknown_asked (Diff first second names ticks) side texts =
     first_in_neither (seen_names names.items) (netlist_in texts.first.bench.items) (netlist_in texts.second.bench.items)
 unknown_asked (Draw options view form) side texts = unknown_drawn view (netlist_in (texts_on texts side).bench.items)
-unknown_asked order side texts =
-    let netlist = netlist_in (texts_on texts side).bench.items in
-    first_in_neither (names_asked order) netlist netlist
+unknown_asked (Run options view counts) side texts = unknown_shown view.show (netlist_in (texts_on texts side).bench.items)
+unknown_asked (Plain options view) side texts = unknown_shown view.show (netlist_in (texts_on texts side).bench.items)
+unknown_asked (Frontiers options horizon show) side texts = unknown_shown show (netlist_in (texts_on texts side).bench.items)
+unknown_asked order side texts = first_unnamed (names_asked order) (netlist_in (texts_on texts side).bench.items)
 
 -- the name that each fault is for
 abbrev pub name_at_fault : Order → ProgramFault → OrderTexts → Option (List ℕ)

@@ -3,22 +3,22 @@ ghost use Rattle.std.specs.Prelude.{◌≡◌, option_map, IfOk};
 ghost use Rattle.std.specs.List.{find};
 ghost use Rattle.netlist.specs.Names.{seen_names};
 ghost use Rattle.command_line.specs.Orders.{names_shown};
-ghost use Rattle.nullsim.specs.AtFault.{first_in_neither, first_meaningless, in_neither, input_driven, means_nothing, name_at_fault, netlist_in, unknown_asked, unknown_drawn};
+ghost use Rattle.nullsim.specs.AtFault.{first_in_neither, first_meaningless, first_unnamed, in_neither, input_driven, means_nothing, name_at_fault, names_nothing, netlist_in, unknown_asked, unknown_drawn};
 ghost use Rattle.program_io.specs.declared.order_texts.OrderTexts.{OrderTexts};
 ghost use Rattle.program_io.specs.declared.program_fault.ProgramFault.TheVariants.{Drives};
 
 use bench_text::{BenchFault, read};
 use command_line::Order;
 use drawn_stimuli::DriveFault;
-use net_words::nets_meant;
+use net_words::{nets_listed, nets_meant};
 use netlist::Netlist;
 use prepared_runs::{DiagramView, SimFault};
 use program_io::{OrderTexts, ProgramFault};
 use std::alloc::{AllocError, Global};
 use wave_diff::Side;
 
-/// Returns the name at fault, if an argument gave it: the first name that no net of the circuit has (for
-/// `diff`, of either circuit), if the circuit's text is accepted; or the name of the input whose drive is
+/// Returns the name at fault, if an argument gave it: the first name that no net of the circuit has, or word of a
+/// list that means no net (for `diff`, of either circuit), if the circuit's text is accepted; or the name of the input whose drive is
 /// refused.
 ///
 /// # Errors
@@ -42,8 +42,8 @@ pub(crate) fn name_at_fault<'o>(
     }
 }
 
-/// Returns the first name that an order gives and no net of its netlist has, or word of a bus that means no nets;
-/// for `diff`, no net of either netlist.
+/// Returns the first word of an order for nets to be shown or compared, or of a bus, that means no nets, for
+/// `diff` of either netlist; or else the first name that it gives and no net of its netlist has.
 fn unknown_asked<'o>(
     alloc: Global,
     order: &'o Order<'_>,
@@ -57,33 +57,37 @@ fn unknown_asked<'o>(
         Order::Diff { names, .. } => {
             let one = netlist_in(alloc, texts.first.bench.as_slice())?;
             let other = netlist_in(alloc, texts.second.bench.as_slice())?;
-            Ok(first_in_neither(names.as_slice(), &one, &other))
+            first_in_neither(alloc, names.as_slice(), &one, &other)
         }
         Order::Draw { view, .. } => {
             let netlist = netlist_in(alloc, texts.on(side).bench.as_slice())?;
             let name = unknown_drawn(alloc, order.names(), view, &netlist)?;
             Ok(name)
         }
+        Order::Run { .. } | Order::Plain { .. } | Order::Frontiers { .. } => {
+            let netlist = netlist_in(alloc, texts.on(side).bench.as_slice())?;
+            first_in_neither(alloc, order.names(), &netlist, &netlist)
+        }
         _ => {
             let netlist = netlist_in(alloc, texts.on(side).bench.as_slice())?;
-            Ok(first_in_neither(order.names(), &netlist, &netlist))
+            Ok(first_unnamed(order.names(), &netlist))
         }
     }
 }
 
-/// Returns the first of the names to be shown that no net of a netlist has, or else the first word of a bus of a
-/// diagram that means no nets.
+/// Returns the first of the words for nets to be shown that means none, or else the first word of a bus of a
+/// diagram that means none.
 fn unknown_drawn<'a>(
     alloc: Global,
-    names: &[&'a [u8]],
+    words: &[&'a [u8]],
     view: &DiagramView<'a>,
     netlist: &Option<Netlist>,
 ) -> Result<Option<&'a [u8]>, AllocError>
-    requires { seen_names names.now ≡ names_shown view.now.show }
+    requires { seen_names words.now ≡ names_shown view.now.show }
     ensures { IfOk result (λ name. option_map (λ name. name.now) name ≡ unknown_drawn view.now netlist.now) }
 {
-    match first_in_neither(names, netlist, netlist) {
-        Some(name) => Ok(Some(name)),
+    match first_in_neither(alloc, words, netlist, netlist)? {
+        Some(word) => Ok(Some(word)),
         None => first_meaningless(alloc, view.buses.as_slice(), netlist),
     }
 }
@@ -137,24 +141,69 @@ fn netlist_in(alloc: Global, text: &[u8]) -> Result<Option<Netlist>, AllocError>
     }
 }
 
-/// Returns the first of these names that no net of either netlist has, if there are both netlists.
+/// Returns the first of these words of a list that means no net of either netlist, if there are both netlists.
 fn first_in_neither<'a>(
-    names: &[&'a [u8]],
+    alloc: Global,
+    words: &[&'a [u8]],
     one: &Option<Netlist>,
     other: &Option<Netlist>,
-) -> Option<&'a [u8]>
-    ensures { option_map (λ name. name.now) result ≡ first_in_neither (seen_names names.now) one.now other.now }
+) -> Result<Option<&'a [u8]>, AllocError>
+    ensures { IfOk result (λ word. option_map (λ word. word.now) word
+        ≡ first_in_neither (seen_names words.now) one.now other.now) }
 {
     match (one, other) {
-        (Some(one), Some(other)) => first_unknown(names, one, other),
-        _ => None,
+        (Some(one), Some(other)) => first_unlisted(alloc, words, one, other),
+        _ => Ok(None),
     }
 }
 
-fn first_unknown<'a>(names: &[&'a [u8]], one: &Netlist, other: &Netlist) -> Option<&'a [u8]>
-    ensures { option_map (λ name. name.now) result ≡ find (in_neither one.now other.now) (seen_names names.now) }
+fn first_unlisted<'a>(
+    alloc: Global,
+    words: &[&'a [u8]],
+    one: &Netlist,
+    other: &Netlist,
+) -> Result<Option<&'a [u8]>, AllocError>
+    ensures { IfOk result (λ word. option_map (λ word. word.now) word
+        ≡ find (in_neither one.now other.now) (seen_names words.now)) }
 {
-    names.iter().copied().find(|name| one.find(name).is_none() && other.find(name).is_none())
+    for word in words {
+        if in_neither(alloc, word, one, other)? {
+            return Ok(Some(word));
+        }
+    }
+    Ok(None)
+}
+
+fn in_neither(
+    alloc: Global,
+    word: &[u8],
+    one: &Netlist,
+    other: &Netlist,
+) -> Result<bool, AllocError>
+    ensures { IfOk result (λ neither. neither ≡ in_neither one.now other.now word.now) }
+{
+    let nets = nets_listed(alloc, one, word)?;
+    let others = nets_listed(alloc, other, word)?;
+    Ok(nets.is_none() && others.is_none())
+}
+
+/// Returns the first of these names that no net has, if there is the netlist.
+fn first_unnamed<'a>(names: &[&'a [u8]], netlist: &Option<Netlist>) -> Option<&'a [u8]>
+    ensures { option_map (λ name. name.now) result ≡ first_unnamed (seen_names names.now) netlist.now }
+{
+    match netlist {
+        Some(netlist) => first_unknown(names, netlist),
+        None => None,
+    }
+}
+
+fn first_unknown<'a>(names: &[&'a [u8]], netlist: &Netlist) -> Option<&'a [u8]>
+    ensures { option_map (λ name. name.now) result ≡ find (names_nothing netlist.now) (seen_names names.now) }
+{
+    names
+        .iter()
+        .copied()
+        .find(|name| netlist.find(name).is_none())
 }
 
 /// Returns the name of the input whose drive is at fault.

@@ -1,7 +1,7 @@
 -- The nets that a dump shows, and their waveforms, are such as the dump asks for; the net of a name is one.
 use Rattle.std.proofs.Common.{◌≡◌, ◌≢◌, ℕ, ◌+◌, ◌<◌, ◌≤◌, true, List, [], ◌∷◌, length, filter_map, map, get_or, Option, None, Some, Ok, All, AllPairs, refl, sym, ap, ◌∙◌, arith}
 use Rattle.std.specs.List.{cons_option, range_with_len}
-use Rattle.std.specs.Option.{is_none, ok_or}
+use Rattle.std.specs.Option.{ok_or, unwrap_or}
 use Rattle.std.proofs.lemmas.List.Elements.{All-cons, All-head, All-nil, All-tail, All-map, Contains-get_or}
 use Rattle.std.proofs.lemmas.List.FromFn.{length-range_with_len, get_or-range_with_len, get_or-map-range_with_len}
 use Rattle.logic3.specs.declared.value.Value.{Value}
@@ -16,8 +16,8 @@ use Rattle.design.specs.Circuit.{Circuit}
 use Rattle.design.specs.Design.{DesignView, IsDesign}
 use Rattle.design.specs.Equations.{value_of, waves_of}
 use Rattle.design.proofs.CallerLemmas.{length-circuit}
-use Rattle.fanin_cone.specs.Extract.{first_unknown}
-use Rattle.fanin_cone.proofs.CallerLemmas.{filter_map-known, first_unknown-known}
+use Rattle.net_words.specs.Listed.{nets_of_words}
+use Rattle.net_words.proofs.CallerLemmas.{IsNet-words}
 use Rattle.vcd_dump.proofs.CallerLemmas.{few_below}
 use Rattle.prepared_runs.specs.declared.view.Selection.{Selection}
 use Rattle.prepared_runs.specs.declared.view.Selection.TheVariants as show
@@ -35,34 +35,21 @@ all_apart n i j d less inside =
     let below : j < n = omega (arith, length-range_with_len 0 n) in
     λ same. absurd (omega (arith, get_or-range_with_len 0 n i d (omega arith), get_or-range_with_len 0 n j d below))
 
--- a name's number is that of a net
-named_below : (netlist : NetlistView) (names : List (List ℕ)) → All (λ net. net < length netlist.nets) (filter_map (net_named netlist) names)
-named_below netlist [] = All-nil (λ net. net < length netlist.nets)
-named_below netlist (name ∷ names) = go (net_named netlist name) refl (named_below netlist names)
+-- the nets that words mean, if each means some
+words_below : (netlist : NetlistView) → IsNetlist netlist → (words : List (List ℕ)) →
+    All (λ net. net < length netlist.nets) (unwrap_or (nets_of_words netlist words) [])
+words_below netlist formed words = go (nets_of_words netlist words) refl
   where
-    IsNet : ℕ → Type 0
-    IsNet net = net < length netlist.nets
-
-    go : (found : Option ℕ) → net_named netlist name ≡ found → All IsNet (filter_map (net_named netlist) names) →
-        All IsNet (cons_option found (filter_map (net_named netlist) names))
-    go None is rest = rest
-    go (Some net) is rest = All-cons IsNet net (filter_map (net_named netlist) names) (net_at-named netlist name net is).0 rest
-
--- names whose numbers are known, also where netlist and names are written in another way
-module _ (netlist seen : NetlistView) (names listed : List (List ℕ)) (numbers : List ℕ) (same : seen ≡ netlist) (same_names : listed ≡ names)
-    (known : map (net_named seen) listed ≡ map Some numbers) where
-  pub numbers_of_names : numbers ≡ filter_map (net_named netlist) names
-  numbers_of_names = sym (filter_map-known seen listed numbers known) ∙ (λ i. filter_map (net_named (same i)) (same_names i))
-
-  pub none_unknown : is_none (first_unknown netlist names) ≡ true
-  none_unknown =
-      (λ i. is_none (first_unknown (sym same i) (sym same_names i))) ∙ ap is_none (first_unknown-known seen listed numbers known)
+    go : (meant : Option (List ℕ)) → nets_of_words netlist words ≡ meant → All (λ net. net < length netlist.nets) (unwrap_or meant [])
+    go None is = All-nil (λ net. net < length netlist.nets)
+    go (Some nets) is = IsNet-words netlist formed words nets is
 
 nets_below : (kind : Selection) (netlist : NetlistView) → IsNetlist netlist → All (λ net. net < length netlist.nets) (shown_nets kind netlist)
 nets_below show.All netlist formed = λ k d inside. all_below (length netlist.nets) k d inside
 nets_below show.Outputs netlist formed = formed.outputs
-nets_below (show.Named names) netlist formed =
-    All-distinct (λ net. net < length netlist.nets) (filter_map (net_named netlist) (seen_names names.items)) (named_below netlist (seen_names names.items))
+nets_below (show.Named words) netlist formed =
+    All-distinct (λ net. net < length netlist.nets) (unwrap_or (nets_of_words netlist (seen_names words.items)) [])
+    (words_below netlist formed (seen_names words.items))
 
 -- each shown net is a net
 pub All-shown_nets : (kind : Selection) (design : DesignView) → IsDesign design → All (λ net. net < length design.circuit) (shown_nets kind design.netlist)
@@ -73,7 +60,7 @@ pub AllPairs-shown_nets : (kind : Selection) (design : DesignView) → IsDesign 
     AllPairs (λ (earlier later : ℕ). earlier ≢ later) (shown_nets kind design.netlist)
 AllPairs-shown_nets show.All design formed = λ i j d less inside. all_apart (length design.netlist.nets) i j d less inside
 AllPairs-shown_nets show.Outputs design formed = formed.netlist.outputs_once
-AllPairs-shown_nets (show.Named names) design formed = AllPairs-distinct (filter_map (net_named design.netlist) (seen_names names.items))
+AllPairs-shown_nets (show.Named words) design formed = AllPairs-distinct (unwrap_or (nets_of_words design.netlist (seen_names words.items)) [])
 
 -- no more nets are shown than there are
 pub few-shown_nets : (kind : Selection) (design : DesignView) → IsDesign design → length (shown_nets kind design.netlist) ≤ length design.circuit

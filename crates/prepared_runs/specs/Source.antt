@@ -1,20 +1,20 @@
 -- Whole runs: the answer to texts and settings, composed of the definitions below.
-use Rattle.std.specs.Prelude.{ℕ, ◌≤◌, Bool, true, if◌then◌else◌, List, filter_map, map, length, is_none, Result, Ok, Err, IsOk}
+use Rattle.std.specs.Prelude.{ℕ, ◌≤◌, Bool, true, if◌then◌else◌, List, [], map, length, is_some, Result, Ok, Err, IsOk}
 use Rattle.std.specs.List.{range_with_len}
-use Rattle.std.specs.Option.{ok_or}
+use Rattle.std.specs.Option.{ok_or, unwrap_or}
 use Rattle.std.specs.Result.{result_map_both}
 use Rattle.logic3.specs.declared.value.Value.{Value}
 use Rattle.texts.specs.Text.{◌>>=◌, longest_text}
 use Rattle.netlist.specs.Names.{seen_names}
 use Rattle.netlist.specs.Netlist.{NetlistView, net_named}
 use Rattle.netlist.specs.Repeats.{distinct}
+use Rattle.net_words.specs.Listed.{nets_of_words}
 use Rattle.bench_text.specs.NetlistOf.{netlist_of}
 use Rattle.timing_text.specs.Options.{options_of, horizon_of}
 use Rattle.design.specs.Circuit.{Circuit}
 use Rattle.design.specs.Design.{DesignView}
 use Rattle.design.specs.Build.{design_of}
 use Rattle.design.specs.Equations.{value_of}
-use Rattle.fanin_cone.specs.Extract.{first_unknown}
 use Rattle.vcd_dump.specs.Dump.{dump_text}
 use Rattle.vcd_dump.specs.Traces.{name_of}
 use Rattle.prepared_runs.specs.declared.source.Source.{Source}
@@ -45,17 +45,17 @@ seen_source s = record {
   picks = seen_picks s.picks;
 }
 
--- the numbers of the nets that a dump shows, in its order; nets that are named are shown in the order of the names, none twice
+-- the numbers of the nets that a dump shows, in its order; nets that words mean are shown in the order of the words, none twice
 abbrev pub shown_nets : Selection → NetlistView → List ℕ
 shown_nets All netlist = range_with_len 0 (length netlist.nets)
 shown_nets Outputs netlist = netlist.outputs
-shown_nets (Named names) netlist = distinct (filter_map (net_named netlist) (seen_names names.items))
+shown_nets (Named words) netlist = distinct (unwrap_or (nets_of_words netlist (seen_names words.items)) [])
 
--- each name of a net to be shown is that of a net
+-- each word for nets to be shown means some
 abbrev pub knows_shown : Selection → NetlistView → Bool
 knows_shown All netlist = true
 knows_shown Outputs netlist = true
-knows_shown (Named names) netlist = is_none (first_unknown netlist (seen_names names.items))
+knows_shown (Named words) netlist = is_some (nets_of_words netlist (seen_names words.items))
 
 -- an answer, unless a net to be shown doesn't exist
 abbrev pub if_known : {A : Type 0} → Selection → NetlistView → A → Result A SimFault

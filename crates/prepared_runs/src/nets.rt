@@ -8,14 +8,14 @@ ghost use Rattle.prepared_runs.specs.Source.{if_known, knows_shown, net_or_unkno
 use crate::fault::SimFault;
 use crate::view::Selection;
 use design::Design;
-use fanin_cone::net_numbers;
+use net_words::nets_of_words;
 use netlist::without_repeats;
 use std::alloc::{AllocError, Global};
 
 /// Returns the numbers of the nets that are shown, in their order.
 ///
 /// # Errors
-/// [`SimFault::UnknownNet`] if no net has one of the names.
+/// [`SimFault::UnknownNet`] if one of the words means no net.
 pub fn shown_nets(
     alloc: Global,
     design: &Design,
@@ -31,9 +31,10 @@ pub fn shown_nets(
     match show {
         Selection::All => Ok((0..nets).collect(alloc)?),
         Selection::Outputs => Ok(Vec::from_slice(alloc, design.netlist().outputs())?),
-        Selection::Named(names) => {
-            let numbers = net_numbers(alloc, design.netlist(), names.as_slice())?;
-            Ok(without_repeats(alloc, numbers.as_slice(), nets as usize)?)
+        Selection::Named(words) => {
+            let meant = nets_of_words(alloc, design.netlist(), words.as_slice())?;
+            let meant = meant.ok_or(SimFault::UnknownNet)?;
+            Ok(without_repeats(alloc, meant.as_slice(), nets as usize)?)
         }
     }
 }

@@ -24,7 +24,7 @@ returns-in_err-compared-clause-err c =
     let p = err_from_is_err_and c.from_residual.result c.from_residual.ensures.1 in
     let first = seen_source c.args.first.now in
     let second = seen_source c.args.second.now in
-    let names = seen_names c.args.names.now in
+    let names = seen_names c.args.words.now in
     let ticks = c.args.ticks in
     let bad = sym c.in_err-compared.ensures.exact in
     rw (p.1, p.2) (IsDiffRefusal-ticks ticks (pair_of first second names ticks) _ bad (pair_of-bad_ticks first second names ticks _ bad))
@@ -34,7 +34,7 @@ returns-in_err-one-clause-err c =
     let p = err_from_is_err_and c.from_residual-in_err-one.result c.from_residual-in_err-one.ensures.1 in
     let first = seen_source c.args.first.now in
     let second = seen_source c.args.second.now in
-    let names = seen_names c.args.names.now in
+    let names = seen_names c.args.words.now in
     let ticks = c.args.ticks in
     rw (p.1, p.2) (IsDiffRefusal-lifted (pair_of first second names ticks) (run_of_source first ticks.horizon) First _ c.in_err-one.ensures.side
     (pair_of-bad_first first second names ticks _ (sym c.in_ok-compared.ensures.exact))
@@ -45,7 +45,7 @@ returns-in_err-other-clause-err c =
     let p = err_from_is_err_and c.from_residual-in_err-other.result c.from_residual-in_err-other.ensures.1 in
     let first = seen_source c.args.first.now in
     let second = seen_source c.args.second.now in
-    let names = seen_names c.args.names.now in
+    let names = seen_names c.args.words.now in
     let ticks = c.args.ticks in
     let made_one = IfOk-at_ok (λ (run : PreparedRun). run_of_source first ticks.horizon ≡ Ok (seen_run run)) c.in_ok-one.ensures.ok c.prepare_run.ensures.ok in
     rw (p.1, p.2) (IsDiffRefusal-lifted (pair_of first second names ticks) (run_of_source second ticks.horizon) Second _ c.in_err-other.ensures.side
@@ -77,7 +77,7 @@ returns-in_err-diff_prepared-clause-err c =
     let p = err_from_is_err_and c.from_residual-in_err-diff_prepared.result c.from_residual-in_err-diff_prepared.ensures.1 in
     let first = seen_source c.args.first.now in
     let second = seen_source c.args.second.now in
-    let names = seen_names c.args.names.now in
+    let names = seen_names c.args.words.now in
     let ticks = c.args.ticks in
     let made_one = IfOk-at_ok (λ (run : PreparedRun). run_of_source first ticks.horizon ≡ Ok (seen_run run)) c.in_ok-one.ensures.ok c.prepare_run.ensures.ok in
     let made_other = IfOk-at_ok (λ (run : PreparedRun). run_of_source second ticks.horizon ≡ Ok (seen_run run)) c.in_ok-other.ensures.ok c.prepare_run-2.ensures.ok in
@@ -118,7 +118,7 @@ pub returns-clause-ok : goal.returns-clause-ok
 returns-clause-ok c =
     let first = seen_source c.args.first.now in
     let second = seen_source c.args.second.now in
-    let names = seen_names c.args.names.now in
+    let names = seen_names c.args.words.now in
     let ticks = c.args.ticks in
     let made_one = IfOk-at_ok (λ (run : PreparedRun). run_of_source first ticks.horizon ≡ Ok (seen_run run)) c.in_ok-one.ensures.ok c.prepare_run.ensures.ok in
     let made_other = IfOk-at_ok (λ (run : PreparedRun). run_of_source second ticks.horizon ≡ Ok (seen_run run)) c.in_ok-other.ensures.ok c.prepare_run-2.ensures.ok in

@@ -1,4 +1,5 @@
 use Rattle.std.proofs.Common.{◌≡◌, ℕ, List, Option, Bor, sym, ap, ◌∙◌}
+use Rattle.std.proofs.lemmas.Result.{IfOk-weaker}
 use Rattle.netlist.specs.Names.{seen_names}
 use Rattle.netlist.specs.Netlist.{NetlistView}
 use Rattle.command_line.specs.declared.order.Order.{Order}
@@ -12,8 +13,9 @@ returns-in_ok-other-in-Diff c =
     let one : c.in_ok-one-in-Diff.one ≡ netlist_in texts.first.bench.items = c.in_ok-one-in-Diff.ensures ∙ ap netlist_in c.as_slice.ensures.value in
     let other : c.in_ok-other-in-Diff.other ≡ netlist_in texts.second.bench.items =
     c.in_ok-other-in-Diff.ensures ∙ ap netlist_in c.as_slice-in-Diff.ensures.value in
-    c.first_in_neither.ensures
-    ∙ ap (λ (s : List (Bor (List ℕ))). first_in_neither (seen_names s) c.in_ok-one-in-Diff.one c.in_ok-other-in-Diff.other) c.as_slice-in-Diff-2.ensures.value
+    let known =
+    ap (λ (s : List (Bor (List ℕ))). first_in_neither (seen_names s) c.in_ok-one-in-Diff.one c.in_ok-other-in-Diff.other) c.as_slice-in-Diff-2.ensures.value
     ∙ ap (λ (n : Option NetlistView). first_in_neither (seen_names names) n c.in_ok-other-in-Diff.other) one
     ∙ ap (first_in_neither (seen_names names) (netlist_in texts.first.bench.items)) other
-    ∙ sym (ap (λ (o : Order). unknown_asked o c.args.side texts) c.in-Diff.is)
+    ∙ sym (ap (λ (o : Order). unknown_asked o c.args.side texts) c.in-Diff.is) in
+    IfOk-weaker c.first_in_neither.result _ _ (λ word is. is ∙ known) c.first_in_neither.ensures
