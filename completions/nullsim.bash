@@ -20,7 +20,7 @@ _nullsim_options() {
             --show=all/outputs --nets=NAMES --unit=s/ms/us/ns/ps/fs --progress --help) ;;
         draw) options=(--bench=FILE --verbose --delays=FILE --stimuli=FILE --delay=N --period=N --horizon=N
             --show=all/outputs --nets=NAMES --bus=BUS --from=N --to=N --step=N --at-end --svg --wavejson --html
-            --progress --help) ;;
+            --width=N --progress --help) ;;
         trace) options=(--bench=FILE --verbose --delays=FILE --stimuli=FILE --delay=N --period=N --horizon=N
             --schedule=FILE --seed=N --picks=N --no-idle --net=NAME --frontiers --nets=NAMES --help) ;;
         why) options=(--bench=FILE --verbose --delays=FILE --stimuli=FILE --delay=N --period=N --net=NAME --at=N
