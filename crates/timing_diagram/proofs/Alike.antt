@@ -293,6 +293,7 @@ part-drawable ticks columns column ok inside =
       some = ok.some;
       forward = omega (arith, begins, later);
       few = (let few = ok.few in omega (arith, few, fewer));
+      soon = (let soon = ok.soon in omega (arith, to, soon));
     }
 
 -- each part after the first begins at a column

@@ -11,7 +11,7 @@ use Rattle.serde_json.specs.View.{items_of}
 use Rattle.serde_json.specs.Written.{compact_text, has_float, items_have_float}
 use Rattle.vcd_dump.specs.Dump.{Trace}
 use Rattle.timing_diagram.specs.declared.form.Form.{Form}
-use Rattle.timing_diagram.specs.declared.form.Form.TheVariants.{Text, Svg, WaveJson, Html}
+use Rattle.timing_diagram.specs.declared.form.Form.TheVariants.{Text, Folded, Svg, WaveJson, Html}
 use Rattle.timing_diagram.specs.Bus.{BusTrace}
 use Rattle.timing_diagram.specs.Columns.{Ticks}
 use Rattle.timing_diagram.specs.WavesPage.{begin_ticks, bit_lane, bus_lane, is_too_long, later_changes, net_lane, number_data, page_data, page_text, unopened, value_count}
@@ -73,6 +73,7 @@ module _ {A : Type 0} (ticks : Ticks) (forward : ticks.from ≤ ticks.to) (first
   pub is_too_long-same : (form : Form) (xs : List A) (buses : List (List ℕ × List A)) →
       is_too_long form ticks (map first xs) (bused first buses) ≡ is_too_long form ticks (map second xs) (bused second buses)
   is_too_long-same Text xs buses = refl
+  is_too_long-same (Folded line) xs buses = refl
   is_too_long-same Svg xs buses = refl
   is_too_long-same WaveJson xs buses = refl
   is_too_long-same Html xs buses = rw (counts-same xs, bus_counts-same buses) refl
