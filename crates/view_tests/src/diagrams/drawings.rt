@@ -74,10 +74,12 @@ const S27_TEXT: &[u8] = b"     0.........10........20........30........\n\
       G13  xx/----------\\______________________\n";
 
 // A tick above each column that has one in the text, and the characters of the columns.
-const INVERTER_WAVES: &[u8] = b"{\"foot\":{\"tick\":[\"0\",\"\",\"\",\"\",\"\",\"\",\"\",\"\",\"\",\"\"]},\
+const INVERTER_WAVES: &[u8] =
+    b"{\"foot\":{\"tick\":[\"0\",\"\",\"\",\"\",\"\",\"\",\"\",\"\",\"\",\"\"]},\
       \"signal\":[{\"name\":\"a\",\"wave\":\"0..1..\"},{\"name\":\"y\",\"wave\":\"x1..0.\"}]}\n";
 
-const HAZARD_WAVES: &[u8] = b"{\"foot\":{\"tick\":[\"0\",\"\",\"\",\"\",\"\",\"\",\"\",\"\",\"\",\"\"]},\
+const HAZARD_WAVES: &[u8] =
+    b"{\"foot\":{\"tick\":[\"0\",\"\",\"\",\"\",\"\",\"\",\"\",\"\",\"\",\"\"]},\
       \"signal\":[{\"name\":\"a\",\"wave\":\"0.|1.\"},{\"name\":\"b\",\"wave\":\"|0.1.\"},\
       {\"name\":\"y\",\"wave\":\"x0.|0\"}]}\n";
 
@@ -186,7 +188,8 @@ const BUS_SVG: &[u8] =
       </svg>\n";
 
 // All nets of a circuit as one bus. Seventeen bits have five digits, for which one column isn't enough.
-const BUS_WAVES: &[u8] = b"{\"foot\":{\"tick\":[\"0\",\"\",\"\",\"\",\"\",\"\",\"\",\"\",\"\",\"\"]},\
+const BUS_WAVES: &[u8] =
+    b"{\"foot\":{\"tick\":[\"0\",\"\",\"\",\"\",\"\",\"\",\"\",\"\",\"\",\"\"]},\
       \"signal\":[{\"data\":[\"0\",\"6\"],\"name\":\"all\",\"wave\":\"|=||=\"}]}\n";
 
 static BUSES: [Row; 5] = [
