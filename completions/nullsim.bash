@@ -8,8 +8,8 @@
 _nullsim_commands=(run plain draw trace why stimuli info cone diff twin check explain help)
 _nullsim_faults=(TooLong BadByte BadLine NameTooLong UnknownGate BadArity DefinedTwice Undefined NoNets TooMany
     UnknownNet IsInput NotAFlop BadPin BadTicks BadPeriod BadPhase BadValue Twice NotAnInput TickTooLarge NotRising
-    TooManyEvents BadDeck BadDelay BadHorizon NoStep Backwards PastHorizon TooManyColumns BadEvery BadHalf BadPulse
-    TooWide Read Write WroteNothing Memory)
+    TooManyEvents BadDeck BadDelay BadHorizon NoStep Backwards PastHorizon TooManyColumns TooManyChanges BadEvery
+    BadHalf BadPulse TooWide Read Write WroteNothing Memory)
 _nullsim_options() {
     case $1 in
         '') options=(--verbose --help --version) ;;
@@ -19,8 +19,8 @@ _nullsim_options() {
         plain) options=(--bench=FILE --verbose --delays=FILE --stimuli=FILE --delay=N --period=N --horizon=N
             --show=all/outputs --nets=NAMES --unit=s/ms/us/ns/ps/fs --progress --help) ;;
         draw) options=(--bench=FILE --verbose --delays=FILE --stimuli=FILE --delay=N --period=N --horizon=N
-            --show=all/outputs --nets=NAMES --bus=BUS --from=N --to=N --step=N --at-end --svg --wavejson --progress
-            --help) ;;
+            --show=all/outputs --nets=NAMES --bus=BUS --from=N --to=N --step=N --at-end --svg --wavejson --html
+            --progress --help) ;;
         trace) options=(--bench=FILE --verbose --delays=FILE --stimuli=FILE --delay=N --period=N --horizon=N
             --schedule=FILE --seed=N --picks=N --no-idle --net=NAME --frontiers --nets=NAMES --help) ;;
         why) options=(--bench=FILE --verbose --delays=FILE --stimuli=FILE --delay=N --period=N --net=NAME --at=N

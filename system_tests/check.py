@@ -5,7 +5,7 @@ The memory probes (crates/memory_probes) and each command of nullsim are run onc
 which is then refused. After that nullsim is run over faulty streams and files, over texts that are cut off or changed at
 random, and over texts and circuits of the greatest size. Then come the answers in `cases/`, the examples of `explain`,
 products of a multiplier, designs that were made of Verilog, the commands, pictures, prose and definitions of the pages,
-the man page, the completions, the script that builds and starts the program, and what it installs. The last line is
+the man page, the completions, pages of waveforms in a browser, the script that builds and starts the program, and what it installs. The last line is
 'N passed, M failed', over all of these.
 
     check.py [--random COUNT] [--seed FIRST]    the number of circuits and decks changed at random, and the first seed
@@ -17,6 +17,7 @@ import tempfile
 import time
 from typing import Callable
 
+import browser
 import cases
 import completed
 import explained
@@ -51,6 +52,8 @@ def commands() -> list[tuple[list, bytes, int]]:
         ("trace --bench hazard.bench --stimuli hazard.stimuli --horizon 8 --no-idle --net y".split(), b"", 0),
         ("trace --bench hazard.bench --stimuli hazard.stimuli --horizon 8 --frontiers --nets y,b".split(), b"", 0),
         ("draw --bench counter.bench --delays counter.delays --horizon 79 --show outputs --bus q[1:0]".split(), b"", 0),
+        ("draw --bench hazard.bench --stimuli hazard.stimuli --horizon 8 --wavejson".split(), b"", 0),
+        ("draw --bench hazard.bench --stimuli hazard.stimuli --horizon 8 --nets y --bus a --html".split(), b"", 0),
         ("plain --bench pulse.bench --delays pulse.delays --stimuli pulse.stimuli --horizon 22".split(), b"", 0),
         ("stimuli --bench verilog/uart.bench --horizon 60 --clock clk=10,10,1 --hold data[7:0]=0x48".split(), b"", 0),
         (streams.HELP, b"", 0),
@@ -77,7 +80,8 @@ def checks(refuser: refused.Refuser, folder: str, seeds: range) -> list:
     found += [*texts.cases(program, folder, seeds), *sizes.cases(program, folder)]
     found += [*cases.cases(program, folder), *explained.cases(program, folder), *products.cases(program, folder)]
     found += [*verilog.cases(program), *pages.cases(program, folder), *manual.cases(program, folder)]
-    return [*found, *completed.cases(program), *script.cases(folder), *installed.cases(folder)]
+    found += [*completed.cases(program), *browser.cases(program)]
+    return [*found, *script.cases(folder), *installed.cases(folder)]
 
 
 def fault_of(check: Callable[[], str | None]) -> str | None:

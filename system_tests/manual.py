@@ -43,6 +43,12 @@ def derived_fault(program: Path) -> str | None:
     return None if ended.status == 0 else ended.err.decode()
 
 
+def page_texts_fault() -> str | None:
+    """What is wrong with the source that tools/page_texts.py writes from the folder page/."""
+    ended = run([sys.executable, ROOT / "tools/page_texts.py", "--check"])
+    return None if ended.status == 0 else ended.err.decode()
+
+
 def options_fault(program: Path) -> str | None:
     """What is wrong with the commands and options of the man page, read apart from tools/from_help.py."""
     found, commands = dict(SECTION.findall(plain())), HELP_COMMAND.findall(help_of(program, []))
@@ -101,6 +107,7 @@ def cases(program: Path, folder: str) -> list[tuple[str, Callable[[], str | None
     """The checks of the man page. A linter that isn't installed is named, and not counted."""
     found: list[tuple[str, Callable[[], str | None]]] = [
         ("the man page and the completions, as the help", lambda: derived_fault(program)),
+        ("the texts of pages in their crate, as in page/", page_texts_fault),
         ("the man page, commands and options", lambda: options_fault(program)),
         ("the man page, exit statuses", lambda: statuses_fault(program)),
         ("the man page, version", lambda: version_fault(program)),

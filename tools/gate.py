@@ -109,13 +109,14 @@ class Beside:
             yield printed(*task.result())
 
 
-def install_parallel() -> None:
-    """Installs GNU parallel, which the commands of docs/MANY_RUNS.md call, if it is missing and a registry is reached.
-    Otherwise these commands are left out."""
-    if shutil.which("parallel") or not shutil.which("apt-get") or os.geteuid() != 0:
+def install(*packages: str) -> None:
+    """Installs packages of which each has a program of its name, if one is missing and a registry is reached. Otherwise the
+    checks that need it are left out."""
+    missing = [package for package in packages if not shutil.which(package)]
+    if not missing or not shutil.which("apt-get") or os.geteuid() != 0:
         return
     quick = ["-qq", "-o", "Acquire::Retries=0", "-o", "Acquire::http::Timeout=10"]
-    for words in (["update"], ["install", "--yes", "--no-install-recommends", "parallel"]):
+    for words in (["update"], ["install", "--yes", "--no-install-recommends", *missing]):
         try:
             subprocess.run(["apt-get", *quick, *words], stdin=subprocess.DEVNULL, stdout=subprocess.DEVNULL,
                            stderr=subprocess.DEVNULL, env={**os.environ, "DEBIAN_FRONTEND": "noninteractive"},
@@ -141,7 +142,8 @@ def gate(begun: float) -> Iterator[tuple[int, int]]:
         if failed:
             lanes.shutdown(cancel_futures=True)
             return
-        install_parallel()
+        # GNU parallel for the commands of docs/MANY_RUNS.md, and Chromium for pages in a browser
+        install("parallel", "chromium")
         faults = Part([sys.executable, "system_tests/check.py"])
         for _ in faults.lines():
             pass

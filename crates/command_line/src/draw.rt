@@ -14,8 +14,8 @@ use std::alloc::{AllocError, Global};
 use timing_diagram::Form;
 
 const ABOUT: &str =
-    "Simulates a circuit and draws a timing diagram on standard output, as text, as SVG or as\n\
-     WaveJSON";
+    "Simulates a circuit and draws a timing diagram on standard output, as text, as SVG, as\n\
+     WaveJSON or as a page for a browser";
 
 const USAGE: &str = "nullsim draw --bench <FILE> --horizon <N> [OPTIONS]";
 
@@ -37,10 +37,13 @@ const SVG: &str = "Draw the diagram as an SVG picture, which browsers show";
 
 const WAVEJSON: &str = "Draw the diagram as WaveJSON, which WaveDrom draws";
 
+const HTML: &str = "Write a page, on which a browser shows the waveforms: with zoom, a cursor\n\
+     with all values, markers and search; has each change at its tick";
+
 const BUS: &str = "Also draw a bus in hexadecimal: data[7:0] is data[7] to data[0]; can be\n\
      repeated. Without --show and --nets, only the buses are drawn";
 
-static OPTIONS: [Described; 7] = [
+static OPTIONS: [Described; 8] = [
     Described("bus", Takes::Bus, Absent::Nothing, BUS),
     Described("from", Takes::Number, Absent::Default("0"), FROM),
     Described("to", Takes::Number, Absent::Nothing, TO),
@@ -52,6 +55,12 @@ static OPTIONS: [Described; 7] = [
         Takes::NothingFor(&["svg"]),
         Absent::Nothing,
         WAVEJSON,
+    ),
+    Described(
+        "html",
+        Takes::NothingFor(&["svg", "wavejson", "step", "at-end"]),
+        Absent::Nothing,
+        HTML,
     ),
 ];
 
@@ -95,9 +104,18 @@ fn view_given<'a>(alloc: Global, options: &ArgMatches<'a>) -> Result<DiagramView
         from,
         // a first tick after the horizon is the one at fault, and not the horizon
         to: options.get_one("to").unwrap_or(horizon.max(from)),
-        step: number_given(options, "step"),
+        step: step_given(options),
         at_end: options.get_flag("at-end"),
     })
+}
+
+/// Returns the number of ticks in a column. A page has no columns: one has all ticks.
+fn step_given(options: &ArgMatches<'_>) -> u64 {
+    if options.get_flag("html") {
+        u64::MAX
+    } else {
+        number_given(options, "step")
+    }
 }
 
 /// Returns the nets to show: none if there are only buses.
@@ -115,6 +133,8 @@ fn form_given(options: &ArgMatches<'_>) -> Form {
         Form::Svg
     } else if options.get_flag("wavejson") {
         Form::WaveJson
+    } else if options.get_flag("html") {
+        Form::Html
     } else {
         Form::Text
     }

@@ -62,7 +62,7 @@ static OPTIONS: [(&str, &str); 3] = [
 ];
 
 /// The options of one command alone.
-static ELSEWHERE: [(&str, &str); 12] = [
+static ELSEWHERE: [(&str, &str); 13] = [
     ("counts", "run"),
     ("clock", "stimuli"),
     ("hold", "stimuli"),
@@ -72,6 +72,7 @@ static ELSEWHERE: [(&str, &str); 12] = [
     ("step", "draw"),
     ("svg", "draw"),
     ("wavejson", "draw"),
+    ("html", "draw"),
     ("to", "draw"),
     ("no-idle", "trace"),
     ("frontiers", "trace"),

@@ -35,7 +35,7 @@ pub(crate) static SETTINGS: [Explanation; 3] = [
     },
 ];
 
-pub(crate) static COLUMNS: [Explanation; 4] = [
+pub(crate) static COLUMNS: [Explanation; 5] = [
     Explanation {
         name: "NoStep",
         meaning: "a column would hold 0 ticks.",
@@ -75,6 +75,12 @@ pub(crate) static COLUMNS: [Explanation; 4] = [
             faulty: "nullsim draw --bench circuit.bench --horizon 5000\n",
             mended: "nullsim draw --bench circuit.bench --horizon 5000 --step 10\n",
         }),
+    },
+    Explanation {
+        name: "TooManyChanges",
+        meaning: "a page would have more than 2,000,000 values, one for each net and each change.",
+        wanted: "fewer ticks (--from and --to), or fewer nets (--nets)",
+        example: None,
     },
 ];
 

@@ -89,6 +89,13 @@ still_covers sweeps now {start} {next} is goes covers =
     (subst (λ (s : of_sweeps.Sweeps). Covers s start.circuit start.end) (sym is)
     (record { within = covers.within; all = covers.all; cut_up = covers.cut_up; to_end = covers.to_end; most = covers.most }))
 
+-- sweeps whose dump was written cover the same nets
+pub covers_written : (sweeps now : of_sweeps.Sweeps) {circuit : Circuit} {end reported : ℕ} → now ≡ record sweeps { reported = reported } →
+    Covers sweeps circuit end → Covers now circuit end
+covers_written sweeps now {circuit} {end} is covers =
+    subst (λ (s : of_sweeps.Sweeps). Covers s circuit end) (sym is)
+    (record { within = covers.within; all = covers.all; cut_up = covers.cut_up; to_end = covers.to_end; most = covers.most })
+
 -- every net knows what the least does
 pub all_know_least : (run : KernelView) → IsSound run.circuit run.end run.state → AllKnow run.circuit (least_frontier run.end run.state) run.state
 all_know_least run sound = λ net below. least_frontier-le run.circuit run.end run.state sound net below

@@ -56,6 +56,11 @@ at_end ends is whole = omega (arith, ends, is, whole)
 pub still_more : {known ticks end last : ℕ} → last ≡ end + 1 → ticks ≡ end → known ≢ ticks + 1 → known ≢ last
 still_more ends is more whole = more (omega (arith, ends, is, whole))
 
+-- what was written is all, where all is known
+pub all_written : (pace : Pace) (circuit : Circuit) {known to end : ℕ} → ((c : Circuit) → Suits pace c known → to ≡ known) →
+    Suits pace circuit end → known ≡ end → to ≡ end
+all_written pace circuit whole suits is = whole circuit (subst (Suits pace circuit) (sym is) suits) ∙ is
+
 -- what was written isn't ahead of what is known
 pub ahead_of : {written known least : ℕ} → written ≤ least → known ≡ least → written ≤ known
 ahead_of ahead is = omega (arith, ahead, is)
@@ -97,8 +102,8 @@ known_to_end now mid known drains is whole net below =
     let done = sym (complete_is now mid known drains is) ∙ eq-eqb known now.end whole in
     frontier_when_complete mid.circuit mid.end mid.state drains.sound (is_complete-true mid.state done) net below
 
-module _ {ByRounds : Type 0} {start now mid : KernelView} {written known : ℕ} (so_far : Streamed ByRounds start now written) (drains : DrainsTo now mid)
-    (is : known ≡ least_frontier now.end now.state) (floors : EachFloor mid (λ floor. floor ≡ known)) (ok : IsCircuit start.circuit) where
+module _ {ByRounds : Type 0} {start now mid : KernelView} {written known to : ℕ} (so_far : Streamed ByRounds start now written) (drains : DrainsTo now mid)
+    (is : known ≡ least_frontier now.end now.state) (within : to ≤ known) (floors : EachFloor mid (λ floor. floor ≡ to)) (ok : IsCircuit start.circuit) where
   same_run : mid ≡ record start { state = mid.state }
   same_run = same so_far drains
 
@@ -120,7 +125,7 @@ module _ {ByRounds : Type 0} {start now mid : KernelView} {written known : ℕ} 
 
     -- it goes on
     pub streamed_more : (ByRounds → next.state ≡ round_of mid.state) → ((net : ℕ) → floor_at next.state net ≡ floor_at mid.state net) →
-        Streamed ByRounds start next known
+        Streamed ByRounds start next to
     streamed_more round kept = record {
       run = led so_far drains next goes;
       sound = sound_next;
@@ -129,8 +134,8 @@ module _ {ByRounds : Type 0} {start now mid : KernelView} {written known : ℕ} 
       floors = λ net below. kept net ∙ floors net (subst (λ c. net < length c) (ap (λ (k : KernelView). k.circuit) goes) below);
       ahead =
           let least = least_same now mid drains in
-          let within = least_within mid in
-          omega (arith, least, within, raised, is);
+          let most = least_within mid in
+          omega (arith, least, most, raised, is, within);
     }
 
     -- and less is left to the end

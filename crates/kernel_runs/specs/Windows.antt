@@ -1,5 +1,5 @@
 -- How far past what every net knows a sweep goes.
-use Rattle.std.specs.Prelude.{ℕ, ◌*◌, ◌/◌, ◌-◌, ◌==◌, nat_lt, if◌then◌else◌, min, max}
+use Rattle.std.specs.Prelude.{ℕ, ◌*◌, ◌/◌, ◌-◌, ◌==◌, ◌||◌, not, nat_lt, if◌then◌else◌, min, max}
 
 -- the most changes that a sweep over few nets should send
 abbrev pub most_sent_by_few : ℕ
@@ -27,3 +27,10 @@ next_width known width sent most =
     else if nat_lt sent (most / 4) then min (width * 2) widest
     else if nat_lt most (sent / 2) then max (width / 2) 1
     else if nat_lt most sent then max (width - width / 4) 1 else width
+
+-- the tick up to which a dump is written, given up to which it is written already, the ticks that every net knows, the end of
+-- the run, the changes that were sent since the dump was last written, and the most that a sweep should send: all that is
+-- known, at the end or if these changes are at least a quarter of the most
+abbrev pub written_next : ℕ → ℕ → ℕ → ℕ → ℕ → ℕ
+written_next written known end sent most =
+    if known == end || not (nat_lt sent (most / 4)) then known else written

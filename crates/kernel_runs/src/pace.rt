@@ -1,5 +1,6 @@
 //! How a run advances to its end.
-ghost use Rattle.std.specs.Prelude.{◌≡◌, ℕ, ◌+◌, false, IfOk, OnOk};
+ghost use Rattle.std.specs.Prelude.{◌≡◌, ℕ, ◌+◌, ◌≤◌, false, IfOk, OnOk};
+ghost use Rattle.design.specs.Circuit.{Circuit};
 ghost use Rattle.cmb_kernel.specs.State.{floor_at, least_frontier};
 ghost use Rattle.cmb_kernel.specs.Step.{round_of};
 ghost use Rattle.cmb_kernel.specs.Sound.{IsSound};
@@ -32,6 +33,24 @@ impl Pace {
         ensures { IfOk result (λ pace. Suits pace design.now.circuit (horizon + 1)) }
     {
         Ok(Pace::Sweeps(Sweeps::new(alloc, design, horizon)?))
+    }
+
+    /// Returns the tick up to which a run's dump is written now, given up to which it is written already, the ticks
+    /// known of every net, and how many changes the run has sent. By rounds, all that is known is written after each
+    /// of them.
+    pub(crate) fn write_to(&mut self, written: u64, known: u64, sent: u64) -> u64
+        requires { written ≤ known }
+        ensures ahead { written ≤ result }
+        ensures within { result ≤ known }
+        ensures end { (circuit : Circuit) → Suits self.old circuit known → result ≡ known }
+        ensures rounds { self.old ≡ Rounds → result ≡ known }
+        ensures same { self.old ≡ Rounds → self.new ≡ Rounds }
+        ensures suits { (circuit : Circuit) (end : ℕ) → Suits self.old circuit end → Suits self.new circuit end }
+    {
+        match self {
+            Pace::Rounds => known,
+            Pace::Sweeps(sweeps) => sweeps.write_to(written, known, sent),
+        }
     }
 
     /// Advances a run, given the number of ticks known of every net.

@@ -25,8 +25,8 @@ use std::alloc::Global;
 use std::io::Write;
 use vcd_dump::{Stream, TimeUnit};
 
-/// Runs to the end, and writes the dump of these nets: writes what every net knows, each time it is more, and
-/// reports how much that is.
+/// Runs to the end, and writes the dump of these nets: writes what every net knows, whenever it is more and the pace
+/// says so, and reports how much that is.
 pub(crate) fn stream_to_end<W: Write, P: Progress>(
     alloc: Global,
     kernel: &mut StreamKernel<'_>,
@@ -62,15 +62,8 @@ pub(crate) fn stream_to_end<W: Write, P: Progress>(
     let mut stream = Stream::begin(alloc, out, &run.design, nets, run.horizon, unit)?;
     loop {
         let known = kernel.least_frontier();
-        write_known(
-            alloc,
-            kernel,
-            nets,
-            hidden.as_slice(),
-            known,
-            &mut stream,
-            out,
-        )?;
+        let to = pace.write_to(stream.written(), known, kernel.counts().changes);
+        write_known(alloc, kernel, nets, hidden.as_slice(), to, &mut stream, out)?;
         progress.report(known, run.horizon);
         if known == end {
             stream.finish(out)?;

@@ -32,9 +32,9 @@ use timing_text::Horizon;
 use vcd_dump::TimeUnit;
 
 /// Runs a source by the kernel, which applies the picked events and then chooses its own: it sweeps through
-/// the nets in the order in which values flow, some ticks at a time. After each sweep what every net knows is
-/// written and forgotten. If no events are picked and the shown nets don't depend on all others, only the
-/// nets in their fan-in cones are run.
+/// the nets in the order in which values flow, some ticks at a time. Once enough changes were sent, what every
+/// net knows is written and forgotten. If no events are picked and the shown nets don't depend on all others,
+/// only the nets in their fan-in cones are run.
 ///
 /// The text is that of [`simulate`](crate::simulate), since neither the order of events nor nets outside the
 /// cones show in it. It takes far fewer events, and memory only for what is in flight in a window of ticks.

@@ -2,15 +2,15 @@
 //!
 //! In one sweep over all nets, a loop of gates advances only by as much as values take to go round it. So a
 //! loop is swept by itself, repeatedly, until its nets are known up to the end of the window.
-ghost use Rattle.std.specs.Prelude.{◌≡◌, ℕ, ◌+◌, ◌-◌, ◌<◌, ◌≤◌, All, false, length, IfOk, OnOk};
+ghost use Rattle.std.specs.Prelude.{◌≡◌, ℕ, ◌+◌, ◌-◌, ◌<◌, ◌≤◌, nat_lt, if◌then◌else◌, All, false, length, IfOk, OnOk};
 ghost use Rattle.cmb_kernel.specs.State.{frontier_at, least_frontier};
 ghost use Rattle.cmb_kernel.specs.Sound.{IsSound};
 ghost use Rattle.cmb_kernel.specs.Sweeps.{AllKnow, HoldsAll};
 ghost use Rattle.design.specs.Segments.{IsCutUp};
 ghost use Rattle.kernel_runs.specs.Paces.{AllFarther, Covers, GoesOn, LeastRises, RaisesLeast};
-ghost use Rattle.kernel_runs.specs.Windows.{next_width};
+ghost use Rattle.kernel_runs.specs.Windows.{next_width, written_next};
 
-use crate::windows::{FIRST_WIDTH, most_sent, next_width, reach};
+use crate::windows::{FIRST_WIDTH, most_sent, next_width, reach, written_next};
 use cmb_channels::Logs;
 use cmb_kernel::{Kernel, laws};
 use design::{Design, Segment, flow_order, segments_of};
@@ -29,6 +29,8 @@ pub(crate) struct Sweeps {
     most: u64,
     // The width of the next window, in ticks.
     width: u64,
+    // How many changes had been sent when the dump was last written.
+    reported: u64,
 }
 
 impl Sweeps {
@@ -48,7 +50,24 @@ impl Sweeps {
             end: horizon.ticks() + 1,
             most: most_sent(design.nets()),
             width: FIRST_WIDTH,
+            reported: 0,
         })
+    }
+
+    /// Returns the tick up to which the run's dump is written now, given up to which it is written already, the ticks
+    /// known of every net, and how many changes the run has sent.
+    pub(crate) fn write_to(&mut self, written: u64, known: u64, sent: u64) -> u64
+        ensures to { result ≡ written_next written known self.old.end (sent - self.old.reported) self.old.most }
+        ensures state { self.new ≡ record self.old {
+          reported = if nat_lt written result then sent else self.old.reported;
+        } }
+    {
+        let since = sent.saturating_sub(self.reported);
+        let to = written_next(written, known, self.end, since, self.most);
+        if written < to {
+            self.reported = sent;
+        }
+        to
     }
 
     /// Sweeps over all nets, up to the end of the window, given the number of ticks known of every net.

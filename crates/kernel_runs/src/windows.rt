@@ -3,7 +3,7 @@
 //! With a wide window few sweeps are enough, but all that happens in it is in flight at once. So the window
 //! grows while a sweep sends few changes, and shrinks if one sends many.
 ghost use Rattle.std.specs.Prelude.{◌≡◌, ◌+◌, min};
-ghost use Rattle.kernel_runs.specs.Windows.{most_sent, next_width};
+ghost use Rattle.kernel_runs.specs.Windows.{most_sent, next_width, written_next};
 
 /// The width of a run's first window, in ticks.
 pub(crate) const FIRST_WIDTH: u64 = 16;
@@ -52,5 +52,20 @@ pub(crate) fn next_width(known: u64, width: u64, sent: u64, most: u64) -> u64
         1.max(width - width / 4)
     } else {
         width
+    }
+}
+
+/// Returns the tick up to which a dump is written now, given up to which it is written already, the ticks known of
+/// every net, and the changes sent since the dump was last written, if a sweep should send at most `most`.
+///
+/// To write the dump, each net is looked at. So this waits until a quarter of these changes were sent, or all is
+/// known.
+pub(crate) fn written_next(written: u64, known: u64, end: u64, sent: u64, most: u64) -> u64
+    ensures { result ≡ written_next written known end sent most }
+{
+    if known == end || sent >= most / 4 {
+        known
+    } else {
+        written
     }
 }

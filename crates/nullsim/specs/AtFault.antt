@@ -48,7 +48,7 @@ input_driven other place = None
 
 -- ---- the number at fault
 
--- the number that each fault is for; too many columns have no such number
+-- the number that each fault is for; too many columns, or changes, have no such number
 abbrev pub number_at_fault : Order → ProgramFault → Option ℕ
 number_at_fault order (program.Run side (sim.Setting setting.BadDelay)) = option_map (λ (options : SourceOptions). options.delay) (options_on order side)
 number_at_fault order (program.Run side (sim.Setting setting.BadPeriod)) = option_map (λ (options : SourceOptions). options.period) (options_on order side)

@@ -45,7 +45,7 @@ fn number_of_columns(order: &Order<'_>, fault: ColumnsFault) -> Option<u64>
     match fault {
         ColumnsFault::NoStep => Some(view.step),
         ColumnsFault::Backwards | ColumnsFault::PastHorizon => Some(view.to),
-        ColumnsFault::TooManyColumns => None,
+        ColumnsFault::TooManyColumns | ColumnsFault::TooManyChanges => None,
     }
 }
 

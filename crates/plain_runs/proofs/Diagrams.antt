@@ -1,5 +1,5 @@
 -- The timing diagram of a run, step by step.
-use Rattle.std.proofs.Common.{◌≡◌, ℕ, zero, suc, sym, get_or, take, ◌+◌, ◌<◌, ◌≤◌, List, [], ◌∷◌, ◌++◌, length, map, All, Option, Result, Ok, Err, refl, ap, subst, ◌∙◌, arith}
+use Rattle.std.proofs.Common.{◌≡◌, ◌≢◌, Bool, false, cond, ℕ, zero, suc, sym, get_or, take, ◌+◌, ◌<◌, ◌≤◌, List, [], ◌∷◌, ◌++◌, length, map, All, Option, Result, Ok, Err, refl, ap, subst, ◌∙◌, arith}
 use Rattle.std.proofs.lemmas.List.Elements.{All-cons, All-head, All-nil, All-tail}
 use Rattle.std.proofs.lemmas.List.{get_or-map, length-map, map-append, take_more}
 use Rattle.std.proofs.KnownBytes.{Keeps-refl}
@@ -18,17 +18,26 @@ use Rattle.timing_diagram.specs.declared.bus.Bus.{Bus}
 use Rattle.timing_diagram.specs.Bus.{BusTrace, seen_bus}
 use Rattle.timing_diagram.specs.Columns.{Ticks, IsDrawable, columns_of}
 use Rattle.timing_diagram.specs.Drawing.{drawing}
-use Rattle.timing_diagram.proofs.CallerLemmas.{drawing-same}
+use Rattle.timing_diagram.proofs.CallerLemmas.{drawing-same, is_too_long-same}
+use Rattle.timing_diagram.specs.WavesPage.{is_too_long}
+use Rattle.timing_diagram.specs.declared.fault.ColumnsFault.TheVariants.{TooManyChanges}
+use Rattle.logic3.specs.declared.value.Value.{Value}
+use Rattle.vcd_dump.specs.Dump.{Trace}
+use Rattle.vcd_dump.specs.declared.fault.DumpFault.{DumpFault}
+use Rattle.vcd_dump.specs.declared.fault.DumpFault.TheVariants as dump
+use Rattle.texts.specs.Written.{AppendsPrefix}
+use Rattle.prepared_runs.specs.Faults.{sim_of_dump}
+use Rattle.prepared_runs.proofs.CallerLemmas.{BreaksOff-dump}
 use Rattle.prepared_runs.specs.declared.view.DiagramView.{DiagramView}
 use Rattle.prepared_runs.specs.declared.fault.SimFault.{SimFault}
 use Rattle.prepared_runs.specs.declared.fault.SimFault.TheVariants.{Setting, Dump, Memory}
 use Rattle.plain_runs.specs.declared.diagram_fault.DiagramFault.{DiagramFault}
 use Rattle.plain_runs.specs.declared.diagram_fault.DiagramFault.TheVariants.{Columns, Run}
-use Rattle.plain_runs.specs.Drawn.{DiagramEndsBy, bus_trace, diagram_of_lanes, diagram_of_source, ticks_of_view}
+use Rattle.plain_runs.specs.Drawn.{DiagramEndsBy, bus_signals, bus_trace, diagram_of_lanes, diagram_of_source, drawing_within, ticks_of_view}
 use Rattle.prepared_runs.specs.Ends.{BreaksOff, IsRefusal}
 use Rattle.prepared_runs.specs.declared.lanes.BusNets.{BusNets}
 use Rattle.prepared_runs.specs.Lanes.{BusView, LanesView, bits_of, bus_view, lanes_of}
-use Rattle.prepared_runs.specs.Source.{SourceView, design_of_source, or_fault}
+use Rattle.prepared_runs.specs.Source.{SourceView, design_of_source, or_fault, signals_of}
 use Rattle.prepared_runs.specs.Shown.{wave_at}
 use Rattle.prepared_runs.proofs.CallerLemmas.{WritesPart-kept, map-wave_at, traces-map}
 
@@ -98,7 +107,7 @@ module _ (source : SourceView) (view : DiagramView) (form : Form) where
       diagram_of_source-no_lanes fault none = rw (drawn, made, none) refl
 
       pub diagram_of_source-good : (lanes : LanesView) → lanes_of view design.netlist ≡ Ok lanes →
-          diagram_of_source source view form ≡ Ok (diagram_of_lanes form ticks design.circuit lanes)
+          diagram_of_source source view form ≡ diagram_of_lanes form ticks design.circuit lanes
       unfolding diagram_of_source
       diagram_of_source-good lanes are = rw (drawn, made, are) refl
 
@@ -137,12 +146,28 @@ more_traces waves buses place bus drawn more one inside is longer seen so_far =
     ∙ map-append (bus_trace (wave_at waves)) (take place (map bus_view buses)) _)
 
 -- the same is drawn of the same
+abbrev drawn : Form → Ticks → Circuit → List ℕ → List Wave → List BusTrace → Result (List ℕ) DiagramFault
+drawn form ticks circuit nets shown buses = drawing_within form ticks (map value_at shown) (traces circuit nets shown) buses
+
 pub drawn-same : (form : Form) (ticks : Ticks) (circuit : Circuit) (nets nets' : List ℕ) (shown shown' : List Wave) (buses buses' : List BusTrace) →
-    nets ≡ nets' → shown ≡ shown' → buses ≡ buses' → drawing form ticks (traces circuit nets shown) buses ≡ drawing form ticks (traces circuit nets' shown') buses'
+    nets ≡ nets' → shown ≡ shown' → buses ≡ buses' → drawn form ticks circuit nets shown buses ≡ drawn form ticks circuit nets' shown' buses'
 drawn-same form ticks circuit nets nets' shown shown' buses buses' a b d =
-    ap (λ ns. drawing form ticks (traces circuit ns shown) buses) a
-    ∙ ap (λ ws. drawing form ticks (traces circuit nets' ws) buses) b
-    ∙ ap (drawing form ticks (traces circuit nets' shown')) d
+    ap (λ ns. drawn form ticks circuit ns shown buses) a
+    ∙ ap (λ ws. drawn form ticks circuit nets' ws buses) b
+    ∙ ap (drawn form ticks circuit nets' shown') d
+
+-- a drawing that isn't too long ends as the writing of it does
+pub drawing_within-ends : (form : Form) (ticks : Ticks) (signals : List (ℕ → Value)) (shown : List Trace) (buses : List BusTrace)
+    (old new : Option (List ℕ)) (fault : DumpFault) → is_too_long form ticks signals buses ≡ false → fault ≢ dump.Failed →
+    AppendsPrefix old new (drawing form ticks shown buses) →
+    DiagramEndsBy (drawing_within form ticks signals shown buses) old new (Run (sim_of_dump fault))
+drawing_within-ends form ticks signals shown buses old new fault short ok part =
+    rw short (DiagramEndsBy-BreaksOff old new (drawing form ticks shown buses) (sim_of_dump fault)
+    (BreaksOff-dump old new (drawing form ticks shown buses) fault ok part))
+
+either-same : {long long' : Bool} {text text' : List ℕ} → long ≡ long' → text ≡ text' →
+    cond long (Err (Columns TooManyChanges)) (Ok text) ≡ cond long' (Err (Columns TooManyChanges)) (Ok text')
+either-same long text = rw (long, text) refl
 
 module _ (circuit : Circuit) (horizon : ℕ) (waves : List Wave) (are : waves ≡ waves_of circuit (horizon + 1)) where
   abbrev IsNet : ℕ → Type 0
@@ -165,15 +190,32 @@ module _ (circuit : Circuit) (horizon : ℕ) (waves : List Wave) (are : waves �
       let here = bits-same bus.1 both.0 in
       let rest = buses-same buses both.1 in rw (here, rest) refl
 
-  -- what is drawn of the waveforms of lanes is the answer's text
-  pub diagram_of_lanes-waves : (form : Form) (ticks : Ticks) (lanes : LanesView) → IsDrawable ticks → ticks.to ≤ horizon →
+  text-same : (form : Form) (ticks : Ticks) (lanes : LanesView) → IsDrawable ticks → ticks.to ≤ horizon →
       All IsNet lanes.nets → All IsNet (bits_of lanes.buses) →
       drawing form ticks (traces circuit lanes.nets (map (wave_at waves) lanes.nets)) (map (bus_trace (wave_at waves)) lanes.buses)
-      ≡ diagram_of_lanes form ticks circuit lanes
-  unfolding diagram_of_lanes
-  diagram_of_lanes-waves form ticks lanes ok within nets bits =
+      ≡ drawing form ticks (signals_of circuit lanes.nets) (bus_signals circuit lanes.buses)
+  text-same form ticks lanes ok within nets bits =
       ap (λ ws. drawing form ticks (traces circuit lanes.nets ws) (map (bus_trace (wave_at waves)) lanes.buses)) (map-wave_at circuit horizon waves lanes.nets are nets)
       ∙ ap (λ shown. drawing form ticks shown (map (bus_trace (wave_at waves)) lanes.buses)) (traces-map circuit wave lanes.nets)
       ∙ ap (drawing form ticks (map (λ net. (name_of circuit net, value_at (wave net))) lanes.nets)) (buses-same lanes.buses bits)
       ∙ drawing-same ticks ok (name_of circuit) (λ net. value_at (wave net)) (value_of circuit)
       (λ net tick inside. value_at-wave_of (value_of circuit net) 0 (horizon + 1) tick (omega arith) (omega arith)) form lanes.nets lanes.buses
+
+  long-same : (form : Form) (ticks : Ticks) (lanes : LanesView) → IsDrawable ticks → ticks.to ≤ horizon →
+      All IsNet lanes.nets → All IsNet (bits_of lanes.buses) →
+      is_too_long form ticks (map value_at (map (wave_at waves) lanes.nets)) (map (bus_trace (wave_at waves)) lanes.buses)
+      ≡ is_too_long form ticks (map (value_of circuit) lanes.nets) (bus_signals circuit lanes.buses)
+  long-same form ticks lanes ok within nets bits =
+      ap (λ signals. is_too_long form ticks signals (map (bus_trace (wave_at waves)) lanes.buses)) (maps (wave_at waves) value_at lanes.nets ∙ bits-same lanes.nets nets)
+      ∙ ap (is_too_long form ticks (map (λ net. value_at (wave net)) lanes.nets)) (buses-same lanes.buses bits)
+      ∙ is_too_long-same ticks ok.forward (λ net. value_at (wave net)) (value_of circuit)
+      (λ net tick inside. value_at-wave_of (value_of circuit net) 0 (horizon + 1) tick (omega arith) (omega arith)) form lanes.nets lanes.buses
+
+  -- what is drawn of the waveforms of lanes is the answer's text
+  pub diagram_of_lanes-waves : (form : Form) (ticks : Ticks) (lanes : LanesView) → IsDrawable ticks → ticks.to ≤ horizon →
+      All IsNet lanes.nets → All IsNet (bits_of lanes.buses) →
+      drawn form ticks circuit lanes.nets (map (wave_at waves) lanes.nets) (map (bus_trace (wave_at waves)) lanes.buses)
+      ≡ diagram_of_lanes form ticks circuit lanes
+  unfolding diagram_of_lanes
+  diagram_of_lanes-waves form ticks lanes ok within nets bits =
+      either-same (long-same form ticks lanes ok within nets bits) (text-same form ticks lanes ok within nets bits)

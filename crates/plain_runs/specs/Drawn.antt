@@ -1,8 +1,9 @@
 -- The timing diagram of a run.
-use Rattle.std.specs.Prelude.{◌≡◌, ℕ, List, map, Option, Result, Ok, Err, IsOkAnd}
+use Rattle.std.specs.Prelude.{◌≡◌, ℕ, List, map, if◌then◌else◌, Option, Result, Ok, Err, IsOkAnd}
 use Rattle.std.specs.Io.KnownBytes.{Keeps}
 use Rattle.texts.specs.Text.{◌>>=◌}
 use Rattle.timing_text.specs.Options.{horizon_of}
+use Rattle.logic3.specs.declared.value.Value.{Value}
 use Rattle.logic3.specs.Wave.{Wave, value_at}
 use Rattle.design.specs.Circuit.{Circuit}
 use Rattle.design.specs.Equations.{value_of}
@@ -10,6 +11,9 @@ use Rattle.timing_diagram.specs.declared.form.Form.{Form}
 use Rattle.timing_diagram.specs.Bus.{BusTrace}
 use Rattle.timing_diagram.specs.Columns.{Ticks, columns_of}
 use Rattle.timing_diagram.specs.Drawing.{drawing}
+use Rattle.timing_diagram.specs.WavesPage.{is_too_long}
+use Rattle.timing_diagram.specs.declared.fault.ColumnsFault.TheVariants.{TooManyChanges}
+use Rattle.vcd_dump.specs.Dump.{Trace}
 use Rattle.texts.specs.Written.{AppendsPrefix}
 use Rattle.vcd_dump.specs.Faults.{IsFailedWrite}
 use Rattle.plain_runs.specs.declared.diagram_fault.DiagramFault.{DiagramFault}
@@ -34,9 +38,15 @@ bus_trace wave bus = (bus.0, map (λ net. value_at (wave net)) bus.1)
 abbrev pub bus_signals : Circuit → List BusView → List BusTrace
 bus_signals circuit buses = map (λ (bus : BusView). (bus.0, map (value_of circuit) bus.1)) buses
 
--- what lanes show at some ticks, drawn
-unfoldable pub diagram_of_lanes : Form → Ticks → Circuit → LanesView → List ℕ
-diagram_of_lanes form ticks circuit lanes = drawing form ticks (signals_of circuit lanes.nets) (bus_signals circuit lanes.buses)
+-- a drawing, or the fault if it has too much for a page
+abbrev pub drawing_within : Form → Ticks → List (ℕ → Value) → List Trace → List BusTrace → Result (List ℕ) DiagramFault
+drawing_within form ticks signals traces buses =
+    if is_too_long form ticks signals buses then Err (Columns TooManyChanges) else Ok (drawing form ticks traces buses)
+
+-- what lanes show at some ticks, drawn, or the fault
+unfoldable pub diagram_of_lanes : Form → Ticks → Circuit → LanesView → Result (List ℕ) DiagramFault
+diagram_of_lanes form ticks circuit lanes =
+    drawing_within form ticks (map (value_of circuit) lanes.nets) (signals_of circuit lanes.nets) (bus_signals circuit lanes.buses)
 
 -- the answer to texts and settings: the diagram, or the first fault
 unfoldable pub diagram_of_source : SourceView → DiagramView → Form → Result (List ℕ) DiagramFault
@@ -44,7 +54,7 @@ diagram_of_source source view form = do
   ticks ← ticks_of_view view
   ready ← or_fault Run (design_of_source source view.horizon)
   lanes ← or_fault Run (lanes_of view (ready.1).netlist)
-  Ok (diagram_of_lanes form ticks (ready.1).circuit lanes)
+  diagram_of_lanes form ticks (ready.1).circuit lanes
 
 -- a failed write ended the diagram, or a failed allocation the run; any other fault is the answer, and nothing has been written
 abbrev pub DiagramEndsBy : Result (List ℕ) DiagramFault → Option (List ℕ) → Option (List ℕ) → DiagramFault → Type 0

@@ -4,8 +4,9 @@ ghost use Rattle.std.specs.Io.KnownBytes.{Appends};
 ghost use Rattle.timing_diagram.specs.Bus.{seen_bus};
 ghost use Rattle.timing_diagram.specs.Columns.{IsDrawable};
 ghost use Rattle.plain_runs.specs.declared.diagram_fault.DiagramFault.TheVariants.{Run};
-ghost use Rattle.plain_runs.specs.Drawn.{DiagramEndsBy, bus_trace, diagram_of_lanes, diagram_of_source, ticks_of_view};
-ghost use Rattle.prepared_runs.specs.Ends.{BreaksOff};
+ghost use Rattle.logic3.specs.Wave.{value_at};
+ghost use Rattle.vcd_dump.specs.Traces.{traces};
+ghost use Rattle.plain_runs.specs.Drawn.{DiagramEndsBy, bus_trace, diagram_of_lanes, diagram_of_source, drawing_within, ticks_of_view};
 ghost use Rattle.prepared_runs.specs.Lanes.{bits_of, bus_view, seen_lanes};
 ghost use Rattle.prepared_runs.specs.Reported.{IsTickByTick, Reported};
 ghost use Rattle.prepared_runs.specs.Shown.{wave_at};
@@ -21,7 +22,7 @@ use prepared_runs::{
 };
 use std::alloc::{AllocError, Global};
 use std::io::Write;
-use timing_diagram::{Bus, Columns, Form, draw};
+use timing_diagram::{Bus, Columns, ColumnsFault, Form, draw, is_too_long};
 use timing_text::Horizon;
 
 /// Writes the timing diagram of a run, which the plain engine computes up to its horizon.
@@ -30,7 +31,8 @@ use timing_text::Horizon;
 ///
 /// # Errors
 /// The horizon and the columns ([`DiagramFault::Columns`]) are checked first, then the settings and the
-/// texts, and then the names of nets to be shown ([`SimFault::UnknownNet`]). A refusal comes before the first
+/// texts, and then the names of nets to be shown ([`SimFault::UnknownNet`]). What is too much for a page
+/// ([`ColumnsFault::TooManyChanges`]) is known once the run is complete. A refusal comes before the first
 /// byte is written, since the whole diagram is made before that. If a write fails, a prefix of it has been
 /// written.
 pub fn diagram<W: Write>(
@@ -99,32 +101,57 @@ fn draw_lanes<W: Write, P: Progress>(
     columns: Columns,
     out: &mut W,
     progress: &mut P,
-) -> Result<(), SimFault>
+) -> Result<(), DiagramFault>
     requires nets_exist { All (λ net. net < length design.now.circuit) lanes.now.nets.items }
     requires bits_exist { All (λ net. net < length design.now.circuit) (bits_of (seen_lanes lanes.now).buses) }
     requires few { length lanes.now.nets.items ≤ length design.now.circuit }
     requires drawable { IsDrawable columns }
     requires within { columns.to ≤ horizon }
-    ensures ok { OnOk result (Appends (W.contents out.old) (W.contents out.new)
-        (diagram_of_lanes form columns design.now.circuit (seen_lanes lanes.now))) }
-    ensures err { IfErr result (BreaksOff (W.contents out.old) (W.contents out.new)
-        (diagram_of_lanes form columns design.now.circuit (seen_lanes lanes.now))) }
+    ensures ok { OnOk result (IsOkAnd (diagram_of_lanes form columns design.now.circuit (seen_lanes lanes.now))
+        (Appends (W.contents out.old) (W.contents out.new))) }
+    ensures err { IfErr result (DiagramEndsBy (diagram_of_lanes form columns design.now.circuit (seen_lanes lanes.now))
+        (W.contents out.old) (W.contents out.new)) }
     ensures reported { Reported (P.reports horizon) (IsTickByTick result horizon) progress.old progress.new }
 {
     let waves = all_waves(alloc, design, horizon, progress)?;
     let nets = lanes.nets.as_slice();
     let buses = bus_waves(alloc, waves.as_slice(), lanes.buses.as_slice())?;
     let shown = lane_waves(alloc, waves, nets)?;
-    draw(
+    draw_waves(
         alloc,
-        out,
         design,
         nets,
         shown.as_slice(),
         buses.as_slice(),
-        columns,
         form,
-    )?;
+        columns,
+        out,
+    )
+}
+
+/// Draws nets and buses with these waveforms, unless they have too much for a page.
+fn draw_waves<W: Write>(
+    alloc: Global,
+    design: &Design,
+    nets: &[u32],
+    waves: &[Waveform],
+    buses: &[Bus<'_>],
+    form: Form,
+    columns: Columns,
+    out: &mut W,
+) -> Result<(), DiagramFault>
+    requires nets_exist { All (λ net. net < length design.now.circuit) nets.now }
+    requires one_wave_each { length waves.now ≡ length nets.now }
+    requires few { length nets.now ≤ length design.now.circuit }
+    ensures ok { OnOk result (IsOkAnd (drawing_within form columns (map value_at waves.now)
+        (traces design.now.circuit nets.now waves.now) (map seen_bus buses.now)) (Appends (W.contents out.old) (W.contents out.new))) }
+    ensures err { IfErr result (DiagramEndsBy (drawing_within form columns (map value_at waves.now)
+        (traces design.now.circuit nets.now waves.now) (map seen_bus buses.now)) (W.contents out.old) (W.contents out.new)) }
+{
+    if is_too_long(waves, buses, columns, form) {
+        return Err(DiagramFault::Columns(ColumnsFault::TooManyChanges));
+    }
+    draw(alloc, out, design, nets, waves, buses, columns, form)?;
     Ok(())
 }
 

@@ -9,12 +9,13 @@ use Rattle.logic3.proofs.CallerLemmas.{changes_between-same}
 use Rattle.texts.specs.Text.{is_empty}
 use Rattle.vcd_dump.specs.Dump.{Trace}
 use Rattle.timing_diagram.specs.declared.form.Form.{Form}
-use Rattle.timing_diagram.specs.declared.form.Form.TheVariants.{Text, Svg, WaveJson}
+use Rattle.timing_diagram.specs.declared.form.Form.TheVariants.{Text, Svg, WaveJson, Html}
 use Rattle.timing_diagram.specs.Bus.{BusTrace, are_alike, begins, bit_at, digit_at, digit_count, digits, fits, lasting, shows_bits, shows_same}
 use Rattle.timing_diagram.specs.Columns.{Ticks, IsDrawable, column_count, first_tick, last_tick, shown_tick}
 use Rattle.timing_diagram.specs.Marks.{is_steady, mark_at, shows_value}
 use Rattle.timing_diagram.specs.Picture.{widest, name_width, bus_labels, bus_path, bus_row, column_path, signal_path, trace_row, value_label, value_path}
 use Rattle.timing_diagram.specs.Drawing.{mark_byte, marks_text, bus_line, bus_piece, bus_text, line_text, drawing}
+use Rattle.timing_diagram.proofs.Pages.{page-same}
 use Rattle.timing_diagram.specs.WaveJson.{bus_character, bus_characters, bus_data, bus_value, bus_values, net_data, wave_character, wave_characters, wave_json_text}
 
 -- what is written of each number of a span
@@ -274,3 +275,4 @@ module _ {A : Type 0} (ticks : Ticks) (ok : IsDrawable ticks) (name : A → List
   drawing-same Svg xs buses =
       rw (widest-same xs, widest_bus-same buses, length-same xs, buses-same buses, rows-same _ 0 xs, bus_rows-same _ (length (traced second xs)) buses) refl
   drawing-same WaveJson xs buses = wave_json-same xs buses
+  drawing-same Html xs buses = page-same ticks ok.forward first second same name xs buses

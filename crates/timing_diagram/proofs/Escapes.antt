@@ -1,8 +1,9 @@
--- Names as XML asks.
+-- Names as XML needs them, and JSON in a page.
 use Rattle.std.proofs.Common.{◌≡◌, ◌∙◌, refl, ap, ℕ, ◌==◌, Bool, true, false, cond, List, [], ◌∷◌, ◌||◌, codes}
 use Rattle.std.specs.List.{list_any}
 use Rattle.std.proofs.lemmas.List.Folds.{list_any-append}
 use Rattle.timing_diagram.specs.Picture.{escaped_byte, escaped}
+use Rattle.timing_diagram.specs.WavesPage.{unopened_byte, unopened}
 
 byte_opens : (byte : ℕ) → list_any (λ b. b == 60) (escaped_byte byte) ≡ false
 byte_opens byte = go (byte == 38) (byte == 60) refl (byte == 62)
@@ -35,3 +36,28 @@ opens_nothing = none (λ byte. byte == 60) byte_opens
 
 pub closes_nothing : (name : List ℕ) → list_any (λ byte. byte == 62) (escaped name) ≡ false
 closes_nothing = none (λ byte. byte == 62) byte_closes
+
+-- ---- the data of a page
+
+byte_unopened : (byte : ℕ) → list_any (λ b. b == 60) (unopened_byte byte) ≡ false
+byte_unopened byte = go (byte == 60) refl
+  where
+    go : (a : Bool) → (byte == 60) ≡ a → list_any (λ x. x == 60) (cond a (92 ∷ codes "u003c") (byte ∷ [])) ≡ false
+    go true e = refl
+    go false e = rw e refl
+
+pub page_opens_nothing : (text : List ℕ) → list_any (λ byte. byte == 60) (unopened text) ≡ false
+page_opens_nothing [] = refl
+page_opens_nothing (byte ∷ text) =
+    list_any-append (λ b. b == 60) (unopened_byte byte) (unopened text)
+    ∙ ap (λ b. b || list_any (λ b. b == 60) (unopened text)) (byte_unopened byte) ∙ page_opens_nothing text
+
+neither : (a b : Bool) → (a || b) ≡ false → (a ≡ false) × (b ≡ false)
+neither true b e = absurd (cc)
+neither false b e = (refl, e)
+
+pub page_keeps : (text : List ℕ) → list_any (λ byte. byte == 60) text ≡ false → unopened text ≡ text
+page_keeps [] none = refl
+page_keeps (byte ∷ text) none =
+    let parts = neither (byte == 60) (list_any (λ b. b == 60) text) none in
+    rw parts.0 (ap (λ rest. byte ∷ rest) (page_keeps text parts.1))

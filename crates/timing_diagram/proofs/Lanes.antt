@@ -42,7 +42,7 @@ none-replicate : (count : ℕ) (x : Data) → has_float x ≡ false → HasNone 
 none-replicate zero x none = refl
 none-replicate (suc count) x none = rw none (none-replicate count x none)
 
-none-map : {A : Type 0} (data_of : A → Data) → ((x : A) → has_float (data_of x) ≡ false) → (xs : List A) → HasNone (map data_of xs)
+pub none-map : {A : Type 0} (data_of : A → Data) → ((x : A) → has_float (data_of x) ≡ false) → (xs : List A) → HasNone (map data_of xs)
 none-map data_of each [] = refl
 none-map data_of each (x ∷ xs) = rw (each x) (none-map data_of each xs)
 

@@ -64,6 +64,13 @@ svg-joined ticks shown buses left height count places l l₁ l₂ l₃ l₄ l₅
 
 -- ---- buses
 
+-- the next of some bits
+pub bit-next : (bits : List Wave) (place : ℕ) (bit : Wave) → place < length bits → bit ≡ get_or bits place bit →
+    drop place (map value_at bits) ≡ value_at bit ∷ drop (place + 1) (map value_at bits)
+bit-next bits place bit inside is =
+    rw (drop-cons (map value_at bits) place (value_at bit) (omega (arith, length-map bits value_at)), add-one)
+    (ap (λ b. b ∷ drop (suc place) (map value_at bits)) (get_or-map value_at bits place bit (value_at bit) inside ∙ ap value_at (sym is)))
+
 -- the next of them
 pub bus-next : (buses : List Bus) (place : ℕ) (bus : Bus) → place < length buses → bus ≡ get_or buses place bus →
     drop place (map seen_bus buses) ≡ seen_bus bus ∷ drop (place + 1) (map seen_bus buses)

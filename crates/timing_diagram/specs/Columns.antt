@@ -1,5 +1,6 @@
 -- The ticks that are drawn, and their columns.
 use Rattle.std.specs.Prelude.{ℕ, Bool, ◌+◌, ◌-◌, ◌*◌, ◌/◌, ◌≤◌, ◌==◌, nat_lt, if◌then◌else◌, min, Result, Ok, Err}
+use Rattle.timing_text.specs.Ranges.{most_ticks}
 use Rattle.timing_diagram.specs.declared.fault.ColumnsFault.{ColumnsFault}
 use Rattle.timing_diagram.specs.declared.fault.ColumnsFault.TheVariants.{NoStep, Backwards, PastHorizon, TooManyColumns}
 
@@ -35,6 +36,7 @@ pub record IsDrawable (ticks : Ticks) : Type 0 where
   pub some : 1 ≤ ticks.step
   pub forward : ticks.from ≤ ticks.to
   pub few : column_count ticks ≤ most_columns
+  pub soon : ticks.to ≤ most_ticks
 
 -- the ticks from one to another by a step, if they can be drawn for a run up to this horizon
 abbrev pub columns_of : ℕ → ℕ → ℕ → Bool → ℕ → Result Ticks ColumnsFault

@@ -6,13 +6,14 @@ use Rattle.vcd_dump.specs.Dump.{Trace}
 use Rattle.timing_diagram.specs.declared.mark.Mark.{Mark}
 use Rattle.timing_diagram.specs.declared.mark.Mark.TheVariants.{Low, Fall, High, Rise, Unsure, Changing}
 use Rattle.timing_diagram.specs.declared.form.Form.{Form}
-use Rattle.timing_diagram.specs.declared.form.Form.TheVariants.{Text, Svg, WaveJson}
+use Rattle.timing_diagram.specs.declared.form.Form.TheVariants.{Text, Svg, WaveJson, Html}
 use Rattle.timing_diagram.specs.Bus.{BusTrace, begins, digit_count, digits, fits, lasting, shows_bits}
 use Rattle.timing_diagram.specs.Columns.{Ticks, column_count, shown_tick}
 use Rattle.timing_diagram.specs.Marks.{mark_at}
 use Rattle.timing_diagram.specs.Ruler.{label_column, label_count, label_tick}
 use Rattle.timing_diagram.specs.Picture.{name_width, svg_text}
 use Rattle.timing_diagram.specs.WaveJson.{wave_json_text}
+use Rattle.timing_diagram.specs.WavesPage.{page_text}
 
 -- the character of a mark
 abbrev pub mark_byte : Mark → ℕ
@@ -77,3 +78,4 @@ abbrev pub drawing : Form → Ticks → List Trace → List BusTrace → List �
 drawing Text ticks traces buses = drawn_text ticks traces buses
 drawing Svg ticks traces buses = svg_text ticks traces buses
 drawing WaveJson ticks traces buses = wave_json_text ticks traces buses
+drawing Html ticks traces buses = page_text ticks traces buses

@@ -8,5 +8,6 @@ pub mod Faults
 pub mod Marks
 pub mod Picture
 pub mod WaveJson
+pub mod WavesPage
 pub mod Drawing
 pub mod Read

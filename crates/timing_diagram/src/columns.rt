@@ -1,5 +1,6 @@
 ghost use Rattle.std.specs.Prelude.{◌≡◌, ◌<◌, ◌≤◌, ◌*◌, ◌+◌, ◌/◌, Result, Ok, Err, IfOk};
 ghost use Rattle.timing_diagram.specs.Columns.{most_columns};
+ghost use Rattle.timing_text.specs.Ranges.{most_ticks};
 
 use crate::fault::ColumnsFault;
 use std::marker::Model;
@@ -81,6 +82,23 @@ impl Columns {
         ensures few { result ≤ most_columns }
     {
         (self.to - self.from) / self.step + 1
+    }
+
+    /// Returns the first tick.
+    pub(crate) fn from_tick(self) -> u64
+        ensures from { result ≡ self.from }
+        ensures forward { result ≤ self.to }
+        ensures small { result ≤ most_ticks }
+    {
+        self.from
+    }
+
+    /// Returns the last tick.
+    pub(crate) fn to_tick(self) -> u64
+        ensures to { result ≡ self.to }
+        ensures small { result ≤ most_ticks }
+    {
+        self.to
     }
 
     /// Returns the first tick of a column.

@@ -11,6 +11,7 @@ use crate::form::Form;
 use crate::picture::push_svg;
 use crate::text::push_text;
 use crate::wave_json::push_wave_json;
+use crate::waves_page::push_page;
 use design::Design;
 use logic3::Waveform;
 use std::alloc::{AllocError, Global};
@@ -41,6 +42,7 @@ fn push_drawing(
             push_svg(text, design, shown, waves, buses, columns)
         }
         Form::WaveJson => push_wave_json(alloc, text, design, shown, waves, buses, columns),
+        Form::Html => push_page(alloc, text, design, shown, waves, buses, columns),
     }
 }
 

@@ -15,6 +15,8 @@ pub enum ColumnsFault {
     PastHorizon,
     /// There are more than 1,000 columns.
     TooManyColumns,
+    /// There are more than 2,000,000 values in a page.
+    TooManyChanges,
 }
 
 impl ColumnsFault {
@@ -27,6 +29,7 @@ impl ColumnsFault {
             ColumnsFault::Backwards => "Backwards",
             ColumnsFault::PastHorizon => "PastHorizon",
             ColumnsFault::TooManyColumns => "TooManyColumns",
+            ColumnsFault::TooManyChanges => "TooManyChanges",
         }
     }
 }

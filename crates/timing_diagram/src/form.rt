@@ -7,4 +7,7 @@ pub enum Form {
     Svg,
     /// As WaveJSON, which WaveDrom draws.
     WaveJson,
+    /// As a page for a browser. It has each change at its tick, so columns play no part: at a step that is larger than all
+    /// ticks there is one.
+    Html,
 }

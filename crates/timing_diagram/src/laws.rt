@@ -9,6 +9,7 @@ ghost use Rattle.timing_diagram.specs.Ruler.{label_column, label_count, label_ti
 ghost use Rattle.serde_json.specs.Data.{string};
 ghost use Rattle.timing_diagram.specs.Read.{drawn_value, column_value, wave_value};
 ghost use Rattle.timing_diagram.specs.WaveJson.{text_data};
+ghost use Rattle.timing_diagram.specs.WavesPage.{unopened};
 
 /// The character of a column shows the value that the signal has at every tick of the column, and no value if
 /// the signal changes within the column. If columns show their ends, it shows the value at the last tick.
@@ -33,6 +34,12 @@ pub fn waves_show_the_signal()
 pub fn names_are_escaped()
     ensures opens { (name : List ℕ) → list_any (λ byte. byte == 60) (escaped name) ≡ false }
     ensures closes { (name : List ℕ) → list_any (λ byte. byte == 62) (escaped name) ≡ false }
+{}
+
+/// The data of a page opens no tag: it has no `<`, whatever names the nets have. Any other byte of it is as JSON has it.
+pub fn pages_open_no_tag()
+    ensures opens { (text : List ℕ) → list_any (λ byte. byte == 60) (unopened text) ≡ false }
+    ensures others { (text : List ℕ) → list_any (λ byte. byte == 60) text ≡ false → unopened text ≡ text }
 {}
 
 /// If a multiple of ten steps is among the ticks that are drawn, each tick above the columns is one. Whether there is

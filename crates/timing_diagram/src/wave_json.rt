@@ -146,7 +146,7 @@ fn repeats(wave: &Waveform, columns: Columns, column: u64) -> bool
     column != 0 && shows_same(wave, columns, column - 1, column)
 }
 
-fn value_character(value: logic3::Value) -> u8
+pub(crate) fn value_character(value: logic3::Value) -> u8
     ensures { result ≡ value_character value }
 {
     match value {

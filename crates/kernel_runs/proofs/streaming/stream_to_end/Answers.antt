@@ -18,7 +18,7 @@ use Rattle.kernel_runs.proofs.Drains.{least_same}
 use Rattle.prepared_runs.proofs.CallerLemmas.{BreaksOff-memory}
 use Rattle.kernel_runs.specs.KnownTicks.{IsProgressAt}
 use Rattle.kernel_runs.proofs.Numbers.{SoFar, SoFar-more, SoFar-nothing, ended, stopped_before, stopped_here, stopped_next}
-use Rattle.kernel_runs.proofs.Streamed.{Streamed, same, ahead_of, at_end, still_more, led, suits_of, suits_still, streamed_begins, least_within, streamed_more, streamed_less, counts_are, known_to_end}
+use Rattle.kernel_runs.proofs.Streamed.{Streamed, all_written, same, ahead_of, at_end, still_more, led, suits_of, suits_still, streamed_begins, least_within, streamed_more, streamed_less, counts_are, known_to_end}
 use Rattle.kernel_runs.proofs.Streams.{text_before, text_begins, breaks_at_first, goes_on, breaks_in_span, breaks_here, ends, breaks_at_end}
 use Rattle.kernel_runs.proofs.streaming.stream_to_end.Goals as goal
 
@@ -67,8 +67,9 @@ loop-stream-init g c =
 pub go_on-requires-clause-suits : goal.go_on-requires-clause-suits
 go_on-requires-clause-suits g c =
     let inv = c.loop-stream.invariant in
-    suits_of c.loop-stream.pace c.args.run.now.design.circuit (c.args.run.now.horizon + 1) c.args.kernel.now c.write_known.new.kernel
-    (same inv.streamed c.in_ok-write_known.ensures.drains) c.requires.circuit c.requires.end inv.suits
+    suits_of c.write_to-to.new.self c.args.run.now.design.circuit (c.args.run.now.horizon + 1) c.args.kernel.now c.write_known.new.kernel
+    (same inv.streamed c.in_ok-write_known.ensures.drains) c.requires.circuit c.requires.end
+    (c.write_to-to.ensures.suits c.args.run.now.design.circuit (c.args.run.now.horizon + 1) inv.suits)
 
 pub go_on-requires-clause-known : goal.go_on-requires-clause-known
 go_on-requires-clause-known g c =
@@ -78,7 +79,7 @@ pub write_known-requires-clause-end : goal.write_known-requires-clause-end
 write_known-requires-clause-end g c =
     let end = ap (λ (k : KernelView). k.end) c.loop-stream.invariant.streamed.run ∙ c.requires.end in
     let horizon = ap (λ (s : StreamView). s.horizon) c.loop-stream.invariant.stream in
-    omega (arith, end, horizon, least_within c.loop-stream.kernel, c.least_frontier-known.ensures)
+    omega (arith, end, horizon, least_within c.loop-stream.kernel, c.least_frontier-known.ensures, c.write_to-to.ensures.within)
 
 pub returns-in_err-write_known-clause-err : goal.returns-in_err-write_known-clause-err
 returns-in_err-write_known-clause-err g c =
@@ -86,17 +87,18 @@ returns-in_err-write_known-clause-err g c =
     let circuit = ap (λ (k : KernelView). k.circuit) c.loop-stream.invariant.streamed.run ∙ c.requires.circuit in
     let end = ap (λ (k : KernelView). k.end) c.loop-stream.invariant.streamed.run ∙ c.requires.end in
     let from = c.loop-stream.stream.written in
-    let to = c.least_frontier-known.result in
+    let to = c.write_to-to.result in
     rw (p.1, p.2)
     (breaks_in_span c.args.unit c.args.run.now.horizon c.args.run.now.design.circuit c.args.nets.now (g.W.Write.contents c.args.out.now) (g.W.Write.contents c.loop-stream.out) from c.loop-stream.invariant.text (g.W.Write.contents c.write_known.new.out) to c.in_err-write_known.field-0.0
-    (ahead_of c.loop-stream.invariant.streamed.ahead c.least_frontier-known.ensures) (omega (arith, end, least_within c.loop-stream.kernel, c.least_frontier-known.ensures))
+    (omega (arith, c.written.ensures, c.write_to-to.ensures.ahead)) (omega (arith, end, least_within c.loop-stream.kernel, c.least_frontier-known.ensures, c.write_to-to.ensures.within))
     (subst (λ cs. BreaksOff (g.W.Write.contents c.loop-stream.out) (g.W.Write.contents c.write_known.new.out) (span_text from to (parts_of (values_of cs c.args.nets.now) from to)) c.in_err-write_known.field-0.0) circuit c.in_err-write_known.ensures.err))
 
 pub finish-requires : goal.finish-requires
 finish-requires g c = λ _.
     let inv = c.loop-stream.invariant in
     let circuit = ap (λ (k : KernelView). k.circuit) inv.streamed.run ∙ c.requires.circuit in
-    let all : c.least_frontier-known.result ≡ c.args.run.now.horizon + 1 = omega (arith, c.if-known-end.true, c.ticks-end.ensures.ticks) in
+    let known : c.least_frontier-known.result ≡ c.args.run.now.horizon + 1 = omega (arith, c.if-known-end.true, c.ticks-end.ensures.ticks) in
+    let all = all_written c.loop-stream.pace c.args.run.now.design.circuit c.write_to-to.ensures.end inv.suits known in
     let next = goes_at c.args.run.now.design.circuit c.loop-stream.kernel.circuit c.args.nets.now c.args.run.now.horizon c.loop-stream.stream
     c.write_known.new.stream _ circuit inv.stream c.in_ok-write_known.ensures.stream in
     ap (λ (s : StreamView). s.written) next ∙ all ∙ ap (λ n. n + 1) (sym (ap (λ (s : StreamView). s.horizon) next))
@@ -106,12 +108,13 @@ returns-in_err-finish-clause-err g c =
     let p = err_from_is_err_and c.from_residual-in_err-finish.result c.from_residual-in_err-finish.ensures.1 in
     let inv = c.loop-stream.invariant in
     let circuit = ap (λ (k : KernelView). k.circuit) inv.streamed.run ∙ c.requires.circuit in
-    let all : c.least_frontier-known.result ≡ c.args.run.now.horizon + 1 = omega (arith, c.if-known-end.true, c.ticks-end.ensures.ticks) in
+    let known : c.least_frontier-known.result ≡ c.args.run.now.horizon + 1 = omega (arith, c.if-known-end.true, c.ticks-end.ensures.ticks) in
+    let all = all_written c.loop-stream.pace c.args.run.now.design.circuit c.write_to-to.ensures.end inv.suits known in
     let next = goes_at c.args.run.now.design.circuit c.loop-stream.kernel.circuit c.args.nets.now c.args.run.now.horizon c.loop-stream.stream
     c.write_known.new.stream _ circuit inv.stream c.in_ok-write_known.ensures.stream in
     let from = c.loop-stream.stream.written in
-    let to = c.least_frontier-known.result in
-    let went = goes_on c.args.unit c.args.run.now.horizon c.args.run.now.design.circuit c.args.nets.now (g.W.Write.contents c.args.out.now) (g.W.Write.contents c.loop-stream.out) from inv.text (g.W.Write.contents c.write_known.new.out) to (ahead_of inv.streamed.ahead c.least_frontier-known.ensures)
+    let to = c.write_to-to.result in
+    let went = goes_on c.args.unit c.args.run.now.horizon c.args.run.now.design.circuit c.args.nets.now (g.W.Write.contents c.args.out.now) (g.W.Write.contents c.loop-stream.out) from inv.text (g.W.Write.contents c.write_known.new.out) to (omega (arith, c.written.ensures, c.write_to-to.ensures.ahead))
     (subst (λ cs. Appends (g.W.Write.contents c.loop-stream.out) (g.W.Write.contents c.write_known.new.out) (span_text from to (parts_of (values_of cs c.args.nets.now) from to))) circuit c.in_ok-write_known.ensures.ok) in
     let fresh : c.write_known.new.stream.failed ≡ false = ap (λ (s : StreamView). s.failed) next in
     let first : c.in_err-finish.field-0.0 ≢ Failed = λ same. let fact = c.in_err-finish.ensures.only (ap Err same) in (cc) in
@@ -122,7 +125,7 @@ returns-in_err-finish-clause-err g c =
 pub returns-then-known-end-clause-counts : goal.returns-then-known-end-clause-counts
 returns-then-known-end-clause-counts g c =
     let ok = subst IsCircuit (sym c.requires.circuit) (IsCircuit-from_IsDesign c.args.run.now.design c.requires.can.design) in
-    λ by. counts_are c.loop-stream.invariant.streamed c.in_ok-write_known.ensures.drains c.least_frontier-known.ensures c.in_ok-write_known.ensures.floors ok by c.requires.sound
+    λ by. counts_are c.loop-stream.invariant.streamed c.in_ok-write_known.ensures.drains c.least_frontier-known.ensures c.write_to-to.ensures.within c.in_ok-write_known.ensures.floors ok by c.requires.sound
     (at_end (ap (λ (k : KernelView). k.end) c.loop-stream.invariant.streamed.run ∙ c.requires.end) c.ticks-end.ensures.ticks c.if-known-end.true)
 
 pub returns-then-known-end-clause-complete : goal.returns-then-known-end-clause-complete
@@ -134,12 +137,13 @@ pub returns-then-known-end-clause-ok : goal.returns-then-known-end-clause-ok
 returns-then-known-end-clause-ok g c =
     let inv = c.loop-stream.invariant in
     let circuit = ap (λ (k : KernelView). k.circuit) inv.streamed.run ∙ c.requires.circuit in
-    let all : c.least_frontier-known.result ≡ c.args.run.now.horizon + 1 = omega (arith, c.if-known-end.true, c.ticks-end.ensures.ticks) in
+    let known : c.least_frontier-known.result ≡ c.args.run.now.horizon + 1 = omega (arith, c.if-known-end.true, c.ticks-end.ensures.ticks) in
+    let all = all_written c.loop-stream.pace c.args.run.now.design.circuit c.write_to-to.ensures.end inv.suits known in
     let next = goes_at c.args.run.now.design.circuit c.loop-stream.kernel.circuit c.args.nets.now c.args.run.now.horizon c.loop-stream.stream
     c.write_known.new.stream _ circuit inv.stream c.in_ok-write_known.ensures.stream in
     let from = c.loop-stream.stream.written in
-    let to = c.least_frontier-known.result in
-    let went = goes_on c.args.unit c.args.run.now.horizon c.args.run.now.design.circuit c.args.nets.now (g.W.Write.contents c.args.out.now) (g.W.Write.contents c.loop-stream.out) from inv.text (g.W.Write.contents c.write_known.new.out) to (ahead_of inv.streamed.ahead c.least_frontier-known.ensures)
+    let to = c.write_to-to.result in
+    let went = goes_on c.args.unit c.args.run.now.horizon c.args.run.now.design.circuit c.args.nets.now (g.W.Write.contents c.args.out.now) (g.W.Write.contents c.loop-stream.out) from inv.text (g.W.Write.contents c.write_known.new.out) to (omega (arith, c.written.ensures, c.write_to-to.ensures.ahead))
     (subst (λ cs. Appends (g.W.Write.contents c.loop-stream.out) (g.W.Write.contents c.write_known.new.out) (span_text from to (parts_of (values_of cs c.args.nets.now) from to))) circuit c.in_ok-write_known.ensures.ok) in
     ends c.args.unit c.args.run.now.horizon c.args.run.now.design.circuit c.args.nets.now (g.W.Write.contents c.args.out.now) (g.W.Write.contents c.write_known.new.out) to went (g.W.Write.contents c.finish.new.out) c.write_known.new.stream
     all next c.in_ok-finish.ensures.ok
@@ -149,7 +153,7 @@ loop-stream-smaller g c =
     let inv = c.loop-stream.invariant in
     let ok = subst IsCircuit (sym c.requires.circuit) (IsCircuit-from_IsDesign c.args.run.now.design c.requires.can.design) in
     let drains = c.in_ok-write_known.ensures.drains in
-    streamed_less inv.streamed drains c.least_frontier-known.ensures c.in_ok-write_known.ensures.floors ok c.go_on.new.kernel c.in_ok-go_on.ensures.goes
+    streamed_less inv.streamed drains c.least_frontier-known.ensures c.write_to-to.ensures.within c.in_ok-write_known.ensures.floors ok c.go_on.new.kernel c.in_ok-go_on.ensures.goes
     c.in_ok-go_on.ensures.sound c.in_ok-go_on.ensures.raises (still_more (ap (λ (k : KernelView). k.end) c.loop-stream.invariant.streamed.run ∙ c.requires.end) c.ticks-end.ensures.ticks c.if-known-end.false)
 
 pub loop-stream-preserved : goal.loop-stream-preserved
@@ -162,16 +166,16 @@ loop-stream-preserved g c =
     let next = goes_at c.args.run.now.design.circuit c.loop-stream.kernel.circuit c.args.nets.now c.args.run.now.horizon c.loop-stream.stream
     c.write_known.new.stream _ circuit inv.stream c.in_ok-write_known.ensures.stream in
     let from = c.loop-stream.stream.written in
-    let to = c.least_frontier-known.result in
+    let to = c.write_to-to.result in
     let written : c.write_known.new.stream.written ≡ to = ap (λ (s : StreamView). s.written) next in
-    let went = goes_on c.args.unit c.args.run.now.horizon c.args.run.now.design.circuit c.args.nets.now (g.W.Write.contents c.args.out.now) (g.W.Write.contents c.loop-stream.out) from inv.text (g.W.Write.contents c.write_known.new.out) to (ahead_of inv.streamed.ahead c.least_frontier-known.ensures)
+    let went = goes_on c.args.unit c.args.run.now.horizon c.args.run.now.design.circuit c.args.nets.now (g.W.Write.contents c.args.out.now) (g.W.Write.contents c.loop-stream.out) from inv.text (g.W.Write.contents c.write_known.new.out) to (omega (arith, c.written.ensures, c.write_to-to.ensures.ahead))
     (subst (λ cs. Appends (g.W.Write.contents c.loop-stream.out) (g.W.Write.contents c.write_known.new.out) (span_text from to (parts_of (values_of cs c.args.nets.now) from to))) circuit c.in_ok-write_known.ensures.ok) in
     record {
       streamed = subst (Streamed (c.args.pace.now ≡ Rounds) start c.go_on.new.kernel) (sym written)
-          (streamed_more inv.streamed drains c.least_frontier-known.ensures c.in_ok-write_known.ensures.floors ok c.go_on.new.kernel c.in_ok-go_on.ensures.goes
+          (streamed_more inv.streamed drains c.least_frontier-known.ensures c.write_to-to.ensures.within c.in_ok-write_known.ensures.floors ok c.go_on.new.kernel c.in_ok-go_on.ensures.goes
           c.in_ok-go_on.ensures.sound c.in_ok-go_on.ensures.raises (still_more (ap (λ (k : KernelView). k.end) c.loop-stream.invariant.streamed.run ∙ c.requires.end) c.ticks-end.ensures.ticks c.if-known-end.false)
-          (λ by. c.in_ok-go_on.ensures.rounds (inv.same by)) c.in_ok-go_on.ensures.floors);
-      same = λ by. c.go_on.ensures.same (inv.same by);
+          (λ by. c.in_ok-go_on.ensures.rounds (c.write_to-to.ensures.same (inv.same by))) c.in_ok-go_on.ensures.floors);
+      same = λ by. c.go_on.ensures.same (c.write_to-to.ensures.same (inv.same by));
       suits = suits_still c.go_on.new.self c.args.run.now.design.circuit (c.args.run.now.horizon + 1) c.args.kernel.now c.go_on.new.kernel
           (led inv.streamed drains c.go_on.new.kernel c.in_ok-go_on.ensures.goes) c.requires.circuit c.requires.end c.in_ok-go_on.ensures.suits;
       stream = next ∙ ap (stream_at (values_of c.args.run.now.design.circuit c.args.nets.now) c.args.run.now.horizon) (sym written);
@@ -184,9 +188,9 @@ loop-stream-preserved g c =
           let risen = c.in_ok-go_on.ensures.rises (omega (arith, more, same_end, same_least, least_within c.loop-stream.kernel, c.least_frontier-known.ensures)) in
           let sound = subst (λ (k : KernelView). IsSound k.circuit k.end c.write_known.new.kernel.state) (same inv.streamed drains) drains.sound in
           Reported-more (g.P.Progress.reports horizon) (g.met.P.Progress.joined horizon) (SoFar (c.args.pace.now ≡ Rounds) start c.loop-stream.kernel)
-          (SoFar (c.args.pace.now ≡ Rounds) start c.go_on.new.kernel) to c.args.progress.now c.loop-stream.progress c.report.new.self
+          (SoFar (c.args.pace.now ≡ Rounds) start c.go_on.new.kernel) c.least_frontier-known.result c.args.progress.now c.loop-stream.progress c.report.new.self
           (λ ticks so_far. SoFar-more c.args.pace.now horizon start c.loop-stream.kernel c.requires.end (ap (λ (k : KernelView). k.end) inv.streamed.run) ticks so_far
-          to c.least_frontier-known.ensures ok c.write_known.new.kernel c.go_on.new.kernel drains sound (λ by. c.in_ok-go_on.ensures.rounds (inv.same by))
+          c.least_frontier-known.result c.least_frontier-known.ensures ok c.write_known.new.kernel c.go_on.new.kernel drains sound (λ by. c.in_ok-go_on.ensures.rounds (c.write_to-to.ensures.same (inv.same by)))
           (omega (arith, risen, same_least, c.least_frontier-known.ensures)))
           inv.reported c.report.ensures;
     }
@@ -198,12 +202,12 @@ returns-in_err-go_on-clause-err g c =
     let circuit = ap (λ (k : KernelView). k.circuit) inv.streamed.run ∙ c.requires.circuit in
     let end = ap (λ (k : KernelView). k.end) inv.streamed.run ∙ c.requires.end in
     let from = c.loop-stream.stream.written in
-    let to = c.least_frontier-known.result in
-    let went = goes_on c.args.unit c.args.run.now.horizon c.args.run.now.design.circuit c.args.nets.now (g.W.Write.contents c.args.out.now) (g.W.Write.contents c.loop-stream.out) from inv.text (g.W.Write.contents c.write_known.new.out) to (ahead_of inv.streamed.ahead c.least_frontier-known.ensures)
+    let to = c.write_to-to.result in
+    let went = goes_on c.args.unit c.args.run.now.horizon c.args.run.now.design.circuit c.args.nets.now (g.W.Write.contents c.args.out.now) (g.W.Write.contents c.loop-stream.out) from inv.text (g.W.Write.contents c.write_known.new.out) to (omega (arith, c.written.ensures, c.write_to-to.ensures.ahead))
     (subst (λ cs. Appends (g.W.Write.contents c.loop-stream.out) (g.W.Write.contents c.write_known.new.out) (span_text from to (parts_of (values_of cs c.args.nets.now) from to))) circuit c.in_ok-write_known.ensures.ok) in
     rw (p.1, p.2)
     (breaks_here c.args.unit c.args.run.now.horizon c.args.run.now.design.circuit c.args.nets.now (g.W.Write.contents c.args.out.now) (g.W.Write.contents c.write_known.new.out) to went
-    (omega (arith, end, least_within c.loop-stream.kernel, c.least_frontier-known.ensures)))
+    (omega (arith, end, least_within c.loop-stream.kernel, c.least_frontier-known.ensures, c.write_to-to.ensures.within)))
 
 pub returns-in_err-hidden-clause-reported : goal.returns-in_err-hidden-clause-reported
 returns-in_err-hidden-clause-reported g c =

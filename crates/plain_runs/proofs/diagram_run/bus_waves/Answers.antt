@@ -1,4 +1,4 @@
-use Rattle.std.proofs.Common.{◌∙◌, ◌<◌, ℕ, All, ap, length, map, subst, sym}
+use Rattle.std.proofs.Common.{◌∙◌, ◌<◌, All, ap, length, map, subst, sym}
 use Rattle.logic3.specs.Wave.{value_at}
 use Rattle.prepared_runs.specs.declared.lanes.BusNets.{BusNets}
 use Rattle.prepared_runs.specs.Shown.{wave_at}

@@ -1,10 +1,7 @@
-use Rattle.std.proofs.Common.{ℕ, ◌+◌, List, Result, sym, subst, arith}
+use Rattle.std.proofs.Common.{◌+◌, sym, subst, arith}
 use Rattle.std.proofs.lemmas.Result.{err_from_is_err_and}
 use Rattle.prepared_runs.specs.Source.{design_of_source, seen_source}
-use Rattle.plain_runs.specs.declared.diagram_fault.DiagramFault.{DiagramFault}
-use Rattle.plain_runs.specs.declared.diagram_fault.DiagramFault.TheVariants.{Run}
-use Rattle.plain_runs.specs.Drawn.{DiagramEndsBy}
-use Rattle.plain_runs.proofs.Diagrams.{DiagramEndsBy-BreaksOff, DiagramEndsBy-IsRefusal, DiagramEndsBy-ticks, diagram_of_source-bad_ticks, diagram_of_source-bad, diagram_of_source-good, diagram_of_source-no_lanes}
+use Rattle.plain_runs.proofs.Diagrams.{DiagramEndsBy-IsRefusal, DiagramEndsBy-ticks, diagram_of_source-bad_ticks, diagram_of_source-bad, diagram_of_source-good, diagram_of_source-no_lanes}
 use Rattle.prepared_runs.specs.Reported.{CountsBelow, CountsTo, Reported}
 use Rattle.prepared_runs.proofs.CallerLemmas.{AreLanes-lanes_of, IsReady-design_of_source, tick_by_tick-nothing}
 use Rattle.plain_runs.proofs.diagram_run.diagram_with_progress.Goals as goal
@@ -52,9 +49,7 @@ pub returns-in_err-draw_lanes-clause-err : goal.returns-in_err-draw_lanes-clause
 returns-in_err-draw_lanes-clause-err g c =
     let p = err_from_is_err_and c.from_residual-in_err-draw_lanes.result c.from_residual-in_err-draw_lanes.ensures.1 in
     let good = diagram_of_source-good (seen_source c.args.source.now) c.args.view.now c.args.form _ (sym c.in_ok-columns.ensures.exact) _ _ c.in_ok-horizon.ensures.ok _ c.in_ok-lanes.ensures.ok in
-    rw (p.1, p.2)
-    (subst (λ (answer : Result (List ℕ) DiagramFault). DiagramEndsBy answer (g.W.Write.contents c.args.out.now) (g.W.Write.contents c.draw_lanes.new.out)
-    (Run c.in_err-draw_lanes.field-0.0)) (sym good) (DiagramEndsBy-BreaksOff _ _ _ _ c.in_err-draw_lanes.ensures.err))
+    rw (p.1, p.2) (rw good c.in_err-draw_lanes.ensures.err)
 
 pub returns-clause-ok : goal.returns-clause-ok
 returns-clause-ok g c =
