@@ -116,7 +116,8 @@ def install(*packages: str) -> None:
     if not missing or not shutil.which("apt-get") or os.geteuid() != 0:
         return
     quick = ["-qq", "-o", "Acquire::Retries=0", "-o", "Acquire::http::Timeout=10"]
-    for words in (["update"], ["install", "--yes", "--no-install-recommends", *missing]):
+    wanted = [["install", "--yes", "--no-install-recommends", package] for package in missing]
+    for words in (["update"], *wanted):
         try:
             subprocess.run(["apt-get", *quick, *words], stdin=subprocess.DEVNULL, stdout=subprocess.DEVNULL,
                            stderr=subprocess.DEVNULL, env={**os.environ, "DEBIAN_FRONTEND": "noninteractive"},
