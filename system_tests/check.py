@@ -5,8 +5,8 @@ The memory probes (crates/memory_probes) and each command of nullsim are run onc
 which is then refused. After that nullsim is run over faulty streams and files, over texts that are cut off or changed at
 random, and over texts and circuits of the greatest size. Then come the answers in `cases/`, the examples of `explain`,
 products of a multiplier, designs that were made of Verilog, the commands, pictures, prose and definitions of the pages,
-the man page, the completions, pages of waveforms in a browser, the script that builds and starts the program, and what it installs. The last line is
-'N passed, M failed', over all of these.
+the man page, the completions, pages of waveforms in a browser, the script that builds and starts the program, and what
+it installs. The last line is 'N passed, M failed', over all of these.
 
     check.py [--random COUNT] [--seed FIRST]    the number of circuits and decks changed at random, and the first seed
 """

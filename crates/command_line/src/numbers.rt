@@ -5,7 +5,7 @@ use clap::{ArgMatches, Error};
 use std::alloc::{AllocError, Global};
 
 /// The options that take a number.
-static NUMBERS: [&str; 14] = [
+static NUMBERS: [&str; 15] = [
     "delay",
     "period",
     "first-delay",
@@ -16,6 +16,7 @@ static NUMBERS: [&str; 14] = [
     "from",
     "to",
     "step",
+    "width",
     "at",
     "every",
     "seed",

@@ -18,8 +18,8 @@ use std::alloc::{AllocError, Global};
 use wave_diff::Side;
 
 /// Returns the name at fault, if an argument gave it: the first name that no net of the circuit has, or word of a
-/// list that means no net (for `diff`, of either circuit), if the circuit's text is accepted; or the name of the input whose drive is
-/// refused.
+/// list that means no net (for `diff`, of either circuit), if the circuit's text is accepted; or the name of the
+/// input whose drive is refused.
 ///
 /// # Errors
 /// An allocation failed.
